@@ -582,6 +582,11 @@ class Prices(CellTest):
         self.assertEqual(len(said), 1)
         self.assertIn("several currencies", said[0])
 
+    def test_the_number_of_a_cell_is_no_month(self) -> None:
+        for kind in KINDS:
+            found = self.ran(kind(Sheet([HEAD, [PENCIL, "Tea", 12.2026]])), *PRICED)[0]
+            self.assertEqual(found, ["12.2026"])
+
     def test_the_general_sign_is_no_currency(self) -> None:
         found, said = self.priced(["2.50 ¤"])
         self.assertEqual((found, len(said)), ([], 1))

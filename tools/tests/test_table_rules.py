@@ -153,6 +153,15 @@ class Prices(RulesTest):
         self.assertEqual(self.price("0,80\t€"), "0,80 €")
         self.assertEqual(self.price('="1,20"'), "1,20")
 
+    def test_a_text_that_may_be_a_month_is_no_price(self) -> None:
+        """Excel makes 12.2026 of a date; a program's number may be the same."""
+        for text in ("12.2026", "1.1999"):
+            self.assertEqual(self.price(text), "may be a month; give --price-as if it is none")
+            self.assertEqual(self.price(text, "--price-text"), text)
+            self.assertEqual(self.price(text, "--price-as", "0.00"), f"{float(text):.2f}")
+        for text in ("13.2026", "12.2126", "12.20265", "12.2026 €"):
+            self.assertEqual(self.price(text), text)
+
     def test_what_a_column_says_once(self) -> None:
         program = "row 2 has {}, as programs write prices{}: give --price-as {} for two decimals"
         cases = {

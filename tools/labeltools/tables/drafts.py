@@ -34,6 +34,7 @@ HALF = Decimal("0.5")
 KIND_OF_CODES = re.compile(
     r"(?:EAN|GTIN|UPC|ISBN|JAN)(?:[- ]?(?:[0-9]{1,2}|code|A|E))?", re.IGNORECASE
 )
+MONTH = re.compile(r"(?:[1-9]|1[0-2])\.(?:19|20)[0-9]{2}")  # 12.2026, of which Excel makes a date
 HAS_DIGIT = re.compile("[0-9]")
 SHOWN_DECIMALS = 6  # of the number of a cell, in a message
 PROGRAM_DECIMALS = 17  # of a number that a program has calculated
@@ -243,15 +244,18 @@ class DraftReader:
         if not text:
             return None
         cell = row.cells[column.place]
+        number = None if isinstance(cell, str) else cell.number()
+        rules = self.options.prices
         try:
+            if number is None and MONTH.fullmatch(text) and not (rules.is_text or rules.pattern):
+                raise NotMoney(Text("may be a month"), Text("give --price-as if it is none"))
             is_unit = column is self.columns.unit_price
-            money = self.money(text, is_unit, currency or self.options.prices.currency_name)
+            money = self.money(text, is_unit, currency or rules.currency_name)
         except NotMoney as problem:
             what = Text("has {}, which is not a price: it {}", quoted(text), problem.what)
             is_zero = not isinstance(cell, str) and cell.value and not cell.value.strip("0.")
             hint = ZERO_HINT if is_zero else problem.hint
             raise column.error(RowError(what, hint)) from None
-        number = None if isinstance(cell, str) else cell.number()
         if money is None or number is None:
             return Price(column, text, money, currency)
         found = Price(column, text, nearest(money, number), currency)
