@@ -169,12 +169,18 @@ class Doubts(Desk):
         self.said(printed("--journal", self.path, "--only", "3-"), 0, "28 labels in .* already\n$")
 
     def test_a_line_that_was_cut_within_its_code(self) -> None:
-        """A label that there never was: what the message says ends it, on paper or not."""
+        """A label that there never was. Where the input has the whole code, nothing is said; else
+        what the message says ends it, on paper or not.
+        """
         kept = Path(self.waiting("tcp://a")).read_bytes().removesuffix(b"1\n")
+        Path(self.path).write_bytes(kept)
+        done = printed("--journal", self.path)
+        self.assertEqual((done.returncode, len(labels_in(done))), (0, 30), done.stderr)
+        self.assertNotIn(b"may be on paper", done.stderr)
         for change in ((b"sending", b"taken"), (kept.splitlines(keepends=True)[1] + b"\n", b"")):
             Path(self.path).write_bytes(kept)
             for _ in range(2):
-                done = printed("--journal", self.path)
+                done = printed("--journal", self.path, input=b"qr T1\n" + TICKETS)
                 self.said(done, 1, "qr T0000: may be on paper, .* taken in .* delete that line")
             text = Path(self.path).read_bytes()
             self.assertIn(change[0], text)

@@ -289,7 +289,7 @@ def direct_way(job: Job) -> Outlet:
 def sender_of(job: Job, outlet: Outlet, records: Sequence[LineRecord]) -> Sender:
     """Returns what sends the labels of some lines, after a look at the journal."""
     options = job.options
-    journal = Journal(options.journal, outlet.name) if options.journal else None
+    journal = Journal(options.journal, outlet.name, records) if options.journal else None
     if journal is not None:
         check_journal(options, journal)
     return Sender(outlet, journal, options.again, records)

@@ -12,7 +12,7 @@ reads and writes. A lane that gives a label up leaves its number with it.
 
 A last line that was cut off is taken out: the label of `sending` was not sent, that of `taken` is
 in doubt. Only a line of `sending` that has all its fields stays: an editor may have left out its
-end, and its label is in doubt.
+end, and its label is in doubt; but where the input has a longer code in that place, it is cut.
 """
 
 import errno
@@ -23,7 +23,7 @@ import stat
 import time
 from contextlib import contextmanager, suppress
 from pathlib import Path
-from typing import Iterator, Mapping, NamedTuple
+from typing import Iterator, Mapping, NamedTuple, Sequence
 
 from labeltools.common.messages import ToolError
 from labeltools.common.report import few
@@ -59,9 +59,12 @@ class Entry(NamedTuple):
 class Journal:
     """An open journal, whose lines are those of a printer."""
 
-    def __init__(self, path: str, printer: str) -> None:
-        """Opens a journal, or makes it; raises `ToolError` where it is none, and `OSError`."""
+    def __init__(self, path: str, printer: str, records: Sequence[LineRecord] = ()) -> None:
+        """Opens a journal, or makes it; `records` are the lines of the input. Raises `ToolError`
+        where it is none, and `OSError`.
+        """
         self.path = path
+        self.records = records
         self.printer = printer.replace("\t", " ")
         flags = os.O_RDWR | os.O_CREAT | os.O_CLOEXEC | os.O_NONBLOCK  # it waits for no FIFO
         self.file = os.open(path, flags, 0o644)
@@ -216,12 +219,17 @@ class Journal:
         mark of one that waits for it in a line before, since its code may be cut.
         """
         found = entry_in(line)
-        if found is None or found[1].event == TAKEN:
+        if found is None or found[1].event == TAKEN or self.is_cut(*found):
             os.ftruncate(self.file, self.end)
             return
         os.pwrite(self.file, b"\n", self.end + len(line))  # which takes nothing out where it fails
         self.end += len(line) + 1
         self.learn(line)
+
+    def is_cut(self, code: bytes, entry: Entry) -> bool:
+        """Returns whether a code is only the start of the one that the input has in its place."""
+        here = (one.code for one in self.records if str(one.origin) == entry.place)
+        return any(one != code and one.startswith(code) for one in here)
 
     def advice(self) -> Text:
         """Returns what to do where another program has taken its place: what the new file has not
