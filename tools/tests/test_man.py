@@ -12,7 +12,7 @@ from labeltools.layout import frame
 from labeltools.lines import file
 from labeltools.paper import area
 from labeltools.printing import job
-from labeltools.sending import network, stream
+from labeltools.sending import network, outlets, stream
 from labeltools.sheets import csv_table, workbook
 
 PAGES = sorted((support.TOP / "man").glob("label*.1"))
@@ -30,7 +30,7 @@ NUMBERS = (
     (r"sheets are drawn at (\d+) dpi", job.DRAWING_DPI),
     (r"on a port \((\d+)\)", network.PORT),
     (r"no connection is made in (\d+) seconds", network.CONNECT),
-    (r"takes nothing for (a minute)", {60.0: "a minute"}.get(network.STUCK)),
+    (r"takes nothing for (a minute)", {60.0: "a minute"}.get(outlets.STUCK)),
     (r"waits (\d+) seconds for that", network.FAREWELL),
     (r"(a twentieth) of a second", {0.05: "a twentieth"}.get(network.REGRET)),
     (r"within (\d+) seconds if the FIFO", stream.LOOK),

@@ -1,10 +1,14 @@
 """label-print and CUPS: the line to type, --print, and the edges of a page."""
 
+import fcntl
 import os
 import re
+import signal
 import subprocess
 import tempfile
+import time
 import unittest
+from desk import unread
 from pathlib import Path
 from typing import Any, Callable, Iterator, Sequence
 from unittest import mock
@@ -276,6 +280,58 @@ class Devices(unittest.TestCase):
                 done = support.printed(*words, "--journal", f"{folder}/journal", input=LINES)
                 self.assertIn(f"label-print: {taken} labels taken by", support.messages(done)[-1])
             self.assertEqual(device.read_bytes(), plain * 2)
+
+    def begun(self, device: Path) -> "subprocess.Popen[bytes]":
+        """Starts to print on a device; it ends with the test."""
+        words = [str(support.TOOLS / "label-print"), *self.WORDS, "--print", str(device)]
+        pipes: dict[str, Any] = {"stdin": subprocess.PIPE, "stderr": subprocess.PIPE}
+        run = subprocess.Popen(words, env=support.environment(), **pipes)
+        self.addCleanup(run.communicate)
+        self.addCleanup(run.kill)
+        assert run.stdin
+        run.stdin.write(LINES)
+        run.stdin.close()
+        run.stdin = None
+        return run
+
+    def test_a_pipe_that_nobody_reads(self) -> None:
+        with tempfile.TemporaryDirectory() as folder:
+            device = Path(folder, "lp0")
+            os.mkfifo(device)
+            done = support.printed(*self.WORDS, "--print", str(device), input=LINES)
+            self.assertEqual(done.returncode, 1)
+            self.assertIn("lp0: no program reads it", done.stderr.decode())
+
+    def test_a_printer_that_takes_nothing_is_waited_for(self) -> None:
+        """For a minute, of which it is told; once somebody stops the work only for moments. The
+        label that is on its way is in doubt.
+        """
+        with tempfile.TemporaryDirectory() as folder:
+            device = Path(folder, "lp0")
+            os.mkfifo(device)
+            reader = os.open(device, os.O_RDONLY | os.O_NONBLOCK)
+            self.addCleanup(os.close, reader)
+            fcntl.fcntl(reader, fcntl.F_SETPIPE_SZ, 4096)
+            with mock.patch("labeltools.sending.outlets.QUIET", 0.1), mock.patch(
+                "labeltools.sending.outlets.Device.__init__.__defaults__", (0.5,)
+            ):
+                done = support.printed(*self.WORDS, "--print", str(device), input=LINES)
+            said = done.stderr.decode()
+            self.assertIn("lp0: the printer takes nothing: it is waited for; is it switched", said)
+            self.assertIn(
+                "has taken nothing for 0 seconds: it took 0 labels whole; row 2 may", said
+            )
+            self.assertEqual(done.returncode, 1)
+            os.read(reader, 65536)
+            run = self.begun(device)
+            while not unread(reader):
+                self.assertIsNone(run.poll())  # it is still to begin with a label
+                time.sleep(0.01)
+            run.terminate()
+            _, error = run.communicate(timeout=support.SECONDS)
+            self.assertIn("lp0: stopped while the printer took nothing", error.decode())
+            self.assertIn("row 2 may be on paper", error.decode())
+            self.assertEqual(run.returncode, -signal.SIGTERM)
 
     def test_what_is_not_there_or_full(self) -> None:
         with tempfile.TemporaryDirectory() as folder:

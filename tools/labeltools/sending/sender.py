@@ -61,6 +61,8 @@ class Sender:
         """
         press = found.press(talk)
         prints = found.prints
+        self.outlet.came = came
+        self.outlet.say = talk.say
         self.done = found.job.options.after
         for part in press.parts(prints):
             try:

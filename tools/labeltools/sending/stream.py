@@ -288,7 +288,8 @@ def answer_lines(job: Job, sender: Sender) -> int:
     for parts in jobs(source):
         if not has_reader(sys.stderr.fileno()):
             return 1
-        with hold_signals():
+        with hold_signals() as came:
+            sender.outlet.came = came
             word, text = stream.answer(parts)
             status = status if word == "taken" else 1
             said = visible(translated(text))
