@@ -93,6 +93,12 @@ KINDS = {
     + default("600dpi")
     + option("PrintoutMode", Normal=""),
     "silent": option("Quality", Normal=""),
+    # one that takes paper of any size, but prints nothing on its edge of 4.2 mm, on both sides
+    "edged": "VariablePaperSize Yes\nMinSize 72 72\nMaxSize 612 1008\nDuplex normal\n"
+    + option("Resolution", _300dpi="300 300"),
+    # a filter that fails
+    "broken": "Filter application/vnd.cups-raster 50 /bin/false\n"
+    + option("Resolution", _300dpi="300 300"),
     # a printer that takes PDF
     "pdf": "Filter application/pdf 0 gziptoany\n" + default("600dpi") + option("Tray", Auto=""),
 }
@@ -154,6 +160,15 @@ class Scheduler:
         subprocess.run(ppdc, check=True, capture_output=True)
         words += ["-P", f"{self.folder}/{driver}.ppd"]
         subprocess.run(words, check=True, capture_output=True)
+
+    def change(self, name: str, *options: str) -> None:
+        """Changes options of a queue, such as number-up-default=4."""
+        words = [word for option in options for word in ("-o", option)]
+        subprocess.run(["lpadmin", "-p", name, *words], check=True, capture_output=True)
+
+    def remove(self, name: str) -> None:
+        """Removes a queue, and its jobs."""
+        subprocess.run(["lpadmin", "-x", name], check=True, capture_output=True)
 
     def add_driverless(self, name: str) -> None:
         """Adds a queue without a driver's file for a printer that takes PWG raster."""

@@ -29,7 +29,7 @@ from labeltools.paper.stock import forget, list_stock
 from labeltools.printing.job import DRAWING_DPI, form_of, Job, planned, PrintOptions, refuse
 from labeltools.printing.press import check_count, labels_of, Prepared
 from labeltools.printing.selection import ranges_in, selection_of
-from labeltools.sending.cups import lp_line, Queue, queue_of
+from labeltools.sending.cups import lp_line, Queue, queue_of, SentJob
 from labeltools.sending.journal import Journal
 from labeltools.sending.network import address_of
 from labeltools.sending.outlets import Files, Outlet, OUTPUT, StandardOutput
@@ -253,9 +253,21 @@ def print_lines(job: Job, queue: Queue | None, talk: CommandTalk) -> int:
         write_message(TOOL, Text("--after {}: the first label is {}", after, place))
     if queue is None:
         return give_out(found, talk)
-    sent, text = print_on(found, queue, talk)
-    write_message(TOOL, joined("; ", filter(None, (text, sent.state().trouble))))
-    return 1 if found.left_out else 0
+    is_printed = follow(*print_on(found, queue, talk), talk)
+    return 1 if found.left_out or not is_printed else 0
+
+
+def follow(sent: SentJob, text: Text, talk: CommandTalk) -> bool:
+    """Reports what became of a job of CUPS, and returns whether it was printed. A signal ends only
+    the watching: the job goes on.
+    """
+    with hold_signals() as came:
+        state = sent.follow(talk.wait, came)
+        told = state.told
+        if came and not state.is_over:
+            told = Text("it goes on: cancel {} ends it", sent.number)
+        write_message(TOOL, joined("; ", (text, told)))
+    return state.is_printed
 
 
 def stock_lines(wanted: str) -> str:

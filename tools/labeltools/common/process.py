@@ -16,11 +16,13 @@ from labeltools.common.messages import (
     Origin,
     sentence,
     ToolError,
+    visible,
     write_message,
 )
-from labeltools.common.text import NOTHING, Text
+from labeltools.common.text import NOTHING, Text, translated
 
 STANDARD_ERROR = 2
+SHOWN = 60  # letters of what is waited for
 QUIET, BETWEEN = 1.0, 0.3  # seconds before progress is shown, and until it is shown again
 DRAWING = ("python3-gi-cairo", "gir1.2-pango-1.0")  # the packages that draw labels
 ENDING = (signal.SIGHUP, signal.SIGINT, signal.SIGTERM)
@@ -50,6 +52,12 @@ class CommandTalk:
             self.next_time = time.monotonic() + BETWEEN
             count = f"{done} of {total} labels" if total else f"{done} rows"
             print(f"{self.tool}: {count}", end="\r", file=sys.stderr, flush=True)
+
+    def wait(self, what: Text) -> None:
+        """Shows on a terminal what is waited for, until another message takes its place."""
+        if sys.stderr.isatty():
+            shown = visible(translated(what)).ljust(SHOWN)[:SHOWN]
+            print(f"{self.tool}: {shown}", end="\r", file=sys.stderr, flush=True)
 
 
 def read_input(path: str | None) -> tuple[str, bytes]:

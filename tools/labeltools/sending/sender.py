@@ -28,6 +28,7 @@ from labeltools.sending.outlets import (
     OUTPUT,
     Untaken,
 )
+from labeltools.sending.papers import check_edges
 
 
 class Sender:
@@ -278,6 +279,8 @@ def print_on(
     """Prints labels on a queue of CUPS, with options that are chosen for it; returns the job, and
     what is reported of it.
     """
+    if not found.job.form.is_roll:
+        check_edges(queue.name, queue.paper(found.job), found)
     outlet = Collected(queue.name, partial(print_by, found.job, queue, chosen=chosen))
     sender = Sender(outlet)
     sender.send_all(found, talk)
