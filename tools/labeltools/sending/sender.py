@@ -31,6 +31,16 @@ from labeltools.sending.outlets import (
 from labeltools.sending.papers import check_edges
 
 
+class Unfinished(ToolError):
+    """Why labels were not all sent, one by one to a printer: `done` of them are on paper, or may
+    be; the next one is in doubt if `is_doubtful`.
+    """
+
+    printer = ""
+    done = 0
+    is_doubtful = False
+
+
 class Sender:
     """Sends labels by an outlet; `again` is a printer whose labels of earlier runs are sent once
     more.
@@ -170,7 +180,10 @@ class Sender:
         else:
             look = Text("{} may be on paper: look there", place)
             hints = [error.hint or self.may_be_missing(), look, self.way_on()]
-        return ToolError(what, joined("; ", filter(None, hints)), error.status)
+        told = Unfinished(what, joined("; ", filter(None, hints)), error.status)
+        told.printer, told.done = self.outlet.name, self.done
+        told.is_doubtful = isinstance(error, Broken)
+        return told
 
     def way_on(self) -> Text:
         """Returns how the rest is printed: the same command would print again what `again` has

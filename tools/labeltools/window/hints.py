@@ -31,8 +31,10 @@ INSTEAD: Mapping[str, Text] = {
         "choose below what reads well"
     ),
     "leave out --dpi, or give one of these": Text("choose one of these"),
-    "with --after {} the same command begins with it": Text(
-        "print again with --after {} to go on there"
+    "give --decimal comma or point": Text("answer the question above"),
+    "with --after {} the same command begins with it": Text("the button goes on there"),
+    "{} may be missing: look at the last one on paper, and print what follows it with --after N": (
+        Text("{} may be missing: look at the last one on paper")
     ),
 }
 

@@ -20,6 +20,7 @@ from labeltools.common.text import NOTHING, Text
 from labeltools.lines.file import first_remark, label_lines, last_remark, LineRecord, read_lines
 from labeltools.printing.job import planned
 from labeltools.printing.press import labels_of, Prepared
+from labeltools.sending.cups import SentJob
 from labeltools.sending.sender import labels_text
 from labeltools.tables.guess import guess_of
 from labeltools.tables.money import NotMoney, parse
@@ -36,6 +37,7 @@ OF_KINDS = {
     "copies": Text("the number of labels"),
 }
 PAPER = ("sheet", "roll", "stock", "width", "height", "design", "to", "dpi", "address")
+WAITING = ".waiting"  # what a file of lines ends with whose job is not over
 PATTERNS = ("0,00 €", "€0.00", "£0.00", "$0.00", "CHF 0.00", "0,00 kr", "0,00 zł")  # of prices
 Choices = Mapping[str, Any]  # by the names of the options
 
@@ -121,6 +123,7 @@ class Table:
                 self.read(kept, header, talk)
         last: Choices = next(reversed(TABLES.all().values()), {})
         self.paper = {name: value for name, value in last.items() if name in PAPER}
+        self.settle()
 
     def read(self, text: str, header: int | None, talk: WindowTalk) -> None:
         """Guesses the columns of the table as words read it, and finds what is kept for these."""
@@ -173,20 +176,61 @@ class Table:
         return ""
 
     def keep_printed(self, made: MadeLabels) -> None:
-        """Keeps the lines of the labels that went out, for the next `--new-since`, and those that
-        went out before, but for the same codes.
+        """Keeps the lines of the labels that went out, for the next `--new-since`."""
+        self.keep_records(self.records_of(made))
+
+    def records_of(self, made: MadeLabels) -> tuple[LineRecord, ...]:
+        """Returns the lines of the labels that were made."""
+        rows = {item.label.record.label.row for item in made.labels.labels}
+        records = read_lines(made.lines.output, self.path.name).records
+        return tuple(record for record in records if record.label.row in rows)
+
+    def keep_records(self, new: Sequence[LineRecord]) -> None:
+        """Keeps lines of labels that went out, and those that went out before, but for the same
+        codes.
         """
         if not self.key:
             return
-        rows = {item.label.record.label.row for item in made.labels.labels}
-        records = read_lines(made.lines.output, self.path.name).records
-        new = tuple(record for record in records if record.label.row in rows)
         codes = {(record.symbology, record.data) for record in new}
         before = self.printed_records()
         old = (record for record in before if (record.symbology, record.data) not in codes)
         with suppress(OSError):
             self.printed.parent.mkdir(parents=True, exist_ok=True)
             self.printed.write_bytes(file_of([*old, *new]))
+
+    def keep_waiting(self, made: MadeLabels, job: SentJob) -> Path:
+        """Keeps the lines of the labels of a job until it is known whether they were printed, for a
+        later window too; returns their file.
+        """
+        path = self.printed.with_suffix(f".{job.number}.{job.queue}{WAITING}")
+        with suppress(OSError):
+            path.parent.mkdir(parents=True, exist_ok=True)
+            path.write_bytes(file_of(self.records_of(made)) if self.key else b"")
+        return path
+
+    def end_waiting(self, path: Path, is_printed: bool) -> None:
+        """Counts the labels of a job that waited as printed, or forgets them."""
+        with suppress(OSError, ToolError):
+            data = path.read_bytes()
+            if is_printed and data:
+                self.keep_records(read_lines(data, path.name).records)
+        path.unlink(missing_ok=True)
+
+    def waiting(self) -> dict[SentJob, Path]:
+        """Returns the jobs of which it is not known yet whether they were printed."""
+        found = {}
+        for path in sorted(memory.FOLDER.glob(f"{self.printed.stem}.*{WAITING}")):
+            _, number, queue = path.name.removesuffix(WAITING).split(".", 2)
+            found[SentJob(queue, int(number))] = path
+        return found
+
+    def settle(self) -> None:
+        """Asks CUPS what became of jobs that waited when a window was closed."""
+        for job, path in self.waiting().items() if self.key else ():
+            with suppress(ToolError):  # CUPS has forgotten it, or is not there: it is asked for
+                state = job.state()
+                if state.is_over:
+                    self.end_waiting(path, state.is_printed)
 
     def printed_records(self) -> tuple[LineRecord, ...]:
         """Returns the lines that went out before; none where they cannot be read."""

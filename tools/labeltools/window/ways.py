@@ -5,6 +5,7 @@ label is compared before, as label-print does.
 from collections.abc import Callable
 from concurrent.futures import Future
 from contextlib import suppress
+from dataclasses import replace
 from functools import partial
 from pathlib import Path
 from typing import Any
@@ -27,9 +28,11 @@ from labeltools.sending.network import address_of, SCHEME
 from labeltools.sending.sender import labels_text, print_on, save_to, send_to
 from labeltools.window.dialog import ask_printer, Chosen
 from labeltools.window.gtk import Gdk, GLib, Gtk
+from labeltools.window.memory import PRINTERS
 from labeltools.window.shop import MadeLabels, Table, WindowTalk
 
 USB = Path("/dev/usb")  # has the printers on USB
+QUEUE = "queue"  # the name by which the last one is kept
 MANY = 1000  # labels above it are asked for before they are printed
 WATCH = 2000  # milliseconds between two looks at a job of CUPS
 Sent = tuple[SentJob | None, Text]  # a job of CUPS, and what is reported of the labels
@@ -42,37 +45,81 @@ class WaysOut:
         self.window = window
         self.reports: dict[SentJob | None, str] = {}  # of the last job, and of those before it
         self.over: list[SentJob | None] = []  # jobs whose reports go when the next one is sent
+        self.wrong: set[SentJob | None] = set()  # jobs that are not printed as it is now
+        self.waiting: dict[SentJob, tuple[Table, Path]] = {}  # jobs whose labels may be printed
 
-    def send(self, way: Callable[[Prepared, WindowTalk], Sent], is_all: bool = True) -> None:
-        """Sends labels by a way, all or those of chosen pages, and keeps what is chosen for the
-        next table like this.
+    def send(
+        self,
+        way: Callable[[Prepared, WindowTalk], Sent],
+        is_all: bool = True,
+        labels: Prepared | None = None,
+    ) -> None:
+        """Sends labels by a way, all or those of chosen pages or the rest of them, and keeps what
+        is chosen for the next table like this.
         """
         table, made = self.window.table, self.window.made
         table.keep(self.window.choices())
         then = partial(self.on_sent, table, made, is_all)
-        self.window.work.start(partial(way, made.labels), then, is_sending=True)
+        self.window.work.start(partial(way, labels or made.labels), then, is_sending=True)
 
     def on_sent(self, table: Table, made: MadeLabels, is_all: bool, sent: Sent) -> None:
         """Says which labels went out, and from then on what becomes of a job of CUPS. Keeps them,
-        unless pages were chosen: these may be a trial.
+        those of a job once it is printed; but not if pages were chosen: these may be a trial.
         """
         job, text = sent
-        if is_all:
+        if not is_all:
+            text = Text("{}; pages were chosen, so these labels do not count as printed", text)
+        elif job is None:
             table.keep_printed(made)
         else:
-            text = Text("{}; pages were chosen, so these labels do not count as printed", text)
+            self.waiting[job] = table, table.keep_waiting(made, job)
         while self.over:
-            self.reports.pop(self.over.pop(), None)
+            old = self.over.pop()
+            self.reports.pop(old, None)
+            self.wrong.discard(old)
         self.report(job, translated(text))
         if job is None:
             self.over.append(job)
         else:
+            PRINTERS.keep(QUEUE, job.queue)
             self.watch(job, translated(text), "")
 
-    def report(self, job: SentJob | None, text: str) -> None:
+    def look_back(self, table: Table) -> None:
+        """Says which jobs of a table are not over since a window was closed, and looks at them; of
+        one that CUPS has forgotten the keeper is asked whether it was printed.
+        """
+        for job, path in table.waiting().items():
+            if job in self.waiting:
+                continue
+            self.waiting[job] = table, path
+            sent = translated(Text("job {} of {}, which was sent before", job.number, job.queue))
+            future = self.window.work.thread.submit(job.state)
+            future.add_done_callback(partial(GLib.idle_add, self.look_again, job, sent))
+
+    def look_again(self, job: SentJob, sent: str, future: "Future[JobState]") -> None:
+        """Looks at a job that was sent before, or asks the keeper what became of it."""
+        if future.exception() is None:
+            self.report(job, sent)
+            self.show_state(job, sent, "", future)
+        elif self.window.get_visible():
+            what = Text("{}: CUPS does not know whether it was printed", sent)
+            answers = [
+                (_("It is on paper"), lambda: self.end(job, True)),
+                (_("It is not"), lambda: self.end(job, False)),
+            ]
+            self.window.show_problem(ToolError(what), answers)
+
+    def end(self, job: SentJob, is_printed: bool) -> None:
+        """Counts the labels of a job as printed, or forgets them."""
+        if job in self.waiting:
+            table, path = self.waiting.pop(job)
+            table.end_waiting(path, is_printed)
+
+    def report(self, job: SentJob | None, text: str, is_wrong: bool = False) -> None:
         """Keeps the report of a job, and shows all that are kept, that of the newest job first."""
         self.reports[job] = text
-        self.window.tell("\n".join([*self.reports.values()][::-1]))
+        (self.wrong.add if is_wrong else self.wrong.discard)(job)
+        self.window.tell("\n".join([*self.reports.values()][::-1]), bool(self.wrong))
 
     def watch(self, job: SentJob, sent: str, before: str) -> None:
         """Looks at a job, and shows what CUPS reports of it if that is other than before."""
@@ -84,11 +131,14 @@ class WaysOut:
         if future.exception() is not None or not self.window.get_visible():
             return
         state = future.result()
-        text = translated(state.trouble) or state.said
+        is_known = state.is_over or state.is_waiting
+        text = translated(state.told if is_known else state.trouble) or state.said
         if text != before:
-            self.report(job, "\n".join(filter(None, (sent, text))))
+            is_wrong = bool(is_known and not state.is_printed or state.trouble)
+            self.report(job, "\n".join(filter(None, (sent, text))), is_wrong)
         if state.is_over:
             self.over.append(job)
+            self.end(job, state.is_printed)
         else:
             GLib.timeout_add(WATCH, self.watch, job, sent, text)
 
@@ -123,7 +173,8 @@ class WaysOut:
 
     def ask_queue(self, _names: Any) -> None:
         """Asks for a queue, and its options, by the dialog of the desktop."""
-        ask_printer(self.window, self.window.made.labels.job.plan.sheet.page, self.find_queue)
+        page = self.window.made.labels.job.plan.sheet.page
+        ask_printer(self.window, page, PRINTERS.all().get(QUEUE, ""), self.find_queue)
 
     def find_queue(self, name: str, chosen: Chosen = NOTHING_CHOSEN) -> None:
         """Prints on a queue, once it is known what it prints with the options that are chosen."""
@@ -155,15 +206,26 @@ class WaysOut:
         south = Gdk.Gravity.SOUTH_WEST
         menu.popup_at_widget(self.window.print_button, south, Gdk.Gravity.NORTH_WEST, None)
 
-    def send_to(self, printer: str) -> None:
-        """Sends what label-print sends to a printer."""
+    def go_on(self, printer: str, done: int) -> None:
+        """Sends the labels of a job to a printer that took some of them, behind these."""
+        labels = self.window.made.labels
+        options = labels.job.options
+        rest = replace(
+            labels,
+            job=replace(labels.job, options=replace(options, after=done)),
+            prints=labels.prints[done - options.after :],
+        )
+        self.send_to(printer, rest)
+
+    def send_to(self, printer: str, labels: Prepared | None = None) -> None:
+        """Sends what label-print sends to a printer: all labels, or some."""
 
         def way(labels: Prepared, talk: WindowTalk) -> Sent:
             talk.is_direct = True
             return None, send_to(labels, printer, talk, talk.stops)
 
         if is_direct(printer):
-            self.send(way)
+            self.send(way, labels=labels)
         else:
             self.find_queue(printer)
 
@@ -180,7 +242,8 @@ class WaysOut:
 
 
 def confirmed(dialog: Any) -> bool:
-    """Shows a dialog; returns whether it is confirmed."""
+    """Shows a dialog; returns whether it is confirmed, as by Enter."""
+    dialog.set_default_response(Gtk.ResponseType.OK)
     answer = dialog.run()
     dialog.hide()
     return bool(answer == Gtk.ResponseType.OK)
@@ -197,5 +260,5 @@ def printers(is_roll: bool, _talk: WindowTalk) -> list[str]:
         raise ToolError(Text("there is no printer"), hint)
     found = sorted(map(str, USB.glob("lp*")))
     with suppress(ToolError):  # CUPS is not there
-        return [*queues(), *found]
+        return [*(name for name in queues() if not queue_of(name).papers.is_office), *found]
     return found
