@@ -130,8 +130,8 @@ def all_options() -> dict[str, list[Option]]:
     """Returns the options of each command."""
     found = {"labels": options_of_labels()}
     for tool, module in TOOLS.items():
-        command = __import__(f"labeltools.{module}", fromlist=["command_line"])
-        found[tool] = options_of(command.command_line())
+        command = __import__(f"labeltools.{module}", fromlist=["new_parser"])
+        found[tool] = options_of(command.new_parser())
     return found
 
 

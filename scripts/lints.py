@@ -4,8 +4,9 @@
 What a file is, its first line says, or its ending; a first line `#!` that is none of INTERPRETERS is a fault. Settings
 beside the code are not read, but for scripts/mypy.ini; remarks in the code that silence a lint are faults. A lint that
 found nothing runs again where one of its files or a package of the system changes: out/lints.txt has the sums. What is
-looked at here: how long functions are, the subjects of commits since SINCE, HANDLES, the root files of the crates, and
-debian/tests. The last line is `N lints with the limits S, F faults`: S is a sum of their commands and settings.
+looked at here: how long functions are, the order of the imports of the tools, the subjects of commits since SINCE,
+HANDLES, the root files of the crates, and debian/tests. The last line is `N lints with the limits S, F faults`: S is a
+sum of their commands and settings.
 """
 
 import ast
@@ -40,6 +41,8 @@ AUTO = "#![tactic(auto)]"
 BRANCHES = "    if two:\n        pass\n" * MOST_WAYS
 WRONG = f"import os  # {'noqa'}\n\n\ndef one():\n    two = three\n\n\ndef four(two):\n{BRANCHES}"
 FINDS = ("F401", "F841", "F821", "C901")
+# Imports of which three are out of order.
+WRONG_ORDER = "import os\nimport ast\nfrom b import A, c\nfrom a import A\nfrom d import b, A\n\nimport e\n"
 # What mypy has to find: a module that is not there, a function without types, and another type than is said.
 UNTYPED = "import nowhere\n\n\ndef one(two):\n    return two\n\n\nnumber: int = 'one'\n"
 FINDS_TYPES = ("[import]", "[no-untyped-def]", "[assignment]")
@@ -122,6 +125,30 @@ def faults_of(path: str) -> Iterator[str]:
                 yield f"{path}:{function.lineno}: {function.name} has {count} statements, {MOST_STATEMENTS} at most"
 
 
+def disordered(text: str) -> Iterator[int]:
+    """The lines of imports, not parted by an empty line, that are behind one of a later module, or of the same, or
+    whose names are in another order: `import` comes before `from`, and small letters are as large ones.
+    """
+    before, end = (True, ""), -1
+    for node in ast.parse(text).body:
+        if isinstance(node, (ast.Import, ast.ImportFrom)):
+            names = [one.name.casefold() for one in node.names]
+            is_from = isinstance(node, ast.ImportFrom)
+            place = (is_from, str(node.module).casefold() if isinstance(node, ast.ImportFrom) else names[0])
+            if names != sorted(names) or node.lineno == end + 1 and place <= before:
+                yield node.lineno
+            before, end = place, node.end_lineno or 0
+
+
+def faults_of_imports(paths: Sequence[str]) -> Iterator[str]:
+    """Imports that are out of order; those of WRONG_ORDER have to be."""
+    if len([*disordered(WRONG_ORDER)]) != 3:
+        yield "imports that are out of order are not found"
+    for path in paths:
+        for number in disordered(sources.read(path)):
+            yield f"{path}:{number}: its imports are out of order"
+
+
 def faults_of_rules() -> Iterator[str]:
     """What HANDLES, the root files of the crates and debian/tests have that they must not have."""
     if sources.read("HANDLES") != NO_HANDLES:
@@ -175,7 +202,7 @@ def main() -> int:
     sources.parser_of(__doc__).parse_args()
     os.chdir(sources.TOP)
     files = files_by_kind()
-    faults = [*faults_of_rules(), *faults_of_subjects()]
+    faults = [*faults_of_rules(), *faults_of_subjects(), *faults_of_imports(below(["tools"], files["python"]))]
     faults += [f"{path}: no lint knows {kind}" for kind in files if kind.startswith("#!") for path in files[kind]]
     faults += [it for kind in ("python", "shell", "completion") for path in files[kind] for it in faults_of(path)]
     before = sources.read(KEPT).split() if os.path.exists(KEPT) else []

@@ -15,7 +15,7 @@ import tempfile
 from collections import Counter
 from pathlib import Path
 
-from test_table_oracle import NOT_UNDERSTOOD, SEED, Found, Oracle, ours, plain
+from test_table_oracle import Found, NOT_UNDERSTOOD, Oracle, ours, plain, SEED
 
 # cells by semicolons, in quotes, UTF-8, English, as they are shown
 FILTER = "csv:Text - txt - csv (StarCalc):59,34,76,1,,1033,false,true"

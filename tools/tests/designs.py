@@ -7,11 +7,12 @@ from typing import Any, Sequence
 import jobs
 import support
 from labeltools.common.messages import Silence
-from labeltools.designs.fit import OwnText
-from labeltools.designs.layout import OwnLayout
-from labeltools.drawing.pen import Medium
-from labeltools.printing.job import PrintOptions, planned
-from labeltools.printing.press import Prepared, labels_of, pen_of
+from labeltools.designs.fit import PlacedText
+from labeltools.designs.svg_layout import SvgLayout
+from labeltools.drawing.pen import Pen
+from labeltools.layout.medium import Medium
+from labeltools.printing.job import planned, PrintOptions
+from labeltools.printing.press import labels_of, Prepared
 from reading import fault_of
 
 FOLDER = support.TOP / "designs"
@@ -66,7 +67,7 @@ def prepared(
     chosen |= {"design": str(design), **options}
     wished = PrintOptions(**chosen)
     found = labels_of(planned(wished), "lines", lines_of(labels), Silence())
-    pen = pen_of(found.job, Medium(found.job.plan.dpi, True), found.pens[0].letters)
+    pen = Pen(Medium(found.job.plan.dpi, True), found.pens[0].letters, found.job.design)
     for item in found.labels if is_read else ():
         if fault := fault_of(item, found.laid_out.area, pen):
             raise AssertionError(fault)
@@ -80,10 +81,10 @@ def dots_of(found: Prepared, number: int = 0) -> jobs.Dots:
     return jobs.pictures_of_pbm(document)[0]
 
 
-def texts_of(found: Prepared) -> list[OwnText]:
+def texts_of(found: Prepared) -> list[PlacedText]:
     """The texts of all labels."""
     layouts = [item.layout for item in found.labels]
-    return [text for one in layouts if isinstance(one, OwnLayout) for text in one.texts]
+    return [text for one in layouts if isinstance(one, SvgLayout) for text in one.texts]
 
 
 def is_refused(message: object, why: str) -> bool:

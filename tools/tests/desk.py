@@ -10,13 +10,13 @@ import time
 import unittest
 from pathlib import Path
 from types import MappingProxyType
-from typing import IO, List, Mapping, Sequence, Union
+from typing import IO, Mapping, Sequence
 from unittest import mock
 
 import jobs
 import support
 from labeltools.lines.file import read_lines
-from labeltools.printing.journal import Journal, code_of
+from labeltools.sending.journal import Journal
 from printers import LABEL
 
 PIPE, NULL = subprocess.PIPE, subprocess.DEVNULL
@@ -25,10 +25,10 @@ TICKETS = b"".join(b"qr T%05d\n" % number for number in range(1, 31))
 # What code before the tool can call.
 START = """
 import fcntl, os, resource, signal, sys
-from labeltools.printing import journal, network, stream
-from labeltools.common.command_line import start
-from labeltools.printing.outlets import Broken, StandardOutput
+from labeltools.common.process import start
 from labeltools.common.text import Text
+from labeltools.sending import journal, network, stream
+from labeltools.sending.outlets import Broken, StandardOutput
 
 def end():
     os.kill(os.getpid(), signal.SIGTERM)
@@ -43,7 +43,7 @@ def limit(size):
 start("label-print", "labeltools.commands.label_print")
 """
 # Where the lines of a program come from, and what it writes goes: a file or its number, PIPE, NULL.
-End = Union[int, IO[bytes]]
+End = int | IO[bytes]
 
 
 def printed(*words: str, input: bytes = TICKETS) -> "support.Finished[bytes]":
@@ -51,12 +51,12 @@ def printed(*words: str, input: bytes = TICKETS) -> "support.Finished[bytes]":
     return support.printed(*ROLL, *words, input=input)
 
 
-def labels_in(done: "support.Finished[bytes]") -> List[bytes]:
+def labels_in(done: "support.Finished[bytes]") -> list[bytes]:
     """The labels on standard output."""
     return LABEL.findall(done.stdout)
 
 
-def on_paper(done: "support.Finished[bytes]") -> List[bytes]:
+def on_paper(done: "support.Finished[bytes]") -> list[bytes]:
     """The dots of the labels on standard output, each as often as it is printed."""
     return [dots.tobytes() for dots in jobs.dots_of_zpl(done.stdout)]
 
@@ -122,11 +122,11 @@ class Desk(unittest.TestCase):
         self.path = f"{self.folder}/journal"
         self.records = read_lines(TICKETS, "lines").records
         # A printer of these tests has its time on a busy machine too.
-        patient = mock.patch("labeltools.printing.network.FAREWELL", float(support.SECONDS))
+        patient = mock.patch("labeltools.sending.network.FAREWELL", float(support.SECONDS))
         self.addCleanup(patient.stop)
         patient.start()
 
-    def events(self) -> List[str]:
+    def events(self) -> list[str]:
         """The events of the journal."""
         lines = Path(self.path).read_text().splitlines()[1:]
         return [line.split("\t")[1] for line in lines]
@@ -144,7 +144,7 @@ class Desk(unittest.TestCase):
 
     def is_doubtful(self, journal: Journal, number: int) -> bool:
         """Whether the label of a line of TICKETS, from 0, is in doubt."""
-        return code_of(self.records[number]) in journal.doubtful()
+        return self.records[number].code in journal.doubtful()
 
     # ---- programs
 
@@ -188,7 +188,7 @@ class Desk(unittest.TestCase):
 
     # ---- streams
 
-    def answers(self, input: bytes, *words: str) -> List[str]:
+    def answers(self, input: bytes, *words: str) -> list[str]:
         """The answers to lines."""
         done = printed("--stream", *words, input=input)
         self.assertEqual(done.stderr.count(b"\n"), len(done.stderr.splitlines()))

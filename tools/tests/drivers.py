@@ -7,12 +7,12 @@ found in a page, wherever the driver has moved them to.
 
 import re
 from dataclasses import dataclass
-from typing import Callable, Iterator, List, Optional, Sequence, Tuple
+from typing import Callable, Iterator, Sequence
 
 import numpy
 
-from jobs import Dots, JobError, data_of_run_lengths
-from labeltools.commands.label_print import options_of
+from jobs import data_of_run_lengths, Dots, JobError
+from labeltools.commands.label_print import print_options
 from labeltools.common.messages import Silence
 from labeltools.printing.job import planned
 from labeltools.printing.press import labels_of
@@ -21,7 +21,7 @@ from labeltools.printing.press import labels_of
 # that of the bytes or dots of a row, of rows that are skipped, or of the bytes of the row after it.
 BYTES, DOTS, SKIP, ROW, END, OTHER = range(6)
 NEAR = 320  # dots by which a driver may move a page: its margins
-Language = Sequence[Tuple[bytes, int]]
+Language = Sequence[tuple[bytes, int]]
 EPL: Language = ((rb"GW0,\d+,(\d+),1\n", ROW), (rb"P\d+\n", END), (rb"[^\n]*\n", OTHER))
 DYMO: Language = (
     (rb"\x16", ROW),
@@ -50,7 +50,7 @@ def pages_of(
 ) -> Iterator[Dots]:
     """The pages of a job, row by row."""
     at = size = 0
-    rows: List[bytes] = []
+    rows: list[bytes] = []
     while at < len(job):
         for pattern, does in language:
             command = re.compile(pattern, re.DOTALL).match(job, at)
@@ -111,7 +111,7 @@ class Bars:
 
 def bars_of(words: Sequence[str], lines: bytes) -> Iterator[Bars]:
     """The bars of all labels on a sheet, as label-print places them by these words."""
-    options = options_of(words)
+    options = print_options(words)
     prepared = labels_of(planned(options), "lines", lines, Silence())
     press = prepared.press(Silence())
     (part,) = press.parts(prepared.prints)
@@ -129,7 +129,7 @@ def bars_of(words: Sequence[str], lines: bytes) -> Iterator[Bars]:
             yield Bars(number, *place, dots)
 
 
-def shift_of(page: Dots, bars: Bars) -> Optional[Tuple[int, int]]:
+def shift_of(page: Dots, bars: Bars) -> tuple[int, int] | None:
     """By how much bars are moved on a page, to the right and down, where each of their dots is
     there; None where they are nowhere.
     """

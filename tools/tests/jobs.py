@@ -8,7 +8,7 @@ rows of 0 and 1.
 import re
 import struct
 from io import BytesIO
-from typing import Any, List, Tuple
+from typing import Any
 
 import numpy
 from numpy.typing import NDArray
@@ -25,9 +25,9 @@ class JobError(Exception):
     """What is wrong with a job."""
 
 
-def dots_of_zpl(job: bytes) -> List[Dots]:
+def dots_of_zpl(job: bytes) -> list[Dots]:
     """The labels of a ZPL job, each as often as it is printed."""
-    labels: List[Dots] = []
+    labels: list[Dots] = []
     at = 0
     while at < len(job):
         label = ZPL_LABEL.match(job, at)
@@ -66,7 +66,7 @@ def data_of_run_lengths(text: bytes, size: int) -> bytes:
     them: G to Y are 1 to 19 times the next digit, g to z 20 to 400 times, letters that follow one
     another are added; `,` fills a row with 0, `!` with F, and `:` is the row above.
     """
-    rows: List[str] = []
+    rows: list[str] = []
     row, often = "", 0
     for letter in text.decode():
         if "G" <= letter <= "Y":
@@ -95,15 +95,15 @@ def data_of_run_lengths(text: bytes, size: int) -> bytes:
 PAPER = 5000  # dots: wider than any label of a test
 
 
-def dots_of_escpos(job: bytes, cut: bytes = CUT) -> List[Dots]:
+def dots_of_escpos(job: bytes, cut: bytes = CUT) -> list[Dots]:
     """The labels of an ESC/POS job, each of them some images and, where there is one, a cut, on a
     paper that is wider than all of them.
     """
     stream = BytesIO(job)
     if stream.read(2) != RESET:
         raise JobError("no ESC @ at the start")
-    labels: List[Dots] = []
-    bands: List[Dots] = []
+    labels: list[Dots] = []
+    bands: list[Dots] = []
     while head := stream.read(4):
         if head == b"\x1dv0\0":
             size, height = struct.unpack("<HH", stream.read(4))
@@ -124,13 +124,13 @@ def dots_of_escpos(job: bytes, cut: bytes = CUT) -> List[Dots]:
     return labels
 
 
-def bits_of(rows: List[bytes], width: int) -> Dots:
+def bits_of(rows: list[bytes], width: int) -> Dots:
     """Rows of whole bytes as dots."""
     packed = numpy.frombuffer(b"".join(rows), dtype=numpy.uint8).reshape(len(rows), -1)
     return numpy.unpackbits(packed, axis=1)[:, :width]
 
 
-def pictures_of_pbm(data: bytes) -> List[Dots]:
+def pictures_of_pbm(data: bytes) -> list[Dots]:
     """The pictures of a stream of raw PBM."""
     pictures = []
     while data:
@@ -154,7 +154,7 @@ def pbm_of(dots: Dots) -> bytes:
     return b"P4\n%d %d\n%b" % (dots.shape[1], dots.shape[0], numpy.packbits(dots, axis=1).tobytes())
 
 
-def ink_of(dots: Dots) -> Tuple[int, int, int, int]:
+def ink_of(dots: Dots) -> tuple[int, int, int, int]:
     """The left, top, right and bottom of the ink of dots, the last two behind it; zeros where there
     is none.
     """

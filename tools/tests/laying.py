@@ -3,15 +3,16 @@
 import itertools
 import unittest
 from dataclasses import dataclass
-from typing import Any, Optional, Sequence
+from typing import Any, Sequence
 
 import jobs
-from labeltools.drawing.dots import drawn_page
-from labeltools.layout.layout import LaidOut
 from labeltools.common.messages import Silence
-from labeltools.drawing.pen import Medium, Pen
-from labeltools.printing.job import Job, PrintOptions, planned
-from labeltools.printing.press import Prepared, labels_of
+from labeltools.drawing.dots import drawn_page
+from labeltools.drawing.pen import Pen
+from labeltools.layout.layout import LaidOut
+from labeltools.layout.medium import Medium
+from labeltools.printing.job import Job, planned, PrintOptions
+from labeltools.printing.press import labels_of, Prepared
 from reading import fault_of
 
 AROUND = 40  # dots of white in which ink would be seen that leaves the area
@@ -40,7 +41,7 @@ class Laid:
         """A length in millimetres."""
         return dots * self.prepared.laid_out.area.dot
 
-    def fault(self, item: LaidOut) -> Optional[str]:
+    def fault(self, item: LaidOut) -> str | None:
         """What is wrong with a label as it is drawn, if anything."""
         return fault_of(item, self.prepared.laid_out.area, self.pen)
 
@@ -66,7 +67,7 @@ def laid_out(data: bytes, cell: tuple[float, float], dpi: int = 300, **options: 
         )
     job = planned(sheet)
     prepared = labels_of(job, "lines", data, Silence())
-    return Laid(job, prepared, Pen(Medium(dpi, True), prepared.pens[0].letters))
+    return Laid(job, prepared, Pen(Medium(dpi, True), prepared.pens[0].letters, job.design))
 
 
 def documents_of(found: Prepared) -> list[bytes]:

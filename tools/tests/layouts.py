@@ -9,7 +9,7 @@ import argparse
 import subprocess
 from dataclasses import dataclass
 from pathlib import Path
-from typing import Any, Dict, Optional, Sequence, Tuple
+from typing import Any, Sequence
 
 import cairo
 import numpy
@@ -23,8 +23,8 @@ WIDTH = 1000  # pixels
 MARGIN = 6
 NAME = 12  # pixels above a label, for its size
 GRAY = 2 / 3
-Labels = Sequence[Tuple[str, Optional[Dict[str, Any]]]]
-HEFT: Dict[str, Any] = {
+Labels = Sequence[tuple[str, dict[str, Any] | None]]
+HEFT: dict[str, Any] = {
     "title": "Heft „Größe A5“, kariert, 32 Blatt mit Rand und Umschlag",
     "text": ["Art. 20-1187"],
     "price": "12,80 €",

@@ -12,7 +12,6 @@ import struct
 import sys
 import threading
 import time
-from typing import List
 
 LABEL = re.compile(rb"\^XA.*?\^XZ\n", re.DOTALL)
 QUIET = 20.0  # seconds without a connection after which the program ends
@@ -63,7 +62,7 @@ class Printer:
         self.at_end = threading.Event()
         self.told = threading.Event()
         self.label = LABEL
-        self.labels: List[bytes] = []
+        self.labels: list[bytes] = []
         self.file = ""
 
     def start(self) -> "Printer":
@@ -119,7 +118,7 @@ class Printer:
             self.at_end.set()
             self.told.wait()
 
-    def keep(self, labels: List[bytes]) -> None:
+    def keep(self, labels: list[bytes]) -> None:
         """Keeps labels, in a file where one is named."""
         self.labels += labels
         if self.file:

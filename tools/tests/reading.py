@@ -1,31 +1,33 @@
 """Reads labels as they are drawn, by zxing-cpp."""
 
 import re
-from typing import Optional, Sequence
+from typing import Sequence
 
 import zxingcpp
 
-from labeltools.paper.area import Area
-from labeltools.lines.engine import Modules
+from labeltools.designs.design import CODE, PlacedSymbol
 from labeltools.drawing.dots import drawn_page
-from labeltools.layout.frames import Box
+from labeltools.drawing.pen import bits_of, Pen
 from labeltools.layout.layout import LaidOut
-from labeltools.designs.layout import CODE, OwnSymbol, symbols_of
-from labeltools.drawing.pen import Pen, bits_of
+from labeltools.lines.engine import Modules
+from labeltools.paper.area import Area
+from labeltools.paper.box import Box
 
 NOT_READ = "as drawn it is not read"
 NOT_DRAWN = "its bars as drawn are not those of labels"
 PIXELS = bytes.maketrans(b"01", b"\xff\0")
 
 
-def fault_of(item: LaidOut, area: Area, pen: Pen) -> Optional[str]:
+def fault_of(item: LaidOut, area: Area, pen: Pen) -> str | None:
     """Returns what is wrong with a label as it is drawn in its area, if anything."""
     size = area.width, area.height
     picture = drawn_page(size, pen, [(item, (0, 0))])
-    return fault_in([bits_of(row) for row in picture.rows], symbols_of(item, Box(0, 0, *size)))
+    return fault_in(
+        [bits_of(row) for row in picture.rows], pen.design.symbols(item, Box(0, 0, *size))
+    )
 
 
-def fault_in(rows: list[str], symbols: Sequence[OwnSymbol]) -> Optional[str]:
+def fault_in(rows: list[str], symbols: Sequence[PlacedSymbol]) -> str | None:
     """Returns what is wrong with one of the symbols of a label, each read in its place alone."""
     for symbol in symbols:
         box = symbol.box
@@ -38,7 +40,7 @@ def fault_in(rows: list[str], symbols: Sequence[OwnSymbol]) -> Optional[str]:
     return None
 
 
-def fault_of_symbol(rows: list[str], symbol: OwnSymbol) -> Optional[str]:
+def fault_of_symbol(rows: list[str], symbol: PlacedSymbol) -> str | None:
     """Returns what is wrong with a symbol in dots of its place: its data is read by zxing-cpp, and
     each row of its bars is compared.
     """
@@ -50,7 +52,7 @@ def fault_of_symbol(rows: list[str], symbol: OwnSymbol) -> Optional[str]:
     return None if is_drawn(rows, symbol.modules, symbol.boxes["bars"]) else NOT_DRAWN
 
 
-def code_in(rows: list[str], form: str) -> Optional[bytes]:
+def code_in(rows: list[str], form: str) -> bytes | None:
     """Returns the data of a code of a form in rows of dots; None where it is not read."""
     pixels = "".join(rows).encode().translate(PIXELS)
     picture = memoryview(pixels).cast("B", [len(rows), len(rows[0])])

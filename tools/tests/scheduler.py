@@ -10,10 +10,11 @@ import subprocess
 import tempfile
 import time
 from pathlib import Path
-from typing import Any, List, Tuple, Union
+from typing import Any
 
 import cups
 import numpy
+
 import support
 from jobs import Dots
 
@@ -92,6 +93,12 @@ KINDS = {
     + default("600dpi")
     + option("PrintoutMode", Normal=""),
     "silent": option("Quality", Normal=""),
+    # one that takes paper of any size, but prints nothing on its edge of 4.2 mm, on both sides
+    "edged": "VariablePaperSize Yes\nMinSize 72 72\nMaxSize 612 1008\nDuplex normal\n"
+    + option("Resolution", _300dpi="300 300"),
+    # a filter that fails
+    "broken": "Filter application/vnd.cups-raster 50 /bin/false\n"
+    + option("Resolution", _300dpi="300 300"),
     # a printer that takes PDF
     "pdf": "Filter application/pdf 0 gziptoany\n" + default("600dpi") + option("Tray", Auto=""),
 }
@@ -114,7 +121,7 @@ class Scheduler:
         (self.folder / "cups-files.conf").write_text("\n".join([*lines, "FileDevice Yes", ""]))
         words = [CUPSD, "-f", "-c", f"{self.folder}/cupsd.conf"]
         words += ["-s", f"{self.folder}/cups-files.conf"]
-        self.processes: List[Any] = []
+        self.processes: list[Any] = []
         self.start(*words)
         self.before = os.environ.get("CUPS_SERVER")
         os.environ["CUPS_SERVER"] = self.name
@@ -153,6 +160,15 @@ class Scheduler:
         subprocess.run(ppdc, check=True, capture_output=True)
         words += ["-P", f"{self.folder}/{driver}.ppd"]
         subprocess.run(words, check=True, capture_output=True)
+
+    def change(self, name: str, *options: str) -> None:
+        """Changes options of a queue, such as number-up-default=4."""
+        words = [word for option in options for word in ("-o", option)]
+        subprocess.run(["lpadmin", "-p", name, *words], check=True, capture_output=True)
+
+    def remove(self, name: str) -> None:
+        """Removes a queue, and its jobs."""
+        subprocess.run(["lpadmin", "-x", name], check=True, capture_output=True)
 
     def add_driverless(self, name: str) -> None:
         """Adds a queue without a driver's file for a printer that takes PWG raster."""
@@ -195,14 +211,14 @@ class Scheduler:
         cups.setServer(self.before or "")
 
 
-def is_open(address: Union[str, Tuple[str, int]]) -> bool:
+def is_open(address: str | tuple[str, int]) -> bool:
     """Whether a program listens at a socket's file, or at a port of a host."""
     kind = socket.AF_UNIX if isinstance(address, str) else socket.AF_INET
     with socket.socket(kind) as line:
         return line.connect_ex(address) == 0
 
 
-def raster_of(job: bytes) -> Tuple[Tuple[int, int], Dots]:
+def raster_of(job: bytes) -> tuple[tuple[int, int], Dots]:
     """The dots an inch across and down, and the dots of the first page: of CUPS raster with a bit
     for each dot, or of PWG raster with a byte for each, in which 0 is black.
     """

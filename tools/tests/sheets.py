@@ -3,7 +3,7 @@ once.
 """
 
 from dataclasses import dataclass
-from typing import Any, Callable, Collection, List, Optional, Sequence, Tuple
+from typing import Any, Callable, Collection, Sequence
 from xml.sax.saxutils import escape
 
 from test_table_workbooks import cell, ods, ods_cell, rows, xlsx
@@ -67,11 +67,11 @@ class Cell:
     form: str = "General"
     shown: str = ""
     look: Look = Look()
-    runs: Tuple[Tuple[str, Optional[Look]], ...] = ()
-    span: Tuple[int, int] = (1, 1)
+    runs: tuple[tuple[str, Look | None], ...] = ()
+    span: tuple[int, int] = (1, 1)
 
     @property
-    def key(self) -> Tuple[str, Look]:
+    def key(self) -> tuple[str, Look]:
         """What its style in .xlsx has."""
         return self.form, self.look
 
@@ -86,7 +86,7 @@ class Sheet:
     is_visible: bool = True
 
     @property
-    def cells(self) -> List[List[Cell]]:
+    def cells(self) -> list[list[Cell]]:
         """Its rows of cells."""
         return [[one if isinstance(one, Cell) else Cell(one) for one in row] for row in self.lines]
 
@@ -113,7 +113,7 @@ def of_xlsx(*sheets: Sheet) -> bytes:
             found += f"<r>{own}<t xml:space='preserve'>{escape(letters)}</t></r>"
         return f'<c s="{style}" t="inlineStr"><is>{found}</is></c>'
 
-    texts: List[Tuple[str, str, str]] = []
+    texts: list[tuple[str, str, str]] = []
     for sheet in sheets:
         lines = rows(*([text(one) for one in row] for row in sheet.cells))
         for number in sheet.hidden:
@@ -166,4 +166,4 @@ def of_ods(*sheets: Sheet) -> bytes:
     return ods(texts, styles=HIDDEN + "".join(styles))
 
 
-KINDS: Tuple[Callable[..., bytes], ...] = (of_xlsx, of_ods)
+KINDS: tuple[Callable[..., bytes], ...] = (of_xlsx, of_ods)

@@ -20,7 +20,7 @@ import unittest
 from functools import cache, partial
 from importlib import import_module
 from pathlib import Path
-from typing import Any, Dict, List, NoReturn, Optional, Sequence, Tuple, Union
+from typing import Any, NoReturn, Sequence
 from unittest import mock
 
 TESTS = Path(__file__).resolve().parent
@@ -50,11 +50,11 @@ slow = unittest.skipIf(os.environ.get("QUICK"), "takes seconds: the gate runs it
 
 
 def run(
-    tool: Union[str, Path],
-    *arguments: Union[str, bytes, Path],
+    tool: str | Path,
+    *arguments: str | bytes | Path,
     input: bytes = b"",
     locale: str = "C.UTF-8",
-    cwd: Union[str, Path, None] = None,
+    cwd: str | Path | None = None,
     **variables: str,
 ) -> "Finished[bytes]":
     """Runs a tool of tools/ (or a program by its whole path) and returns its status, standard
@@ -76,7 +76,7 @@ def processor_seconds() -> float:
     return used.ru_utime + used.ru_stime
 
 
-def environment(locale: str = "C.UTF-8") -> Dict[str, str]:
+def environment(locale: str = "C.UTF-8") -> dict[str, str]:
     """The environment of a tool under test: LC_ALL alone chooses the language; tools/ and `labels`
     are found.
     """
@@ -86,7 +86,7 @@ def environment(locale: str = "C.UTF-8") -> Dict[str, str]:
     return {**kept, "LC_ALL": locale, "PATH": path, "LABELS": str(program_path())}
 
 
-def speaking(language: str, folder: Union[str, Path]) -> Dict[str, str]:
+def speaking(language: str, folder: str | Path) -> dict[str, str]:
     """The environment of who speaks a language, with its translation in a folder; English is the
     language of the tools.
     """
@@ -99,7 +99,7 @@ def speaking(language: str, folder: Union[str, Path]) -> Dict[str, str]:
     return {**environment(), "LANGUAGE": language, "LABELS_LOCALE": str(folder)}
 
 
-def messages(finished: "Finished[bytes]") -> List[str]:
+def messages(finished: "Finished[bytes]") -> list[str]:
     """The lines that a tool wrote on standard error."""
     return finished.stderr.decode("utf-8").splitlines()
 
@@ -139,7 +139,7 @@ def make_library() -> None:
         subprocess.run(words, check=True, stdout=subprocess.DEVNULL)
 
 
-def draw(lines: Union[str, bytes], *options: str) -> Tuple[bytes, bytes, int]:
+def draw(lines: str | bytes, *options: str) -> tuple[bytes, bytes, int]:
     """What `labels` makes of lines: standard output, standard error, status; skips the test where
     it is not built.
     """
@@ -174,7 +174,7 @@ def skip(message: str) -> NoReturn:
     raise AssertionError(message) if os.environ.get("NO_SKIP") else unittest.SkipTest(message)
 
 
-def read_codes(*pictures: Union[str, Path]) -> List[str]:
+def read_codes(*pictures: str | Path) -> list[str]:
     """What zbarimg reads in pictures, a line of SYMBOLOGY:DATA for each code; skips where it is
     missing.
     """
@@ -191,7 +191,7 @@ def ean13(number: int) -> str:
     return f"{digits}{-total % 10}"
 
 
-def file_of(labels: Sequence[Tuple[str, Optional[Dict[str, Any]]]], **end: Any) -> bytes:
+def file_of(labels: Sequence[tuple[str, dict[str, Any] | None]], **end: Any) -> bytes:
     """The file between the tools: lines, and before each the object that belongs to it, with row 2,
     3, ..
     """
@@ -204,7 +204,7 @@ def file_of(labels: Sequence[Tuple[str, Optional[Dict[str, Any]]]], **end: Any) 
 
 
 def run_here(
-    tool: str, *arguments: Union[str, Path], input: bytes = b"", **variables: str
+    tool: str, *arguments: str | Path, input: bytes = b"", **variables: str
 ) -> "Finished[bytes]":
     """Runs a tool of tools/ in this process: the same result as of `run`, in a quarter of the
     time.
@@ -219,13 +219,13 @@ def run_here(
         os.dup2(out.fileno(), 1)
         os.dup2(err.fileno(), 2)
         error = open(2, "w", errors="backslashreplace", closefd=False)
-        streams: Dict[str, Any] = {
+        streams: dict[str, Any] = {
             "argv": words,
             "stdin": io.TextIOWrapper(io.BytesIO(input)),
             "stdout": open(1, "w", closefd=False),
             "stderr": error,
         }
-        signals = mock.patch("labeltools.common.command_line.on_signals", mock.MagicMock())
+        signals = mock.patch("labeltools.common.process.on_signals", mock.MagicMock())
         changed = mock.patch.dict(os.environ, {**environment(), **variables})
         try:
             with signals, changed, mock.patch.multiple(sys, **streams):
@@ -247,7 +247,7 @@ printed = partial(run_here, "label-print")
 def status_of(tool: str) -> int:
     """The status with which a tool ends in this process."""
     try:
-        import_module("labeltools.common.command_line").start(tool, MODULES[tool])
+        import_module("labeltools.common.process").start(tool, MODULES[tool])
     except SystemExit as end:
         return int(end.code or 0)
     raise AssertionError(f"{tool} has no end")

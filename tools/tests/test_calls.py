@@ -13,16 +13,16 @@ import tempfile
 import unittest
 from dataclasses import dataclass
 from pathlib import Path
-from typing import List, Sequence, Tuple
+from typing import Sequence
 
 import support
-from test_program import DRAWN, EAN8, OPTIONS, REFUSED, pbm
+from test_program import DRAWN, EAN8, OPTIONS, pbm, REFUSED
 
 # A call: where it reads or writes, how many bytes it asks for, and how many it moves; -1 where it
 # fails.
-Call = Tuple[int, int, int]
+Call = tuple[int, int, int]
 # A line, and the picture and the message that it makes.
-Line = Tuple[bytes, bytes, bytes]
+Line = tuple[bytes, bytes, bytes]
 
 INPUT, IMAGES, MESSAGES = range(3)
 # How many bytes the program asks for at each read, and how many of its pictures it keeps until it
@@ -89,11 +89,11 @@ ssize_t write(int file, const void *bytes, size_t asked) {
 class Ran:
     """The calls of a run, its status, what it wrote, and the files that it opened, in order."""
 
-    calls: List[Call]
+    calls: list[Call]
     status: int
     images: bytes
     messages: bytes
-    opened: Tuple[str, ...] = ()
+    opened: tuple[str, ...] = ()
 
 
 @dataclass(frozen=True)
@@ -103,13 +103,13 @@ class Most:
     read: int = ALL
     written: int = ALL
 
-    def calls_of(self, file: int, length: int) -> List[Call]:
+    def calls_of(self, file: int, length: int) -> list[Call]:
         """The calls that write so many bytes."""
         places = range(0, length, self.written)
         return [(file, length - place, min(length - place, self.written)) for place in places]
 
 
-def told(lines: Sequence[Line]) -> List[Line]:
+def told(lines: Sequence[Line]) -> list[Line]:
     """The same lines, each with the number of its line before its message."""
     numbered = enumerate(lines, 1)
     return [
@@ -128,7 +128,7 @@ def right_run(lines: Sequence[Line], most: Most) -> Ran:
     them, at the end, and where no more can be kept.
     """
     data = input_of(lines)
-    calls: List[Call] = []
+    calls: list[Call] = []
     place = end = kept = 0
     for line, image, said in lines:
         end += len(line) + 1
@@ -152,7 +152,7 @@ def right_run(lines: Sequence[Line], most: Most) -> Ran:
 
 
 # Lines of each kind: those that are drawn, that are refused, and that are skipped.
-KINDS: List[Line] = [
+KINDS: list[Line] = [
     *((line, pbm(rows), b"") for line, rows in DRAWN),
     *((line, b"", said) for line, said in REFUSED),
     *((line, b"", b"") for line in (b"", b"# a comment", b"#" + 1200 * b"a")),

@@ -6,19 +6,19 @@ LibreOffice 7.4 and XlsxWriter, and is what ISO/IEC 29500-1 and 26300 say.
 """
 
 import unittest
-from typing import List, Optional, Sequence, Tuple
+from typing import Sequence
 
 import support
-from sheets import COLOURS, KINDS, Cell, Look, Sheet, of_ods, of_xlsx
-from test_table import BOOK, PENCIL, SMALL, SOAP, parts_of
-from test_table_workbooks import ODS_SPACES, WorkbookTest, cell, ods, ods_cell, rows, table, xlsx
+from sheets import Cell, COLOURS, KINDS, Look, of_ods, of_xlsx, Sheet
+from test_table import BOOK, parts_of, PENCIL, SMALL, SOAP
+from test_table_workbooks import cell, ods, ods_cell, ODS_SPACES, rows, table, WorkbookTest, xlsx
 
 HEAD = ["EAN", "Name", "Price"]
 PRICED = "--code EAN --title Name --price Price --decimal .".split()
 SHARED = '<c t="s"><v>0</v></c>'
 
 
-def shared(*runs: Tuple[str, str]) -> str:
+def shared(*runs: tuple[str, str]) -> str:
     """A shared string of runs: a text, and what its form is."""
     texts = (f"<r><rPr>{form}</rPr><t xml:space='preserve'>{text}</t></r>" for text, form in runs)
     return f"<si>{''.join(texts)}</si>"
@@ -27,14 +27,14 @@ def shared(*runs: Tuple[str, str]) -> str:
 class CellTest(WorkbookTest):
     """Steps that the tests share."""
 
-    def ran(self, data: bytes, *words: str) -> Tuple[List[Optional[str]], List[str]]:
+    def ran(self, data: bytes, *words: str) -> tuple[list[str | None], list[str]]:
         """The prices, or else the titles, of a table, and what is said."""
         done = support.run_here("label-table", *words, input=data)
         labels = [label for label, _ in parts_of(done.stdout)[1]] if done.stdout else []
         said = [text.partition(": ")[2] for text in support.messages(done)]
         return [label.get("price", label.get("title")) for label in labels], said
 
-    def check_price(self, data: bytes, price: Optional[str], said: str = "") -> None:
+    def check_price(self, data: bytes, price: str | None, said: str = "") -> None:
         """The price of row 2, or why it is left out."""
         prices, messages = self.ran(data, *PRICED)
         self.assertEqual(prices, [price] if price else [])
@@ -65,7 +65,7 @@ STRUCK, RAISED, WHITE = Look(is_struck=True), Look(is_raised=True), Look(colour=
 class Looks(CellTest):
     """How letters look, in a cell or a part of it, as both kinds of files have it."""
 
-    def check_looks(self, *cases: Tuple[Cell, Optional[str], str]) -> None:
+    def check_looks(self, *cases: tuple[Cell, str | None, str]) -> None:
         """Prices, and what is printed of each, or else why it is not."""
         for price, wanted, said in cases:
             for kind in KINDS:
@@ -268,7 +268,7 @@ class Styles(CellTest):
 class Marks(CellTest):
     """What only one kind of files says of letters, or of all cells."""
 
-    def of_ods(self, text: str, *styles: Tuple[str, str, str]) -> bytes:
+    def of_ods(self, text: str, *styles: tuple[str, str, str]) -> bytes:
         """An .ods with a price, and styles by name, family and properties."""
         made = (ods_style(name, family, f"{COLOURS} {looks}") for name, family, looks in styles)
         price = ods_cell(text, more='table:style-name="ce1"')
@@ -322,7 +322,7 @@ class Marks(CellTest):
             self.assertEqual(self.ran(data, *PRICED), (["1.25"], [report] * is_said), of_ods)
 
     def test_a_row_without_height_is_hidden(self) -> None:
-        cases: List[Tuple[str, List[str]]] = [
+        cases: list[tuple[str, list[str]]] = [
             ('ht="0" customHeight="1"', []),
             ('ht="15"', ["14.25"]),
             ('hidden="true"', []),
@@ -550,7 +550,7 @@ class Codes(CellTest):
 
 
 class Prices(CellTest):
-    def priced(self, lines: Sequence[str], *words: str) -> Tuple[List[Optional[str]], List[str]]:
+    def priced(self, lines: Sequence[str], *words: str) -> tuple[list[str | None], list[str]]:
         """The prices of a table of articles, and what is said."""
         codes = (PENCIL, SMALL, BOOK)
         text = "".join(f"{code}\tTea\t{line}\n" for code, line in zip(codes, lines))
@@ -568,12 +568,24 @@ class Prices(CellTest):
         found, said = self.priced(["8.330000000000002"], "--price-as", "0.00 €")
         self.assertEqual((found, said), (["8.33 €"], []))
 
+    def test_an_old_price_below_the_price_is_said_once(self) -> None:
+        lines = ["1.00\t0.90", "2.00\t1.00", "3.00\t4.00"]
+        said = self.priced(lines, "--old-price", "Old")[1]
+        self.assertEqual(said, ["row 2 has the old price 0.90, below the price 1.00 (2 rows)"])
+        for line in ("1.00\t1.00", "2.00 €\t1.00 $", "1.234\t1.00", "1.00\t"):
+            self.assertEqual(self.priced([line], "--old-price", "Old")[1], [], line)
+
     def test_a_pattern_keeps_the_words_about_values(self) -> None:
         found, said = self.priced(["0", "2.50"], "--price-as", "0.00 €")
         self.assertEqual(said, ["row 2 has the price 0"])
         found, said = self.priced(["2 €", "2.50 $"], "--price-as", "0.00 ¤")
         self.assertEqual(len(said), 1)
         self.assertIn("several currencies", said[0])
+
+    def test_the_number_of_a_cell_is_no_month(self) -> None:
+        for kind in KINDS:
+            found = self.ran(kind(Sheet([HEAD, [PENCIL, "Tea", 12.2026]])), *PRICED)[0]
+            self.assertEqual(found, ["12.2026"])
 
     def test_the_general_sign_is_no_currency(self) -> None:
         found, said = self.priced(["2.50 ¤"])

@@ -15,7 +15,8 @@ class Ending(unittest.TestCase):
     SCRIPT = """
 import sys
 sys.path.insert(0, {tools!r})
-from labeltools.common.command_line import Parser, main_of, standard_output
+from labeltools.common.arguments import Parser
+from labeltools.common.process import main_of, standard_output
 from labeltools.common.messages import ToolError
 def function():
     about = "A tool for this test."

@@ -8,25 +8,24 @@ from contextlib import contextmanager
 from dataclasses import dataclass, replace
 from itertools import count, product
 from pathlib import Path
-from typing import Any, Callable, Iterator, Optional, Sequence
+from typing import Any, Callable, Iterator, Sequence
 from unittest import mock
 
 import support
-from laying import documents_of
 from labeltools.checking import compare, decode
-from labeltools.lines import engine
-from labeltools.designs import layout as own_layout
-from labeltools.drawing import pen
-from labeltools.printing import press
-from labeltools.lines.engine import Modules
-from labeltools.checking.pdf import pages_of
-from labeltools.drawing import dots, escpos, zpl
-from labeltools.layout.frames import Box
-from labeltools.paper.picture import Picture
+from labeltools.checking.read_pdf import pages_of
 from labeltools.common.messages import Silence, ToolError
-from labeltools.printing.job import PrintOptions, planned
-from labeltools.printing.press import Prepared, labels_of
 from labeltools.common.text import Text
+from labeltools.designs import svg_layout as own_layout
+from labeltools.drawing import dots, escpos, pen, zpl
+from labeltools.lines import engine, library
+from labeltools.lines.engine import Modules
+from labeltools.paper.box import Box
+from labeltools.paper.picture import Picture
+from labeltools.printing import press
+from labeltools.printing.job import planned, PrintOptions
+from labeltools.printing.press import labels_of, Prepared
+from laying import documents_of
 
 SHOP: list[tuple[str, dict[str, Any]]] = [
     ("ean13 4006381333931", {"title": "Bleistift, weich", "price": "0,80 €", "text": ["rot"]}),
@@ -165,7 +164,7 @@ def twice(*arguments: Any) -> None:
     DRAW_MODULES(*arguments)
 
 
-def drawn_wrong(number: int, other: Optional[Modules] = None) -> Callable[..., Any]:
+def drawn_wrong(number: int, other: Modules | None = None) -> Callable[..., Any]:
     """`Pen.draw_modules` that draws one of the symbols of the first label with a module less, or as
     another symbol.
     """
@@ -339,10 +338,10 @@ FAULTS = {
     ),
     "no white below codes": Fault(PEN + "Pen.draw_white", lambda *_: None, ("pdf", "svg")),
     "no white below guards": Fault(
-        PEN + "white_of", lambda symbol: (symbol.boxes["bars"],), ("pdf", "svg"), PAIR
+        PEN + "white_boxes", lambda symbol: (symbol.boxes["bars"],), ("pdf", "svg"), PAIR
     ),
     "white that is cut off": Fault(
-        PEN + "white_of",
+        PEN + "white_boxes",
         lambda symbol: (symbol.boxes["bars"]._replace(width=9),),
         ("pdf", "svg"),
     ),
@@ -458,7 +457,7 @@ class OwnDesigns(unittest.TestCase):
         ("ean8 73513537", {"title": "Kaugummi", "text": {"Check": "7"}}),
     ]
 
-    def found(self, form: str, turn: Optional[bool], is_sheet: bool) -> Prepared:
+    def found(self, form: str, turn: bool | None, is_sheet: bool) -> Prepared:
         size = (60.0, 100.0) if turn else (100.0, 60.0)
         sheet = {"cell": size, "columns": 1, "rows": 2, "paper": None}
         chosen = sheet if is_sheet else {"paper": size, "cell": None}
@@ -504,7 +503,7 @@ class OwnDesigns(unittest.TestCase):
             job = planned(options)
             lines = support.file_of(self.LABELS)
             first = labels_of(job, "lines", lines, Silence()).labels[0].label
-            with mock.patch("labeltools.designs.layout.values_of", texts):
+            with mock.patch("labeltools.designs.svg_layout.values_of", texts):
                 found = labels_of(job, "lines", lines, Silence())
         with self.assertRaisesRegex(ToolError, "^row 3: its code says other data than its line"):
             documents_of(found)
@@ -581,7 +580,7 @@ class Again(unittest.TestCase):
             options = options_of("zpl", design=design, paper=(100.0, 60.0))
             found = found_of(options, OwnDesigns.LABELS)
         copied = documents_of(found)
-        with mock.patch("labeltools.drawing.own_pen.UPRIGHT", None):
+        with mock.patch("labeltools.designs.background.UPRIGHT", None):
             self.assertEqual(documents_of(found), copied)
 
 
@@ -651,7 +650,7 @@ class Read(unittest.TestCase):
         """
         lines = (b"ean13 4006381333931", b"ean8 73513537", b"code128 LOT-7", b"qr X")
         for line, scale, quarters, left in product(lines, (1, 3), range(4), (0, 5)):
-            symbol = engine.library().line(line, height=1)
+            symbol = library.labels_library().line(line, height=1)
             dark, looked, high = rows_of(symbol)
             wide = len(dark[0])
             dark, looked = (

@@ -11,7 +11,7 @@ import tempfile
 import unittest
 from importlib import import_module
 from pathlib import Path
-from typing import Any, Dict, List, Optional
+from typing import Any
 
 import support
 
@@ -19,7 +19,7 @@ COMPLETIONS = support.TOP / "completions"
 SHELLS = ("bash", "fish", "zsh")
 TOOLS = ["label-print", "label-table"]  # the window is opened from a menu
 # What an option proposes; None: files, in bash by readline.
-VALUES: Dict[str, Optional[str]] = {
+VALUES: dict[str, str | None] = {
     "label-table --code": "",
     "label-table --new-since": None,
     "label-print --design": "article shelf",
@@ -43,14 +43,14 @@ bindkey '^I' complete-word
 """
 
 
-def options_of(command: str) -> Dict[str, str]:
+def options_of(command: str) -> dict[str, str]:
     """The options of a help text, each with the word for what it takes, if anything."""
     return dict(
         re.findall(r"^ +(?:-h, )?(--[a-z-]+)(?: (\S+))?(?:  |$)", support.help_of(command), re.M)
     )
 
 
-def typed(shell: List[str], lines: str, keys: str, folder: Path) -> str:
+def typed(shell: list[str], lines: str, keys: str, folder: Path) -> str:
     """What an interactive shell writes after these lines and then these keys."""
     process, terminal = pty.fork()
     if process == 0:
@@ -73,15 +73,15 @@ def typed(shell: List[str], lines: str, keys: str, folder: Path) -> str:
         os.waitpid(process, 0)
 
 
-def lines_of(folder: Path, *words: str) -> List[str]:
+def lines_of(folder: Path, *words: str) -> list[str]:
     """The lines that a shell prints in a folder, which is its home."""
     environment = {**support.environment(), "HOME": str(folder)}
-    how: Dict[str, Any] = {"cwd": folder, "env": environment, "check": True}
+    how: dict[str, Any] = {"cwd": folder, "env": environment, "check": True}
     done = subprocess.run(words, stdout=subprocess.PIPE, text=True, **how)
     return str(done.stdout).split("\n")
 
 
-def by_bash(words: List[str], folder: Path) -> List[str]:
+def by_bash(words: list[str], folder: Path) -> list[str]:
     script = BASH.format(
         completion=shlex.quote(str(COMPLETIONS / "labels.bash")),
         words=shlex.join(words),
@@ -91,19 +91,19 @@ def by_bash(words: List[str], folder: Path) -> List[str]:
     return lines_of(folder, "bash", "-c", script)
 
 
-def by_fish(words: List[str], folder: Path) -> List[str]:
+def by_fish(words: list[str], folder: Path) -> list[str]:
     line = shlex.quote(" ".join(words))
     script = f"source {shlex.quote(str(COMPLETIONS / 'labels.fish'))}; complete -C {line}"
     return [line.split("\t")[0] for line in lines_of(folder, "fish", "--no-config", "-c", script)]
 
 
-def by_zsh(words: List[str], folder: Path) -> List[str]:
+def by_zsh(words: list[str], folder: Path) -> list[str]:
     lines = ZSH.format(completions=shlex.quote(str(COMPLETIONS))) + ZSH_LISTS
     said = typed(["zsh", "-f", "-i"], lines, " ".join(words) + "\t", folder)
     return re.findall(r"<([^<>\r\n]*)>", said)
 
 
-def proposed(shell: str, line: str, folder: Path) -> List[str]:
+def proposed(shell: str, line: str, folder: Path) -> list[str]:
     """What a shell proposes for the last word of a line."""
     found = {"bash": by_bash, "fish": by_fish, "zsh": by_zsh}[shell](line.split(" "), folder)
     return sorted({word.rstrip("= ").replace("\\", "") for word in found if word})

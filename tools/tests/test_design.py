@@ -8,20 +8,21 @@ import tempfile
 import unittest
 import zlib
 from pathlib import Path
-from typing import Any, Dict, Sequence, Tuple
+from typing import Any, Sequence
 from unittest import mock
 
 import numpy
 
 import designs
 import support
-from designs import CODE, Label, dots_of, reasons_of, said_of, texts_of
-from laying import documents_of
+from designs import CODE, dots_of, Label, reasons_of, said_of, texts_of
 from labeltools.common.messages import Silence, ToolError
-from labeltools.designs import drawing
-from labeltools.designs.layout import OwnLayout
-from labeltools.printing.job import PrintOptions, planned
-from labeltools.printing.press import Prepared, labels_of
+from labeltools.designs import svg_page
+from labeltools.designs.svg_labels import SvgLabels
+from labeltools.designs.svg_layout import SvgLayout
+from labeltools.printing.job import planned, PrintOptions
+from labeltools.printing.press import labels_of, Prepared
+from laying import documents_of
 
 TITLE = '<rect id="title" {}/>' + CODE
 WIDE = 'x="2" y="2" width="56" height="10"'
@@ -196,7 +197,7 @@ class Refused(OwnPages):
         with self.assertRaisesRegex(ToolError, r"seat is not a rectangle \(text\)"):
             self.found(body, [("code128 A", {"text": {"Seat": "7"}})])
 
-    @mock.patch.object(drawing, "MOST_SECONDS", 1)
+    @mock.patch.object(svg_page, "MOST_SECONDS", 1)
     def test_what_takes_too_long_or_too_much_memory(self) -> None:
         blur = '<filter id="f"><feGaussianBlur stdDeviation="{}"/></filter>'
         for by in (1, 2):  # threads of the first one stay, and are not waited for
@@ -233,8 +234,8 @@ class Names(OwnPages):
     def places(self, body: str) -> list[str]:
         """The names of the places but that of the code."""
         found = self.found(body + CODE)
-        assert found.job.design is not None
-        return [place.title for place in found.job.design.places if place.part != "code"]
+        assert isinstance(found.job.design, SvgLabels)
+        return [it.title for it in found.job.design.design.places if it.part != "code"]
 
     def test_a_name_is_data_place_or_the_label_or_the_id(self) -> None:
         for name in (
@@ -685,7 +686,7 @@ class Drawings(OwnPages):
             drawn += f'<path d="{group}" fill="{"#fff" if behind == "#000" else "#000"}"/></g>'
             labels: list[Label] = [ONE, ("code128 B", {"title": "b", "was": "2 €"})]
             found = self.found(drawn + place, labels)
-            self.assertEqual([one.place.number for one in found.left_out if one.place], [4])
+            self.assertEqual([one.origin.number for one in found.left_out if one.origin], [4])
 
     def test_a_group_goes_with_its_field(self) -> None:
         word = '<g id="Best before"><path d="M2 2H9V9H2Z"/></g>'
@@ -827,7 +828,7 @@ class Symbols(OwnPages):
         ):
             (item,) = self.found(place.format(words), [("qr A", {})]).labels
             layout = item.layout
-            assert isinstance(layout, OwnLayout)
+            assert isinstance(layout, SvgLayout)
             ((_, box, _, _, _, _, boxes),) = layout.symbols
             bars, dot = boxes["bars"], 25.4 / 203
             ends = (10 + bars.left * dot, 10 + bars.right * dot)
@@ -839,7 +840,7 @@ class Symbols(OwnPages):
         body = f'<rect data-place="Url, qr, level=Q" x="2" y="2" width="16" height="16"/>{CODE}'
         found = self.found(body, [("code128 A", {"text": {"Url": "a\\b\nc"}})])
         layout = found.labels[0].layout
-        assert isinstance(layout, OwnLayout)
+        assert isinstance(layout, SvgLayout)
         self.assertEqual([one.data for one in layout.symbols], [b"a\\b\nc", b"A"])
 
     def test_a_second_symbol_that_is_refused_leaves_its_label_out(self) -> None:
@@ -863,9 +864,9 @@ class Papers(OwnPages):
             ' transform="rotate(-90)"/>'
             '<rect id="code" x="1" y="20" width="46" height="18"/>'
         )
-        sheet: Dict[str, Any] = {"columns": 2, "rows": 3, "edge": (0.0, 0.0, 0.0, 0.0)}
+        sheet: dict[str, Any] = {"columns": 2, "rows": 3, "edge": (0.0, 0.0, 0.0, 0.0)}
         pages = ("pdf", "svg", "png", "pbm")
-        cases: Sequence[Tuple[str, Dict[str, Any]]] = (
+        cases: Sequence[tuple[str, dict[str, Any]]] = (
             *((form, {"paper": (60.0, 40.0)}) for form in (*pages, "zpl", "escpos")),
             *((form, {"paper": (40.0, 60.0)}) for form in (*pages, "zpl", "escpos")),
             *((form, {"paper": None, "cell": (60.0, 40.0), **sheet}) for form in pages),

@@ -8,14 +8,14 @@ import subprocess
 import tempfile
 import unittest
 from pathlib import Path
-from typing import Any, Dict
+from typing import Any
 
 import numpy
 
 import designs
 import jobs
 import support
-from labeltools.designs.layout import OwnLayout
+from labeltools.designs.svg_layout import SvgLayout
 from laying import documents_of
 from reading import fault_in
 from test_forms import dots_of_svg, rendered
@@ -105,7 +105,7 @@ class Drawings(unittest.TestCase):
 
     def test_a_drawing_ends_at_the_edge_of_its_label(self) -> None:
         """What a PDF of a sheet has beyond it would be on the next label."""
-        sheet: Dict[str, Any] = {"cell": (60.0, 40.0), "margin": (10.0, 10.0), "paper": None}
+        sheet: dict[str, Any] = {"cell": (60.0, 40.0), "margin": (10.0, 10.0), "paper": None}
         with tempfile.TemporaryDirectory() as folder:
             path = designs.written(
                 Path(folder, "own.svg"), f'<path d="M50 1H90V9H50Z"/>{designs.CODE}'
@@ -141,7 +141,7 @@ class Shipped(unittest.TestCase):
         read = 0
         for name, dpi in zip(designs.SHIPPED, itertools.cycle(DPIS)):
             layout = self.prepared(name, dpi).labels[0].layout
-            assert isinstance(layout, OwnLayout)
+            assert isinstance(layout, SvgLayout)
             dots = {form: printed(name, form, dpi) for form in ("pbm", "pdf", "svg", *DOTS)}
             for form in DOTS:
                 self.assertTrue(is_same(dots[form], dots["pbm"]), (name, dpi, form))
@@ -152,7 +152,7 @@ class Shipped(unittest.TestCase):
                 read += len(layout.symbols)
         self.assertEqual(read, 27)
 
-    def codes(self, layout: OwnLayout) -> list[str]:
+    def codes(self, layout: SvgLayout) -> list[str]:
         """The data of the symbols of a label, in their order."""
         return sorted(symbol.data.decode() for symbol in layout.symbols)
 

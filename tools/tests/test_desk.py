@@ -9,11 +9,12 @@ from unittest import mock
 
 import designs
 import support
-from desk import PIPE, TICKETS, Desk, entry, labels_in, printed
-from labeltools.printing.journal import Journal, escaped
+from desk import Desk, entry, labels_in, PIPE, printed, TICKETS
+from labeltools.lines.escapes import escaped
 from labeltools.lines.file import read_lines
-from labeltools.printing.network import NetworkPrinter
 from labeltools.printing.selection import ranges_in, selection_of
+from labeltools.sending.journal import Journal
+from labeltools.sending.network import NetworkPrinter
 from printers import Printer
 
 
@@ -106,7 +107,7 @@ class Network(Desk):
     def test_one_that_hangs(self) -> None:
         printer = Printer(stuck=3).start()
         short = functools.partial(NetworkPrinter, stuck=0.5)
-        with mock.patch("labeltools.printing.sending.NetworkPrinter", short):
+        with mock.patch("labeltools.sending.sender.NetworkPrinter", short):
             done = printed("--print", printer.name, "--dpi", "600")
         self.said(done, 1, "has taken nothing for 0 seconds: it took .* may be missing: look at")
 

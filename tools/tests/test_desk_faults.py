@@ -16,14 +16,14 @@ from typing import Any, Callable, Sequence
 from unittest import mock
 
 import support
-from desk import NULL, PIPE, ROLL, TICKETS, Desk, Program, entry, labels_in, on_paper, printed
-from labeltools.printing import journal as journals
-from labeltools.printing.journal import Journal
-from labeltools.common.messages import ToolError
-from labeltools.printing.network import NetworkPrinter
-from labeltools.printing.outlets import Unreachable
-from labeltools.common.text import Text
+from desk import Desk, entry, labels_in, NULL, on_paper, PIPE, printed, Program, ROLL, TICKETS
 from jobs import CUT
+from labeltools.common.messages import ToolError
+from labeltools.common.text import Text
+from labeltools.sending import journal as journals
+from labeltools.sending.journal import Journal
+from labeltools.sending.network import NetworkPrinter
+from labeltools.sending.outlets import Unreachable
 from printers import BROKEN, LABEL, Printer
 
 SEED = 20
@@ -65,7 +65,7 @@ class Printers(Desk):
         outlet = NetworkPrinter(printer.name, stuck=50.0)
         outlet.open().setsockopt(socket.SOL_SOCKET, socket.SO_SNDBUF, 4096)  # on their way at most
         clock = mock.Mock(monotonic=lambda: float(printer.pieces), sleep=time.sleep)
-        with mock.patch("labeltools.printing.network.time", clock):
+        with mock.patch("labeltools.sending.network.time", clock):
             outlet.send(b"\0" * 300_000)
             outlet.close()
         self.assertGreater(printer.pieces, 100)
@@ -300,7 +300,7 @@ class Editors(Desk):
     def test_a_journal_that_goes_while_a_label_goes_out(self) -> None:
         """The label was sent: nothing else may be said."""
         with mock.patch(
-            "labeltools.printing.outlets.send", lambda file, output: os.unlink(self.path)
+            "labeltools.sending.outlets.write_whole", lambda file, output: os.unlink(self.path)
         ):
             done = printed("--journal", self.path)
         self.said(done, 1, "it took 0 labels whole; line 1 may be on paper; it lacks line 1")
@@ -343,7 +343,7 @@ class Lanes(Desk):
         """It may keep the journal: the other one says so, and goes on when it is free."""
         Journal(self.path, "tcp://a")
         other = self.holding()
-        with mock.patch("labeltools.printing.journal.STUCK", 0.2):
+        with mock.patch("labeltools.sending.journal.STUCK", 0.2):
             done = printed("--journal", self.path)
         self.said(
             done, 1, "another run has held it for 0 seconds; is that process stopped[?] continue it"

@@ -14,12 +14,12 @@ from typing import Callable
 from unittest import mock
 
 import support
-from desk import PIPE, ROLL, TICKETS, Desk, entry, labels_in, open_files, printed, program
+from desk import Desk, entry, labels_in, open_files, PIPE, printed, program, ROLL, TICKETS
 from labeltools.common import files
-from labeltools.printing import network, outlets, stream
-from labeltools.printing.journal import Journal
-from labeltools.printing.network import NetworkPrinter
-from labeltools.printing.outlets import Broken
+from labeltools.sending import network, outlets, stream
+from labeltools.sending.journal import Journal
+from labeltools.sending.network import NetworkPrinter
+from labeltools.sending.outlets import Broken
 from printers import LABEL, Printer
 
 MANY_FILES = """
@@ -98,7 +98,7 @@ class Connections(Desk):
             if is_read:
                 outlet.close()
                 continue
-            with mock.patch("labeltools.printing.network.REGRET", float(support.SECONDS)):
+            with mock.patch("labeltools.sending.network.REGRET", float(support.SECONDS)):
                 self.assertRaises(Broken, outlet.close)
             late.join()
 
@@ -169,12 +169,18 @@ class Doubts(Desk):
         self.said(printed("--journal", self.path, "--only", "3-"), 0, "28 labels in .* already\n$")
 
     def test_a_line_that_was_cut_within_its_code(self) -> None:
-        """A label that there never was: what the message says ends it, on paper or not."""
+        """A label that there never was. Where the input has the whole code, nothing is said; else
+        what the message says ends it, on paper or not.
+        """
         kept = Path(self.waiting("tcp://a")).read_bytes().removesuffix(b"1\n")
+        Path(self.path).write_bytes(kept)
+        done = printed("--journal", self.path)
+        self.assertEqual((done.returncode, len(labels_in(done))), (0, 30), done.stderr)
+        self.assertNotIn(b"may be on paper", done.stderr)
         for change in ((b"sending", b"taken"), (kept.splitlines(keepends=True)[1] + b"\n", b"")):
             Path(self.path).write_bytes(kept)
             for _ in range(2):
-                done = printed("--journal", self.path)
+                done = printed("--journal", self.path, input=b"qr T1\n" + TICKETS)
                 self.said(done, 1, "qr T0000: may be on paper, .* taken in .* delete that line")
             text = Path(self.path).read_bytes()
             self.assertIn(change[0], text)
@@ -340,7 +346,7 @@ class Ends(Desk):
 
         with open(f"{self.folder}/labels", "wb") as labels:
             with mock.patch.multiple("os", fsync=sync, fdatasync=sync):
-                with mock.patch.multiple(outlets, standard_output=lambda: labels, send=send):
+                with mock.patch.multiple(outlets, standard_output=lambda: labels, write_whole=send):
                     done = printed("--journal", self.path, input=TICKETS[:20])
         self.assertEqual(done.returncode, 0, done.stderr)
         first = [Path(self.folder).name, "journal sending", "sent", "labels sending"]
@@ -423,7 +429,7 @@ class Streams(Desk):
         os.mkfifo(path)
         for error in (MemoryError(), ValueError("bad")):
             reads = [b"qr A\n", error]
-            with mock.patch("labeltools.printing.stream.BufferedReader") as reader:
+            with mock.patch("labeltools.sending.stream.BufferedReader") as reader:
                 reader.return_value.readline.side_effect = reads
                 lines = stream.Ahead(stream.Fifo(path))
                 self.assertEqual(lines.readline(), b"qr A\n")

@@ -10,16 +10,17 @@ import subprocess
 import tempfile
 import time
 import unittest
+from contextlib import suppress
 from pathlib import Path
-from typing import Any, Callable, Sequence, Tuple
+from typing import Any, Callable, Sequence
 from unittest import mock
 
 import desk
 import jobs
 import support
-from labeltools.lines.file import LineRecord, read_lines
-from labeltools.common.command_line import CommandTalk
 from labeltools.common.messages import ToolError
+from labeltools.common.process import CommandTalk
+from labeltools.lines.file import LineRecord, read_lines
 
 LABELS = [
     (
@@ -48,7 +49,7 @@ def takes(run: "subprocess.Popen[bytes]", number: int) -> bool:
     return bool(caught >> (number - 1) & 1)
 
 
-def said_after(form: str, labels: int) -> Tuple[str, ...]:
+def said_after(form: str, labels: int) -> tuple[str, ...]:
     """What may be said where a signal came after so many labels of LABELS: of a printer's form the
     row to go on from, or that all went out, unless nothing had begun, or all was done before.
     """
@@ -65,7 +66,7 @@ def said_after(form: str, labels: int) -> Tuple[str, ...]:
     return (message,) if labels else ("", message)
 
 
-def records_of(data: bytes) -> Tuple[LineRecord, ...]:
+def records_of(data: bytes) -> tuple[LineRecord, ...]:
     """The lines of a file."""
     return read_lines(data, "lines").records
 
@@ -89,7 +90,7 @@ class FileBetween(unittest.TestCase):
             LABELS[2:3], left_out=[7], left_out_count=1
         )
         lines = read_lines(first + b"qr plain\n" + second.replace(b"articles", b"b"), "lines")
-        found = [label.place for label in lines.records]
+        found = [label.origin for label in lines.records]
         self.assertEqual(
             found[:2] + found[3:], [(f"{name}.xlsx", "row", row) for name, row in ROWS]
         )
@@ -217,11 +218,14 @@ class Running(unittest.TestCase):
         own, terminal = os.openpty()
         with open(terminal, "w") as stream, mock.patch("sys.stderr", stream):
             for tool, total in (("label-table", 0), ("label-print", 3)):
-                with mock.patch("labeltools.common.command_line.QUIET", 0.0):
+                with mock.patch("labeltools.common.process.QUIET", 0.0):
                     talk = CommandTalk(tool)
                 for done in (0, 1, 2):
                     talk.go_on(done, total)
-        shown = os.read(own, 999)
+        shown = b""
+        with suppress(OSError):  # of a terminal that is closed
+            while part := os.read(own, 999):
+                shown += part
         self.assertEqual(shown, b"label-table: 1 rows\rlabel-print: 1 of 3 labels\r")
         os.close(own)
 
@@ -237,7 +241,7 @@ class Signals(desk.Desk):
         Path(self.lines).write_bytes(support.file_of(LABELS))
 
     def test_labels_are_whole(self) -> None:
-        forms: Sequence[Tuple[str, Callable[[bytes], Sequence[Any]]]] = (
+        forms: Sequence[tuple[str, Callable[[bytes], Sequence[Any]]]] = (
             ("zpl", jobs.dots_of_zpl),
             ("escpos", jobs.dots_of_escpos),
             ("pbm", jobs.pictures_of_pbm),
@@ -253,7 +257,7 @@ class Signals(desk.Desk):
                 seen.add(count)
             self.assertGreater(len(seen), 3, form)
 
-    def stopped(self, form: str, size: int, moment: int) -> Tuple[bytes, str]:
+    def stopped(self, form: str, size: int, moment: int) -> tuple[bytes, str]:
         """The output and the messages of a run that gets a signal after so many bytes of it were
         read, while it waits, and whose reader goes on then.
         """

@@ -10,14 +10,14 @@ from unittest import mock
 import designs
 import support
 from designs import Label
-from laying import documents_of
-from labeltools.layout.fitting import Fitted, Fitter, LEFT, Style
+from labeltools.drawing.pen import Pen
+from labeltools.layout.fitting import Fitted, Fitter, LEFT, Placed, Style
 from labeltools.layout.glyphs import LINE_END
 from labeltools.layout.layout import LaidOut
 from labeltools.layout.letters import FONT, Letters
+from labeltools.layout.medium import font_options, Medium
 from labeltools.layout.pango import UNIT
-from labeltools.drawing.own_pen import OwnPen
-from labeltools.drawing.pen import Medium, Placed, options_of
+from laying import documents_of
 
 WORDS = (
     "AVATAR Tafel Wörter Ägypten Ton Vase V. L'Y 12,5 Größe Übergröße Blatt kariert To Ty rot und "
@@ -66,7 +66,7 @@ class Glyphs(unittest.TestCase):
     def compare(self, is_dots: bool, texts: Sequence[tuple[str, Style, int]]) -> int:
         """Compares texts that are drawn as glyphs, and returns how many these are."""
         known = 0
-        by = Fitter(Letters(FONT), options_of(Medium(300, is_dots)), is_dots)
+        by = Fitter(Letters(FONT), font_options(Medium(300, is_dots)), is_dots)
         for text, style, width in texts:
             found = by.by_glyphs(text, style, width, 10 * style.size)
             if found is None:
@@ -101,7 +101,7 @@ class Glyphs(unittest.TestCase):
         self.assertGreater(self.compare(True, texts), 100)
 
     def test_letters_that_are_one_glyph_are_left_to_pango(self) -> None:
-        by = Fitter(Letters(FONT), options_of(Medium(300, False)), False)
+        by = Fitter(Letters(FONT), font_options(Medium(300, False)), False)
         style = Style(FONT, True, 120, 1, LEFT, 0.0, 0)
         for text in ("Profi", "Stoff", "Pfiff", "قلم", "鉛筆", "é̄", "a\u00adb"):
             self.assertIsNone(by.by_glyphs(text, style, 9000, 900), text)
@@ -150,9 +150,9 @@ class OwnLines(unittest.TestCase):
     def lines(self, design: Path, labels: Sequence[Label], form: str, dpi: int) -> list[list[str]]:
         """The lines of each text that has several, as they are drawn."""
         drawn = []
-        texts = OwnPen.texts
+        texts = Pen.texts
 
-        def noted(pen: OwnPen, item: LaidOut) -> Iterator[Placed]:
+        def noted(pen: Pen, item: LaidOut) -> Iterator[Placed]:
             for placed in texts(pen, item):
                 rows = lines_in(placed.text.layout) if placed.text.layout else []
                 drawn.extend([rows] * (len(rows) > 1))
@@ -160,7 +160,7 @@ class OwnLines(unittest.TestCase):
 
         size = designs.size_of(design.stem)
         found = designs.prepared(design, labels, paper=size, to=form, dpi=dpi)
-        with mock.patch.object(OwnPen, "texts", noted):
+        with mock.patch.object(Pen, "texts", noted):
             documents_of(found)
         wanted = [
             text.text.replace(LINE_END, "\n").split("\n")

@@ -14,9 +14,9 @@ import numpy
 
 import jobs
 import support
-from labeltools.layout.layout import LaidOut
 from labeltools.common.messages import Silence
-from labeltools.printing.job import PrintOptions, planned
+from labeltools.layout.layout import LaidOut
+from labeltools.printing.job import planned, PrintOptions
 from labeltools.printing.press import labels_of
 
 LINES = (

@@ -15,8 +15,8 @@ from unittest import mock
 
 import support
 from labeltools.common.text import Text
-from labeltools.lines.reasons import REASONS, reason_of
-from labeltools.window.hints import INSTEAD, Hints
+from labeltools.lines.reasons import reason_of, REASONS
+from labeltools.window.hints import Hints, INSTEAD
 
 LANGUAGES = sorted(path.stem for path in (support.TOOLS / "po").glob("*.po"))
 KEYWORDS = ("Text", "counted:1,2", "_", "ngettext:1,2")

@@ -6,17 +6,17 @@ import unittest
 from pathlib import Path
 
 import support
-from sheets import KINDS, Sheet
-from labeltools.sheets.options import FileOptions
-from labeltools.tables.guess import Guess, guess, guess_of
 from labeltools.common.messages import Silence
-from labeltools.tables.options import TableOptions
+from labeltools.sheets.file_options import FileOptions
+from labeltools.tables.guess import Guess, guess, guess_of
+from labeltools.tables.table_options import TableOptions
+from sheets import KINDS, Sheet
 
 # three lines a table: the names of the columns, a row, and what is guessed; what has a `?` is asked
 TABLES = """\
 Warengruppe;Artikel;GTIN;Preis EUR
 Brot;Roggenbrot;4006381333931;3,20
-?title ?title code price
+- title code price
 Référence;Désignation;Code-barres;Prix achat;Prix TTC;Qté stock
 JR1;Poupée Léa;4006381333931;2,10;5,90 €;40
 - title code - price -
@@ -35,21 +35,24 @@ Item no;Description;Barcode;Cost;Retail;On hand
 Codice articolo;Descrizione;EAN13;Prezzo acquisto;Prezzo vendita;Giacenza
 P4;Crema mani;4006381333931;4,00;€ 8,50;6
 - title code - price -
-Produkt;Strichcode;Alter Preis;Neuer Preis;Anzahl Etiketten
+Produkt;Strichcode;Normalpreis;Sonderpreis;Anzahl Etiketten
 Honig Linde;4006381333931;3,50 €;2,99 €;4
 title code ?price ?price copies
+Produkt;Strichcode;Alter Preis;Neuer Preis;Anzahl Etiketten
+Honig Linde;4006381333931;3,50 €;2,99 €;4
+title code - price copies
 Artikelnr;Omschrijving;EAN;Inkoopprijs;Adviesprijs
 A1;Drop zoet;4006381333931;1,00;1,95
 - title code ?price ?price
 Autor;Titel;ISBN;Ladenpreis
 K. Lenz;Herbstlicht;978-3-16-148410-0;24,00 €
-?title ?title code price
+- title code price
 PLU;Ware;Herkunft;Preis;Grundpreis;EAN
 4100;Birnen Conference;Italien;2,99;2,33 €/kg;4006381333931
-- ?title ?title price - code
+- title - price - code
 Inventarnummer;Gegenstand;Raum
 INV-00118;Drehstuhl;Büro
-code ?title ?title
+code title -
 Charge;Sorte;Datum
 L26-0011A;Apfelsaft;11.03.2026
 code title -
@@ -67,7 +70,7 @@ Zolltarifnr.;EAN;Art.-Nr.
 - code -
 Code article;Jeans;EAN;PU TTC
 V12 Denim;Bleu nuit;4006381333931;39,90
-?title ?title code ?price
+- title code ?price
 Bestellnummer;Artikelnummer;Ware
 4500012345;M-10023;Kugellager
 ?code ?code title
@@ -104,6 +107,42 @@ FR26-0099123;B14
 Etikett;Eingang;Spender;Ort
 C00812;03.11.2026;Anna;Ulm
 ?code - ?title ?title
+ID;SKU;GTIN, UPC, EAN, or ISBN;Name;Short description;Date sale price ends;Sale price;Regular price;Categories
+7;T-1;4006381333931;Shirt, blue;Soft and warm;;;19.95;Clothes
+- - code title - - - price -
+Handle;Title;Vendor;Option1 Name;Variant Price;Variant Compare At Price;Variant Barcode;Cost per item
+shirt-blue;Shirt, blue;Wave;Size;19.95;24.95;4006381333931;9.97
+- title - - price - code -
+Token;Item Name;Variation Name;Reporting Category;GTIN;Price;Online Sale Price;Current Quantity Main Street
+T4;Soap, lavender;Regular;Home;4006381333931;6.50;;2
+- title - - code price - -
+Name;Internal Reference;Barcode;Sales Price;Cost;Product Category/Display Name;Quantity On Hand
+Desk lamp;D-100;4006381333931;39.90;20.00;All / Lamps;12.00
+title - code price - - -
+handle;sku;name;product_category;supply_price;retail_price;tax_name;tax_value
+runner;4006381333931;Trail runner;Shoes;59.98;119.95;GST;0.10
+- code title - - price - -
+translations.DEFAULT.name;price.DEFAULT.net;price.DEFAULT.gross;purchasePrices.DEFAULT.gross;ean
+Bleistift HB;0.6723;0.80;0.40;4006381333931
+title - price - code
+SKU;EAN;Titel DE;Kurzbeschreibung DE;Kategorie1;Preis brutto;EK Preis netto;MwSt Satz;Gewicht in g
+B-0;4006381333931;Bleistift HB;sehr schön;Bürobedarf;0,80;0,32;19,00;12,50
+- code title - - price - - -
+Handle;Name;Category;Cost;Barcode;Price [Corner Cafe];In stock [Corner Cafe]
+beans;Espresso beans;Retail;5.10;4006381333931;8.50;12
+- title - - code price -
+Matchcode;Artikelnummer;Artikelbezeichnung;VK-Preis netto;VK-Preis brutto;EAN-Code
+BLEISTIFT;2000;Bleistift HB;0,67;0,80;4006381333931
+- - title - price code
+Inventarnummer;Seriennummer;Gerät;Raum;Anschaffungswert
+INV-01200;SN-20144;Notebook;2.14;899,00
+code - title - -
+Weingut;Wein;Preis/Fl.;Preis/l;EAN
+Keller;Riesling trocken;14,90;19,87;4006381333931
+- title price - code
+Item;Description;Price;Wholesale;Retail Price;Sale Price;Width;UPC
+Hammer, claw;Steel, 12 oz;24.49;12.10;0.00;0.00;8.25;4006381333931
+?title ?title ?price ?price ?price - - code
 """.splitlines()
 SYMBOLOGIES = {
     "Regal": "qr",
@@ -173,7 +212,7 @@ class Guesses(unittest.TestCase):
             path.write_text(f"Hofladen;\n{names}\n{row}\n")
             done = support.run("label-table", path)
             asked, _, proposed = support.messages(done)[-1].partition("; try ")
-            self.assertIn("--price may be 'Alter Preis', 'Neuer Preis'", asked)
+            self.assertIn("--price may be Normalpreis, Sonderpreis", asked)
             self.assertEqual((done.returncode, done.stdout), (2, b""))
             self.assertEqual(
                 proposed,
@@ -367,7 +406,10 @@ class Codes(unittest.TestCase):
             ("Langtext;Kurztext", [2]),
             ("Kurzbeschreibung;Beschreibung", [1]),
             ("Name;Long description", [1]),
-            ("Name;Description", []),
+            ("Name;Description", [1]),
+            ("Kurzbeschreibung;Titel", [2]),
+            ("Item;Description", []),
+            ("Nachname;Vorname", []),
             ("Bezeichnung 1;Bezeichnung 2", []),
             ("Aufdruck;Merkmal", []),
         ):
@@ -431,6 +473,28 @@ class Prices(unittest.TestCase):
             self.assertEqual(found.doubts, {"price": [1, 2, 3]}, cells)
             found = guess([codes, ["Netto", *LOW, "1,00"], ["Preis", *cells]], 1)
             self.assertEqual(found.doubts, {"price": [1, 2]}, cells)
+
+    def test_an_advised_price_yields_to_the_same_amounts(self) -> None:
+        codes = ["EAN", *CODES]
+        for advised in ("MSRP", "UVP"):
+            same = guess([codes, [advised, *HIGH], ["Price", *HIGH]], 1)
+            self.assertEqual(same.columns.get("price"), 2, advised)
+            other = guess([codes, [advised, *HIGH], ["Price", *LOW]], 1)
+            self.assertEqual(other.doubts, {"price": [1, 2]}, advised)
+
+    def test_what_a_stock_is_named_for_is_no_kind_of_price(self) -> None:
+        codes, price = ["EAN", *CODES], ["Price Corner Cafe", *HIGH]
+        for name, is_sure in (("Stock Corner Cafe", True), ("Stock", False), ("Cafe", False)):
+            found = guess([codes, price, [name, "1", "2", "3"]], 1)
+            self.assertEqual("price" in found.columns, is_sure, name)
+
+    def test_a_sale_of_one_article_is_asked_about(self) -> None:
+        """Programs write nothing, or zero, where there is none."""
+        codes, price = ["EAN", *CODES], ["Price", *HIGH]
+        for sales, is_sure in (("", True), ("0.00", True), ("9.99", False)):
+            found = guess([codes, price, ["Sale price", "0.00", sales, ""]], 1)
+            self.assertEqual("price" in found.columns, is_sure, sales)
+            self.assertEqual(found.doubts.get("price", [1, 2]), [1, 2])
 
     def test_a_column_that_is_named_as_prices_has_prices(self) -> None:
         for name in ("Tarif", "Preis", "Price"):

@@ -8,7 +8,7 @@ import tempfile
 import unittest
 from datetime import datetime, timedelta
 from pathlib import Path
-from typing import Any, Dict, List, Set
+from typing import Any
 
 import support
 
@@ -60,7 +60,7 @@ class Install(unittest.TestCase):
         path = f"{self.folder}/bin:{os.environ['PATH']}"
         environment = {**os.environ, "PATH": path, "PYTHONSAFEPATH": "1"}
         command = "printf 'EAN\\n4006381333931\\n' | label-table --code EAN | labels --height 1"
-        how: Dict[str, Any] = {"cwd": self.folder, "env": environment, "capture_output": True}
+        how: dict[str, Any] = {"cwd": self.folder, "env": environment, "capture_output": True}
         drawn = subprocess.run(["sh", "-c", command], **how)
         self.assertEqual((drawn.returncode, drawn.stderr, drawn.stdout[:8]), (0, b"", b"P1\n113 1"))
         for tool in TOOLS:
@@ -190,7 +190,7 @@ class Versions(InFolder):
         command_of("git", "init", "-q", cwd=self.folder)
         author = ("-c", "user.name=A", "-c", "user.email=a@example.com")
         released = re.findall(r"^## (\d\S+) \(", text("CHANGELOG.md"), re.M)[0]
-        versions: List[str] = []
+        versions: list[str] = []
         for day in (*["2026-11-28"] * 11, "2026-11-30", "2026-12-01", "2027-01-01"):
             date = f"{day}T01:00:00+0300"  # in Coordinated Universal Time it is the day before
             words = ("--allow-empty", "-m", f"Commit of {day}", "--date", date)
@@ -221,7 +221,7 @@ class Notices(unittest.TestCase):
         kit = Path(rt).resolve().parent.parent / "rattle"
         lines = re.findall(r"^(\w+)[^:\n]*:(.*)$", text("crates.txt"), re.M)
         own = {name for name, _ in lines}
-        crates: Set[str] = {word for _, words in lines for word in words.split()} - own
+        crates: set[str] = {word for _, words in lines for word in words.split()} - own
         for crate in [*crates]:
             code = [path.read_text(encoding="utf-8") for path in (kit / crate).rglob("src/**/*.rt")]
             taken = {name for it in code for name in re.findall(r"\b(\w+)::", it)}

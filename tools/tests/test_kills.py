@@ -10,7 +10,6 @@ import sys
 import time
 import unittest
 from pathlib import Path
-from typing import List, Set
 
 import desk
 import support
@@ -36,7 +35,7 @@ class Kills(desk.Desk):
         self.random = random.Random(SEED)
         self.kills = 0
 
-    def words(self, printer: Printer) -> List[str]:
+    def words(self, printer: Printer) -> list[str]:
         return [*desk.ROLL, "--journal", self.path, "--print", printer.name, self.lines]
 
     def lane(self, printer: Printer) -> int:
@@ -56,7 +55,7 @@ class Kills(desk.Desk):
         finally:
             os._exit(status)
 
-    def killed(self, printers: List[Printer]) -> None:
+    def killed(self, printers: list[Printer]) -> None:
         """Runs both lanes and kills them, one after the other, each at a random moment after some
         events of the journal: a machine that is slow gets as far as another one.
         """
@@ -102,15 +101,15 @@ class Kills(desk.Desk):
                 printer.off()
         self.assertGreater(doubtful, 0, "no kill met a label that was going out")
 
-    def missing(self, wanted: bytes, labels: List[bytes]) -> Set[int]:
+    def missing(self, wanted: bytes, labels: list[bytes]) -> set[int]:
         """The lines whose labels are on no paper."""
         found = LABEL.findall(wanted)
         return {line for line, label in enumerate(found, 1) if label not in labels}
 
 
-def named_lines(said: str) -> Set[int]:
+def named_lines(said: str) -> set[int]:
     """The lines that messages name as doubtful, such as `lines 1, 7-9`."""
-    found: Set[int] = set()
+    found: set[int] = set()
     for listed in re.findall(r"lines? ([0-9, -]+): may be on paper", said):
         for part in listed.split(", "):
             first, _, last = part.partition("-")

@@ -5,13 +5,13 @@ label does not shrink the others.
 import itertools
 import os
 import unittest
-from typing import Any, Dict, List, Sequence, Tuple
-
+from typing import Any, Sequence
 
 import support
-from labeltools.paper.area import ROLL_SMALLEST
+from labeltools.designs.framed import styled_text
 from labeltools.layout.letters import FONT, Letters
 from labeltools.lines.symbologies import SYMBOLOGIES
+from labeltools.paper.area import ROLL_SMALLEST
 from laying import laid_out, look
 
 EVERY = (
@@ -22,7 +22,7 @@ EVERY = (
     "qr,level=H https://example.com/7",
 )
 LONG = "Ein langer Name, der in zwei Zeilen steht und nicht in eine einzige passt"
-FULL: Dict[str, Any] = {
+FULL: dict[str, Any] = {
     "title": LONG,
     "text": ["Art. 7"],
     "price": "12,80 €",
@@ -71,7 +71,7 @@ class Boxes(unittest.TestCase):
     """Nothing touches another part, leaves its place or is cut off; each label is read."""
 
     def test_every_size_design_and_symbology(self) -> None:
-        mixes: Sequence[Dict[str, Any]] = (
+        mixes: Sequence[dict[str, Any]] = (
             {},
             {"title": LONG},
             PRICED,
@@ -108,7 +108,7 @@ class Boxes(unittest.TestCase):
 
     def test_hostile_texts(self) -> None:
         prices = ("0,80 €", "12.999,00 zł", "")
-        texts: Sequence[List[str]] = ([], ["rot"], ["rot\nblau", "gjpq ÅÇ"])
+        texts: Sequence[list[str]] = ([], ["rot"], ["rot\nblau", "gjpq ÅÇ"])
         fields = [
             {"title": title, "price": price, "text": text, "unit": "1 kg = 5,98 €" if text else ""}
             for title, price, text in itertools.product(HOSTILE, prices, texts)
@@ -148,7 +148,7 @@ class Frames(unittest.TestCase):
 
     def test_labels_that_do_not_fit_together(self) -> None:
         """Each has room by itself, and no one frame serves both."""
-        wide: Tuple[str, Dict[str, Any]] = ("code128 " + "x" * 28, {})
+        wide: tuple[str, dict[str, Any]] = ("code128 " + "x" * 28, {})
         many = ("code128 x", {"text": ["a"] * 6})
         laid = laid_out(support.file_of([wide, many]), (100.0, 24.0), 300)
         self.assertEqual(len(laid.labels), 2, laid.reasons)
@@ -278,7 +278,7 @@ class Words(unittest.TestCase):
         )
         cut = 0
         for item in laid.labels:
-            text, style = laid.pen.text_of("title", item.label, item.layout)
+            text, style = styled_text("title", item.label, item.layout, laid.pen.letters.family)
             width = item.layout.boxes["title"].width
             layout = laid.pen.fitter.laid_out(text, style, width, style.size)
             self.assertEqual(laid.pen.is_shortened(item), layout.is_ellipsized(), item.label.title)

@@ -3,16 +3,16 @@
 import re
 import subprocess
 import unittest
-from typing import Dict
 
 import support
 from labeltools.commands import label_print, label_table
 from labeltools.common import report
-from labeltools.designs import drawing
-from labeltools.layout import frames
+from labeltools.designs import svg_page
+from labeltools.layout import frame
 from labeltools.lines import file
 from labeltools.paper import area
-from labeltools.printing import job, network, stream
+from labeltools.printing import job
+from labeltools.sending import network, outlets, stream
 from labeltools.sheets import csv_table, workbook
 
 PAGES = sorted((support.TOP / "man").glob("label*.1"))
@@ -30,13 +30,13 @@ NUMBERS = (
     (r"sheets are drawn at (\d+) dpi", job.DRAWING_DPI),
     (r"on a port \((\d+)\)", network.PORT),
     (r"no connection is made in (\d+) seconds", network.CONNECT),
-    (r"takes nothing for (a minute)", {60.0: "a minute"}.get(network.STUCK)),
+    (r"takes nothing for (a minute)", {60.0: "a minute"}.get(outlets.STUCK)),
     (r"waits (\d+) seconds for that", network.FAREWELL),
     (r"(a twentieth) of a second", {0.05: "a twentieth"}.get(network.REGRET)),
     (r"within (\d+) seconds if the FIFO", stream.LOOK),
-    (r"drawing that takes (\d+) seconds", drawing.MOST_SECONDS),
-    (r"seconds or (\d+) MB", drawing.MOST_MEMORY // 1_000_000),
-    (r"the smallest \(([\d.]+)\)", frames.LEAST_TEXT),
+    (r"drawing that takes (\d+) seconds", svg_page.MOST_SECONDS),
+    (r"seconds or (\d+) MB", svg_page.MOST_MEMORY // 1_000_000),
+    (r"the smallest \(([\d.]+)\)", frame.LEAST_TEXT),
     (r"above 60 mm, at most ([\d.]+) mm", area.LARGEST_MODULE),
     (
         r"at most (nine) such messages",
@@ -95,7 +95,7 @@ class Pages(unittest.TestCase):
             "--symbology": "auto",
         }
         for module, least in ((label_print, 6), (label_table, 2)):
-            options = module.command_line()._actions
+            options = module.new_parser()._actions
             options = [it for it in options if it.option_strings and it.default]
             named |= {it.option_strings[0]: it.default for it in options}
             found = defaults_of(f"{module.TOOL}.1")
@@ -141,7 +141,7 @@ def shown(page: str) -> str:
     return re.sub(".\b", "", subprocess.run(command, stdout=subprocess.PIPE, text=True).stdout)
 
 
-def defaults_of(page: str) -> Dict[str, str]:
+def defaults_of(page: str) -> dict[str, str]:
     """The defaults that a page names, by option."""
     found = re.findall(r"^ {7}(--[a-z-]+).*\n {14}(.*)$", shown(page), re.M)
     claims = {option: NAMED.search(text) for option, text in found}

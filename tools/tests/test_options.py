@@ -9,7 +9,7 @@ import tempfile
 import unittest
 from dataclasses import replace
 from pathlib import Path
-from typing import Any, Dict, List, Optional, Tuple
+from typing import Any
 
 import numpy
 import zxingcpp
@@ -17,9 +17,8 @@ import zxingcpp
 import jobs
 import support
 from labeltools.drawing.dots import drawn_page
-from labeltools.layout.frames import Box
-from labeltools.designs.layout import symbols_of
 from labeltools.drawing.pen import bits_of
+from labeltools.paper.box import Box
 from laying import laid_out
 from reading import fault_in
 
@@ -40,7 +39,7 @@ def setUpModule() -> None:
     os.environ["LABELS"] = str(support.labels_program())
 
 
-def codes_in(job: bytes) -> List[str]:
+def codes_in(job: bytes) -> list[str]:
     """The data of the labels of a ZPL job."""
     formats = zxingcpp.EAN13 | zxingcpp.EAN8 | zxingcpp.UPCA | zxingcpp.Code128 | zxingcpp.QRCode
     read = (
@@ -50,9 +49,7 @@ def codes_in(job: bytes) -> List[str]:
 
 
 class Rows(unittest.TestCase):
-    def zpl(
-        self, *arguments: str, data: Optional[bytes] = None
-    ) -> Tuple[int, List[str], List[str]]:
+    def zpl(self, *arguments: str, data: bytes | None = None) -> tuple[int, list[str], list[str]]:
         """The status, the data of the labels and the messages for a roll of 60 by 40 mm."""
         data = support.file_of(SHELF) if data is None else data
         done = support.printed(
@@ -75,7 +72,7 @@ class Rows(unittest.TestCase):
         found = self.zpl(data=support.file_of(labels))
         self.assertEqual(found, (0, [codes[1], *3 * [codes[2]]], []))
         for copies in (-1, 10000, 1.5, "3", True, None):
-            fields: Dict[str, Any] = {"copies": copies}
+            fields: dict[str, Any] = {"copies": copies}
             found = self.zpl(data=support.file_of([(SHELF[0][0], fields)]))
             self.assertEqual(found[:2], (1, []), copies)
 
@@ -93,7 +90,7 @@ class Rows(unittest.TestCase):
         self.assertEqual(drawn[0][:-1], drawn[1][:-1][::-1])
 
     def test_refused_lines_and_rows_that_were_left_out(self) -> None:
-        labels: List[Tuple[str, Any]] = [
+        labels: list[tuple[str, Any]] = [
             SHELF[0],
             ("ean13 4006381333932", {}),
             ("code128 " + "x" * 81, {}),
@@ -123,7 +120,7 @@ class Rows(unittest.TestCase):
         )
 
     def test_a_handful_of_messages(self) -> None:
-        labels: List[Tuple[str, Any]] = [
+        labels: list[tuple[str, Any]] = [
             (f"code128 {'x' * (25 + number % 50)}", {}) for number in range(1500)
         ]
         labels += [(f"ean8 735135{number % 100:02}", {}) for number in range(1000)]
@@ -165,7 +162,7 @@ class Rows(unittest.TestCase):
 class Cells(unittest.TestCase):
     GRID = ("--columns", "2", "--rows", "2", "--cell", "60x40", "--to", "pbm", "--dpi", "150")
 
-    def pages(self, *arguments: str) -> List[jobs.Dots]:
+    def pages(self, *arguments: str) -> list[jobs.Dots]:
         """The pages of a grid."""
         done = support.printed(*self.GRID, *arguments, input=support.file_of(SHELF[:3]))
         self.assertEqual(done.returncode, 0, done.stderr)
@@ -368,7 +365,8 @@ class ReadBack(unittest.TestCase):
     def test_a_wrong_label(self) -> None:
         laid = laid_out(b"ean13 400638133393\nean13 501234567890\n", (60.0, 40.0), 300)
         first, second = laid.labels
-        wrong = replace(first, label=replace(first.label, modules=second.label.modules))
+        record = first.label.record._replace(modules=second.label.modules)
+        wrong = replace(first, label=replace(first.label, record=record))
         self.assertIsNone(laid.fault(first))
         self.assertEqual(laid.fault(wrong), "as drawn it is read as b'5012345678900'")
 
@@ -381,7 +379,7 @@ class ReadBack(unittest.TestCase):
         area = laid.prepared.laid_out.area
         picture = drawn_page((area.width, area.height), laid.pen, [(item, (0, 0))])
         bars = item.layout.boxes["bars"]
-        symbols = symbols_of(item, Box(0, 0, area.width, area.height))
+        symbols = laid.pen.design.symbols(item, Box(0, 0, area.width, area.height))
         self.assertIsNone(fault_in([bits_of(row) for row in picture.rows], symbols))
         rows = list(picture.rows)
         for top in range(bars.top, bars.top + bars.height // 3):

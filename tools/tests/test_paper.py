@@ -12,7 +12,7 @@ import subprocess
 import tempfile
 import unittest
 from pathlib import Path
-from typing import Any, Iterator, NamedTuple, Optional, Sequence
+from typing import Any, Iterator, NamedTuple, Sequence
 
 import numpy
 import zxingcpp
@@ -121,7 +121,7 @@ def modules_of(line: str) -> jobs.Dots:
     return picture
 
 
-def bars_in(dots: jobs.Dots, line: str) -> Optional[Box]:
+def bars_in(dots: jobs.Dots, line: str) -> Box | None:
     """Where the code of a line is in dots, each row of it; None where it is nowhere."""
     modules = modules_of(line)
     rows = [*rows_that_differ(dots)]
@@ -143,7 +143,7 @@ def rows_that_differ(dots: jobs.Dots) -> Iterator[tuple[int, bytes]]:
             yield top, row.tobytes()
 
 
-def box_of(dots: jobs.Dots, wide: jobs.Dots, module: int, top: int, left: int) -> Optional[Box]:
+def box_of(dots: jobs.Dots, wide: jobs.Dots, module: int, top: int, left: int) -> Box | None:
     """Where a code is whose middle row is first seen at a place; each of several rows is a module
     high. None where it is not whole.
     """
@@ -364,7 +364,7 @@ class Said(unittest.TestCase):
 class Forms(unittest.TestCase):
     """PDF, PNG, PBM, ZPL and ESC/POS have the same dots."""
 
-    def boxes(self, labels: Sequence[Label], dpi: int) -> list[dict[str, Optional[Box]]]:
+    def boxes(self, labels: Sequence[Label], dpi: int) -> list[dict[str, Box | None]]:
         """Where the bars of each label are in some forms."""
         arguments = roll((80.0, 40.0), dpi)
         pdf = printed(labels, *arguments)

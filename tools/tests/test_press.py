@@ -7,12 +7,12 @@ from pathlib import Path
 from typing import Any
 
 import support
-from labeltools.common.messages import Cancelled, Place, Silence
-from labeltools.printing.job import PrintOptions, planned
-from labeltools.printing.press import labels_of
-from labeltools.printing.sending import save_to
-from laying import documents_of
+from labeltools.common.messages import Cancelled, Origin, Silence
 from labeltools.common.text import Text
+from labeltools.printing.job import planned, PrintOptions
+from labeltools.printing.press import labels_of
+from labeltools.sending.sender import save_to
+from laying import documents_of
 
 LABELS: list[tuple[str, dict[str, Any]]] = [
     (f"ean13 {support.ean13(400638000000 + number)}", {"title": f"Artikel {number}"})
@@ -73,7 +73,7 @@ class Pages(unittest.TestCase):
         data = support.file_of([LABELS[0], ("ean13 4006381333932", {})])
         found = labels_of(self.job, "lines", data, Silence())
         (one,) = found.left_out
-        self.assertEqual(one.place, Place("articles.xlsx", "row", 3))
+        self.assertEqual(one.origin, Origin("articles.xlsx", "row", 3))
         self.assertEqual((one.data, one.reason), ("4006381333932", "check digit is 2, should be 1"))
 
     def test_work_that_is_stopped_leaves_no_file(self) -> None:

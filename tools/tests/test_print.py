@@ -10,7 +10,7 @@ import unicodedata
 import unittest
 from concurrent.futures import ThreadPoolExecutor
 from pathlib import Path
-from typing import Any, Dict, List, Sequence, Tuple
+from typing import Any, Sequence
 
 import numpy
 import zxingcpp
@@ -51,7 +51,7 @@ def read(dots: jobs.Dots) -> bytes:
     return bytes(found.bytes) if found else b""
 
 
-def shelf(count: int, prices: Sequence[str] = PRICES) -> List[Tuple[str, Dict[str, object]]]:
+def shelf(count: int, prices: Sequence[str] = PRICES) -> list[tuple[str, dict[str, object]]]:
     """Lines with titles and prices, each code once."""
     return [
         (
@@ -62,7 +62,7 @@ def shelf(count: int, prices: Sequence[str] = PRICES) -> List[Tuple[str, Dict[st
     ]
 
 
-def codes_of(labels: Sequence[Tuple[str, object]]) -> List[str]:
+def codes_of(labels: Sequence[tuple[str, object]]) -> list[str]:
     """The data of lines."""
     return [line.partition(" ")[2] for line, _ in labels]
 
@@ -100,7 +100,7 @@ def rendered(pdf: Path, renderer: str, dpi: int) -> jobs.Dots:
     return jobs.pictures_of_pbm(out.with_suffix(".pbm").read_bytes())[0]
 
 
-def cells_of(stock: str, dots: jobs.Dots, dpi: int) -> List[jobs.Dots]:
+def cells_of(stock: str, dots: jobs.Dots, dpi: int) -> list[jobs.Dots]:
     """The cells of a sheet."""
     sheet, dot = stock_sheet(stock), 25.4 / dpi
     return [
@@ -123,7 +123,7 @@ class Sheets(unittest.TestCase):
                 wanted = codes_of(shelf(21 if run[0] == "Avery L7160" else 24))
                 self.assertEqual(found, [wanted, [f"EAN-13:{code}" for code in wanted]], run)
 
-    def read_sheet(self, stock: str, renderer: str, dpi: int) -> List[List[str]]:
+    def read_sheet(self, stock: str, renderer: str, dpi: int) -> list[list[str]]:
         """What zxing-cpp and zbar read in the cells of a sheet, in their order."""
         cells = cells_of(stock, rendered(sheet_pdf(stock), renderer, dpi), dpi)
         paths = []
@@ -217,7 +217,7 @@ def bare(text: str) -> str:
 
 
 class Printers(unittest.TestCase):
-    LINES: Dict[str, List[Tuple[str, Any]]] = {
+    LINES: dict[str, list[tuple[str, Any]]] = {
         "60x40": shelf(9),
         "50x25": shelf(9),
         "40x30": [
@@ -227,7 +227,7 @@ class Printers(unittest.TestCase):
         ],
     }
 
-    def job(self, paper: str, dpi: int, form: str) -> Tuple[List[str], bytes]:
+    def job(self, paper: str, dpi: int, form: str) -> tuple[list[str], bytes]:
         """The data of the labels for a paper, and the job."""
         labels = self.LINES[paper]
         wide = ("--dots", "9999") if form == "escpos" else ()

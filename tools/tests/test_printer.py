@@ -1,26 +1,42 @@
 """label-print and CUPS: the line to type, --print, and the edges of a page."""
 
+import fcntl
+import hashlib
 import os
 import re
+import signal
 import subprocess
 import tempfile
+import time
 import unittest
+from desk import unread
 from pathlib import Path
-from typing import Any, Callable, Dict, Iterator, Sequence, Tuple
+from typing import Any, Callable, Iterator, Sequence
 from unittest import mock
 
-import jobs
 import numpy
-import support
+
 import drivers
-from labeltools.lines.symbologies import SYMBOLOGIES
-from labeltools.printing.job import PrintOptions, planned
-from labeltools.printing.cups import Queue, SentJob, dpi_of, lp_line, media_of, queue_of, queues
+import jobs
+import support
 from drivers import Bars, bars_of, shift_of, with_end
+from jobs import Dots, JobError
+from labeltools.common.messages import ToolError
+from labeltools.lines.symbologies import SYMBOLOGIES
+from labeltools.printing.job import planned, PrintOptions
+from labeltools.sending.cups import (
+    dots_of,
+    dpi_of,
+    lp_line,
+    media_of,
+    Queue,
+    queue_of,
+    queues,
+    SentJob,
+)
 from laying import laid_out, look
 from printers import Printer
-from jobs import Dots, JobError
-from scheduler import Scheduler, raster_of
+from scheduler import raster_of, Scheduler
 
 DPI = (203, 300, 360, 600)
 Pages = Callable[[bytes], Iterator[Dots]]
@@ -66,6 +82,12 @@ class Driver:
     def emitString(self, section: int, least: float) -> str:
         return self.code[section] if section < len(self.code) else ""
 
+    def findOption(self, name: str) -> None:
+        return None
+
+    def findAttr(self, name: str) -> None:
+        return None
+
 
 def told(across: int, down: int) -> str:
     """The code that sets a resolution."""
@@ -100,7 +122,7 @@ class Drivers(unittest.TestCase):
             ([told(300, 600)], 300),
             ([told(360, 600)], 0),
         ):
-            self.assertEqual(dpi_of(Driver(*code)), dots, code)
+            self.assertEqual(dpi_of(dots_of(Driver(*code))), dots, code)
 
 
 class Symbologies(unittest.TestCase):
@@ -184,7 +206,7 @@ class Queues(unittest.TestCase):
     # 6 mm at both ends are not printed
     DYMO = ("--paper", "35.63x88.9", "--turn", "--edge", "1.5,6,1.5,6")
     # drivers of CUPS: what they are tried with, and what turns their language back into pages
-    LANGUAGES: Dict[str, Tuple[Sequence[str], Pages, Sequence[int]]] = {
+    LANGUAGES: dict[str, tuple[Sequence[str], Pages, Sequence[int]]] = {
         "zebra": (ROLL, drivers.pages_of_zpl, (203, 300, 600)),
         "zebraep2": (ROLL, drivers.pages_of_epl, (203, 300)),
         "dymo": (DYMO, drivers.pages_of_dymo, (300,)),
@@ -221,7 +243,10 @@ class Queues(unittest.TestCase):
             queue = queue_of(name)
             found = queue.dpi, queue.dpi_for(True), queue.dpi_for(False)
             self.assertEqual(found, (dpi, on_sheets, on_rolls), name)
-            if on_sheets == 600:
+            if name == "needles":
+                with self.assertRaisesRegex(ToolError, "prints 240 by 216 dots an inch"):
+                    queue.options(sheet)
+            elif on_sheets == 600:
                 self.assertEqual(queue.options(sheet).get("Resolution"), word, name)
                 self.assertEqual(bool(queue.doubt(sheet)), not dpi, name)
 
@@ -234,7 +259,7 @@ class Queues(unittest.TestCase):
         """But of queues of which nothing is known: what these print has a remark."""
         found = {dpi: [*bars_of([*self.SHEET, "--dpi", f"{dpi}"], FIVE)] for dpi in DPI}
         for name, (own, dpi, _, _) in self.SAID.items():
-            if name in ("generpcl", "zebra", "raw"):
+            if name in ("generpcl", "zebra", "raw", "needles"):
                 continue
             with self.subTest(queue=name):
                 done = self.printed(*self.SHEET, "--print", name)
@@ -280,7 +305,8 @@ class Queues(unittest.TestCase):
             subprocess.run([*command, "plain"], check=True)
             return self.printed(*self.SHEET, "--print", "plain").stderr.decode()
 
-        self.assertRegex(printed("cupsdisable"), "at 600 dpi: job [0-9]+; plain: it is paused\n$")
+        said = "at 600 dpi: job [0-9]+; it waits in the queue: plain: it is paused\n$"
+        self.assertRegex(printed("cupsdisable"), said)
         sent = SentJob("plain", int(re.findall("job ([0-9]+)", printed("cupsdisable"))[0]))
         self.assertEqual(sent.state().trouble, "plain: it is paused")
         subprocess.run(["cancel", "-a", "plain"], check=True)
@@ -303,6 +329,121 @@ class Queues(unittest.TestCase):
             self.assertEqual(done.returncode, status, words)
             self.assertIn(said, done.stderr.decode(), words)
 
+    def add(self, *queue: str) -> None:
+        """Adds a queue for this test alone."""
+        self.scheduler.add(*queue)
+        self.addCleanup(self.scheduler.remove, queue[0])
+
+    DEFAULTS = (
+        *("number-up-default=4", "mirror-default=true", "page-border-default=single"),
+        *("fit-to-page-default=true", "print-scaling-default=fit", "copies-default=2"),
+        *("orientation-requested-default=4", "sides-default=two-sided-long-edge"),
+        *("job-sheets-default=standard,standard", "Duplex=DuplexNoTumble"),
+    )
+
+    def test_the_defaults_of_a_queue_touch_no_label(self) -> None:
+        """Its pages are those of a queue without any, and as many; so for a printer's language."""
+        for name in ("as-it-is", "changed"):
+            self.add(name, "edged")
+        self.scheduler.change("changed", *self.DEFAULTS)
+        for words in (self.SHEET, (*self.ROLL, "--edge", "4.3")):
+            found = []
+            for name in ("as-it-is", "changed"):
+                done = self.printed(*words, "--print", name)
+                self.assertIn(b"CUPS reports it as printed", done.stderr)
+                found.append(self.scheduler.printed(name))
+            self.assertEqual(*map(pages_in, found))
+        roll = (*self.ROLL, "--to", "zpl")
+        plain = self.printed(*roll, "--dpi", "203").stdout
+        label_printer = Printer().start()
+        self.addCleanup(label_printer.off)
+        self.add("banners", "zebra", label_printer.name.replace("tcp", "socket"))
+        self.scheduler.change("banners", "job-sheets-default=standard,none", "copies-default=2")
+        self.assertEqual(self.printed(*roll, "--print", "banners").returncode, 0)
+        label_printer.wait(5)
+        self.assertEqual(b"".join(label_printer.labels), plain)
+
+    def test_paper_that_a_printer_has_not(self) -> None:
+        self.add("any-size", "edged")
+        turned = ("--paper", "88.9x35.63")
+        grid = ("--cell", "50x30", "--columns", "2", "--rows", "2", "--page", "105x62")
+        for queue, words, said in (
+            (
+                "plain",
+                self.ROLL,
+                "no paper of 60 by 40 mm: the nearest that it has is 209.9 by 297",
+            ),
+            ("plain", grid, "for labels on sheets give --stock, or --cell with --columns"),
+            ("file-dymo", self.SHEET, "file-dymo has no paper of 210 by 297 mm: the nearest"),
+            ("file-dymo", turned, "it has 35.63 by 88.9 mm: give the sides in this order"),
+            ("any-size", ("--paper", "20x20"), "no paper of 20 by 20 mm"),
+            ("any-size", self.ROLL, "5 labels would be cut; give --edge 4.3,4.3,4.3,4.3"),
+            ("plain", (*self.ROLL, "--to", "zpl"), "plain is an office printer: it does not under"),
+        ):
+            with self.subTest(queue=queue, words=words):
+                done = self.printed(*words, "--print", queue)
+                self.assertEqual(done.returncode, 2)
+                self.assertIn(said, done.stderr.decode())
+                self.assertNotIn(b"job", done.stderr)
+        self.assertEqual(
+            self.printed(*self.ROLL, "--edge", "4.3", "--print", "any-size").stdout, b""
+        )
+        words = (*self.ROLL, "--edge", "4.3", "--dpi", "300")
+        (_, page) = raster_of(self.scheduler.printed("any-size"))
+        bars = next(bars_of(words, FIVE))
+        self.assertIsNotNone(shift_of(page, bars))
+
+    def test_what_is_said_to_be_printed_was_printed(self) -> None:
+        """A filter that fails, a printer that gives a job up, and a queue that holds its jobs."""
+        self.add("broken", "broken")
+        self.add("given-up", "zebra", "socket://127.0.0.1:1/?contimeout=1")
+        self.scheduler.change("given-up", "printer-error-policy=abort-job")
+        self.add("holds", "plain")
+        self.scheduler.change("holds", "job-hold-until-default=indefinite")
+        for name, status, said in (
+            ("plain", 0, "CUPS reports it as printed"),
+            ("broken", 1, "it waits in the queue: .*Filter failed"),
+            ("given-up", 1, "it was not printed: CUPS gave up job [0-9]+"),
+            ("holds", 1, "it waits in the queue: holds: job [0-9]+ is held"),
+        ):
+            with self.subTest(queue=name):
+                paper = self.ROLL if name == "given-up" else self.SHEET
+                done = self.printed(*paper, "--print", name)
+                self.assertRegex(done.stderr.decode(), f"5 labels sent to {name}, .*; ({said})")
+                self.assertEqual(done.returncode, status)
+                subprocess.run(["cancel", "-a", name], capture_output=True)
+
+    def test_a_signal_ends_only_the_watching(self) -> None:
+        self.add("away", "zebra", "socket://127.0.0.1:1")
+        words = (*self.ROLL, "--print", "away")
+        with subprocess.Popen(
+            [str(support.TOOLS / "label-print"), *words],
+            stdin=subprocess.PIPE,
+            stderr=subprocess.PIPE,
+            env=support.environment(),
+        ) as run:
+            assert run.stdin and run.stderr
+            run.stdin.write(FIVE)
+            run.stdin.close()
+            jobs = ("lpstat", "-p", "away")
+
+            def found() -> bytes:
+                return subprocess.run(jobs, capture_output=True).stdout
+
+            self.scheduler.wait(lambda: b"now printing" in found())
+            time.sleep(1)  # it has the number of the job
+            run.send_signal(signal.SIGINT)
+            said = run.stderr.read().decode()
+        goes_on = "5 labels sent to away, .* job ([0-9]+); it goes on: cancel \\1 ends it"
+        self.assertRegex(said, goes_on)
+        self.assertEqual(run.returncode, -signal.SIGINT)
+        self.assertIn(b"now printing", found())
+        with mock.patch("labeltools.sending.cups.IDLE", 0.5):
+            done = self.printed(*words)
+        self.assertRegex(done.stderr.decode(), "it waits in the queue")
+        self.assertEqual(done.returncode, 1)
+        subprocess.run(["cancel", "-a", "away"], check=True)
+
     def test_no_scheduler_and_no_library(self) -> None:
         words = ("--paper", "60x40", "--print", "zebra")
         done = support.run("label-print", *words, input=FIVE, CUPS_SERVER="127.0.0.1:1")
@@ -314,6 +455,11 @@ class Queues(unittest.TestCase):
             done = support.run("label-print", *words, input=FIVE, PYTHONPATH=path)
         self.assertEqual(done.returncode, 1)
         self.assertIn(b"apt-get install python3-cups", done.stderr)
+
+
+def pages_in(job: bytes) -> tuple[int, str]:
+    """How many pages of raster a job has, and a mark of the dots of the first one."""
+    return job.count(job[:4]), hashlib.sha256(raster_of(job)[1].tobytes()).hexdigest()
 
 
 def larger(bars: Bars, across: int, down: int) -> Bars:
@@ -340,6 +486,58 @@ class Devices(unittest.TestCase):
                 done = support.printed(*words, "--journal", f"{folder}/journal", input=LINES)
                 self.assertIn(f"label-print: {taken} labels taken by", support.messages(done)[-1])
             self.assertEqual(device.read_bytes(), plain * 2)
+
+    def begun(self, device: Path) -> "subprocess.Popen[bytes]":
+        """Starts to print on a device; it ends with the test."""
+        words = [str(support.TOOLS / "label-print"), *self.WORDS, "--print", str(device)]
+        pipes: dict[str, Any] = {"stdin": subprocess.PIPE, "stderr": subprocess.PIPE}
+        run = subprocess.Popen(words, env=support.environment(), **pipes)
+        self.addCleanup(run.communicate)
+        self.addCleanup(run.kill)
+        assert run.stdin
+        run.stdin.write(LINES)
+        run.stdin.close()
+        run.stdin = None
+        return run
+
+    def test_a_pipe_that_nobody_reads(self) -> None:
+        with tempfile.TemporaryDirectory() as folder:
+            device = Path(folder, "lp0")
+            os.mkfifo(device)
+            done = support.printed(*self.WORDS, "--print", str(device), input=LINES)
+            self.assertEqual(done.returncode, 1)
+            self.assertIn("lp0: no program reads it", done.stderr.decode())
+
+    def test_a_printer_that_takes_nothing_is_waited_for(self) -> None:
+        """For a minute, of which it is told; once somebody stops the work only for moments. The
+        label that is on its way is in doubt.
+        """
+        with tempfile.TemporaryDirectory() as folder:
+            device = Path(folder, "lp0")
+            os.mkfifo(device)
+            reader = os.open(device, os.O_RDONLY | os.O_NONBLOCK)
+            self.addCleanup(os.close, reader)
+            fcntl.fcntl(reader, fcntl.F_SETPIPE_SZ, 4096)
+            with mock.patch("labeltools.sending.outlets.QUIET", 0.1), mock.patch(
+                "labeltools.sending.outlets.Device.__init__.__defaults__", (0.5,)
+            ):
+                done = support.printed(*self.WORDS, "--print", str(device), input=LINES)
+            said = done.stderr.decode()
+            self.assertIn("lp0: the printer takes nothing: it is waited for; is it switched", said)
+            self.assertIn(
+                "has taken nothing for 0 seconds: it took 0 labels whole; row 2 may", said
+            )
+            self.assertEqual(done.returncode, 1)
+            os.read(reader, 65536)
+            run = self.begun(device)
+            while not unread(reader):
+                self.assertIsNone(run.poll())  # it is still to begin with a label
+                time.sleep(0.01)
+            run.terminate()
+            _, error = run.communicate(timeout=support.SECONDS)
+            self.assertIn("lp0: stopped while the printer took nothing", error.decode())
+            self.assertIn("row 2 may be on paper", error.decode())
+            self.assertEqual(run.returncode, -signal.SIGTERM)
 
     def test_what_is_not_there_or_full(self) -> None:
         with tempfile.TemporaryDirectory() as folder:
@@ -490,19 +688,20 @@ class Hostile(unittest.TestCase):
 
     def test_another_version_of_the_library(self) -> None:
         """Later ones of the same major version are taken."""
-        from labeltools.lines import engine
         from labeltools.common.messages import ToolError
+from labeltools.lines.symbologies import SYMBOLOGIES
+        from labeltools.lines import library
 
-        module = engine.library()
+        module = library.labels_library()
         for version, is_taken in (("1.0.0", True), ("1.9.3", True), ("2.0.0", False)):
-            engine.library.cache_clear()
+            library.labels_library.cache_clear()
             with mock.patch.object(module, "version", return_value=version):
                 if is_taken:
-                    self.assertIs(engine.library(), module)
+                    self.assertIs(library.labels_library(), module)
                 else:
                     with self.assertRaisesRegex(ToolError, "liblabels is version 2.0.0, and"):
-                        engine.library()
-        engine.library.cache_clear()
+                        library.labels_library()
+        library.labels_library.cache_clear()
 
 
 if __name__ == "__main__":

@@ -14,11 +14,11 @@ import termios
 import time
 import unittest
 from pathlib import Path
-from typing import List, Sequence, Tuple
+from typing import Sequence
 
 import support
 
-Ran = Tuple[int, bytes, bytes]
+Ran = tuple[int, bytes, bytes]
 
 EAN8 = "000000010101110110111101011000100110010101010000101001110100001010001001010000000"
 
@@ -137,13 +137,13 @@ def text(rows: Sequence[str]) -> bytes:
     return ("\n".join(rows).replace("0", "  ").replace("1", "##") + "\n\n").encode()
 
 
-def scaled(rows: Sequence[str], scale: int) -> List[str]:
+def scaled(rows: Sequence[str], scale: int) -> list[str]:
     """Rows of `scale` by `scale` pixels a module."""
     wide = ["".join(scale * pixel for pixel in row) for row in rows]
     return [row for row in wide for _ in range(scale)]
 
 
-def rows_of(picture: bytes) -> List[str]:
+def rows_of(picture: bytes) -> list[str]:
     """The rows of pixels of one plain PBM."""
     mark, size, *lines = picture.decode().split("\n")
     width, height = map(int, size.split())

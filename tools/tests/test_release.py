@@ -7,10 +7,9 @@ import os
 import tempfile
 import unittest
 from pathlib import Path
-from typing import Dict, Set
 
 import support
-from test_install import PROVED_ARM64, command_of, make
+from test_install import command_of, make, PROVED_ARM64
 
 MOST_OF_LABELS = 250_000  # bytes of the program's package
 # Each package, and the processors that it is for.
@@ -26,7 +25,7 @@ PACKAGES = {
 OF_THE_WINDOW = ("share/applications/", "share/metainfo/", "share/icons/", "bin/label-window")
 
 
-def sums_of(folder: Path) -> Dict[str, str]:
+def sums_of(folder: Path) -> dict[str, str]:
     """The checksum of each file of a folder."""
     return {path.name: hashlib.sha256(path.read_bytes()).hexdigest() for path in folder.iterdir()}
 
@@ -75,7 +74,7 @@ class Release(unittest.TestCase):
         said = {line.split("  ./")[1]: line.split("  ./")[0] for line in lines[:-1]}
         self.assertEqual({**said, "SHA256SUMS": ""}, {**sums_of(self.release), "SHA256SUMS": ""})
 
-    def packages(self) -> Dict[str, Set[str]]:
+    def packages(self) -> dict[str, set[str]]:
         """The files of each package for this processor."""
         found = {}
         for path in self.release.glob("*.deb"):

@@ -9,10 +9,10 @@ import unittest
 from unittest import mock
 
 import support
-from labeltools.lines.file import Label, first_remark, label_lines, last_remark, read_lines
-from labeltools.common.messages import Place, ToolError, write_message
-from labeltools.lines.symbologies import SYMBOLOGIES
+from labeltools.common.messages import Origin, ToolError, write_message
 from labeltools.common.text import Text
+from labeltools.lines.file import first_remark, Label, label_lines, last_remark, read_lines
+from labeltools.lines.symbologies import SYMBOLOGIES
 
 # the keys of settings of each symbology, as the filter's own source has them
 KEY_OF = support.TOP / "crates/labelcore/src/settings.rt"
@@ -90,8 +90,8 @@ class LinesFile(unittest.TestCase):
     def test_what_is_written_is_read(self) -> None:
         found = read_lines(self.file(), "x")
         self.assertEqual(tuple(record.label for record in found.records), self.LABELS)
-        places = [record.place for record in found.records]
-        self.assertEqual(places, [Place("articles.xlsx", "row", row) for row in (2, 4)])
+        places = [record.origin for record in found.records]
+        self.assertEqual(places, [Origin("articles.xlsx", "row", row) for row in (2, 4)])
         data = [(record.number, record.symbology, record.data) for record in found.records]
         self.assertEqual(data, [(3, "ean13", CODE.encode()), (5, "qr", b"a\\nb")])
         self.assertEqual([str(place) for place in found.left_out], ["row 3", "row 5"])
@@ -101,7 +101,7 @@ class LinesFile(unittest.TestCase):
     def test_lines_of_no_table(self) -> None:
         found = read_lines(b"# a remark\nqr a\r\n\nean8 7351353\n", "x")
         self.assertEqual([record.data for record in found.records], [b"a\r", b"73513537"])
-        self.assertEqual([str(record.place) for record in found.records], ["line 2", "line 4"])
+        self.assertEqual([str(record.origin) for record in found.records], ["line 2", "line 4"])
 
     def refused(self, data: bytes) -> str:
         with self.assertRaises(ToolError) as caught:

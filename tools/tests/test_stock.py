@@ -4,11 +4,10 @@ import tempfile
 import unittest
 import unittest.mock
 from pathlib import Path
-from typing import Dict
 
 import support
-from labeltools.paper import stock
 from labeltools.common.messages import ToolError
+from labeltools.paper import stock
 from labeltools.paper.stock import Grid
 
 
@@ -35,9 +34,9 @@ class Stock(unittest.TestCase):
             done = support.printed("--stock", name, input=b"ean8 7351353\n")
             self.assertEqual((done.returncode, done.stdout), (2, b""))
             self.assertIn(reason, done.stderr.decode(), name)
-        names: Dict[str, set[str]] = {}
+        names: dict[str, set[str]] = {}
         for brand, part in stock.parts():
-            names.setdefault(stock.plain(part), set()).add(brand)
+            names.setdefault(stock.bare_name(part), set()).add(brand)
         shared = next(name for name, brands in names.items() if len(brands) > 1)
         with self.assertRaisesRegex(Exception, "several makers have it; name one of "):
             stock.stock_sheet(shared)
@@ -59,18 +58,18 @@ class Stock(unittest.TestCase):
         self.assertAlmostEqual(stock.stock_sheet("Herma 4464").cell[0], 199 / 72 * 25.4)
         element = stock.parts()["Connect", "KF10647"]
         layout = next(element.iterfind(".//{*}Layout"))
-        self.assertLess(stock.size_of(layout, "x0", "y0")[0], 1e-9)
+        self.assertLess(stock.lengths_of(layout, "x0", "y0")[0], 1e-9)
         followed = [key for key, part in stock.parts().items() if part.get("equiv")]
         self.assertGreater(len(followed), 500)
-        several = stock.sheet_of(("JAC", "F-3070"))
+        several = stock.glabels_sheet(("JAC", "F-3070"))
         layouts = list(stock.parts()["JAC", "F-3070"].iterfind(".//{*}Layout"))
         self.assertGreater(len(layouts), 1)
         self.assertEqual(
             len(several.places),
             sum(int(one.get("nx", 0)) * int(one.get("ny", 0)) for one in layouts),
         )
-        same = stock.sheet_of(("Avery", "J8160"))
-        self.assertEqual(same, stock.sheet_of(("Avery", "L7160")))
+        same = stock.glabels_sheet(("Avery", "J8160"))
+        self.assertEqual(same, stock.glabels_sheet(("Avery", "L7160")))
 
     def test_without_the_package(self) -> None:
         with tempfile.TemporaryDirectory() as folder, unittest.mock.patch.object(

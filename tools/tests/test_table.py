@@ -12,7 +12,7 @@ import re
 import tempfile
 import unittest
 from pathlib import Path
-from typing import Any, Callable, Dict, List, Sequence, Tuple, Union
+from typing import Any, Callable, Sequence
 
 import support
 from labeltools.common.messages import quoted as shown
@@ -24,10 +24,10 @@ BOOK = "9780306406157"
 SMALL = "73513537"
 SOAP = "036000291452"
 
-Label = Dict[str, Any]
+Label = dict[str, Any]
 
 
-def parts_of(output: bytes) -> Tuple[Label, List[Tuple[Label, str]], Label]:
+def parts_of(output: bytes) -> tuple[Label, list[tuple[Label, str]], Label]:
     """The first remark, each line behind its remark, and the last remark; raises where the output
     is anything else.
     """
@@ -63,7 +63,7 @@ class TableTest(unittest.TestCase):
 
     def check(
         self,
-        table: Union[str, bytes],
+        table: str | bytes,
         arguments: Sequence[str],
         lines: Sequence[str] = (),
         problems: Sequence[str] = (),
@@ -77,7 +77,7 @@ class TableTest(unittest.TestCase):
         line, and at the end how many lines there are and which rows were left out.
         """
         data = table.encode() if isinstance(table, str) else table
-        runs: List[Callable[..., support.Finished[bytes]]] = [
+        runs: list[Callable[..., support.Finished[bytes]]] = [
             functools.partial(support.run, locale=locale) for locale in locales
         ]
         left_out = [
@@ -102,9 +102,7 @@ class TableTest(unittest.TestCase):
                     self.assertEqual(last, end)
                 self.assertEqual(done.returncode, status)
 
-    def labels(
-        self, table: Union[str, bytes], *arguments: str, said: Sequence[str] = ()
-    ) -> List[Label]:
+    def labels(self, table: str | bytes, *arguments: str, said: Sequence[str] = ()) -> list[Label]:
         """What belongs to each line of a table of which no row is left out, and about which this is
         said.
         """
@@ -114,7 +112,7 @@ class TableTest(unittest.TestCase):
         self.assertEqual((done.returncode, support.messages(done)), (0, messages))
         return [label for label, _ in parts_of(done.stdout)[1]]
 
-    def check_cells(self, arguments: Sequence[str], wanted: Dict[str, str]) -> None:
+    def check_cells(self, arguments: Sequence[str], wanted: dict[str, str]) -> None:
         """A column of cells, each in quotes, and the line that each gives, or REFUSED and the
         message for its row.
         """
@@ -462,7 +460,7 @@ class Columns(TableTest):
 
     def test_a_number_where_row_1_may_be_an_article(self) -> None:
         hint = "give --no-header if that is a code, --header if it is a name"
-        rows: Sequence[Tuple[List[str], str, str]] = [
+        rows: Sequence[tuple[list[str], str, str]] = [
             ([], f"{PENCIL};a\n{SMALL};b\n", PENCIL),
             ([], PENCIL, PENCIL),
             ([], "4,00638E+12\tx\n4,00639E+12\ty\n", "4,00638E+12"),
@@ -866,7 +864,7 @@ class Data(TableTest):
         self.check_cells(arguments, {"Käse 日本": "qr,level=Q,mask=auto Käse 日本"})
 
     def test_drawn_though_unmeant(self) -> None:
-        around: Tuple[str, ...] = (" LOT 7", "LOT 7 ", "“LOT 7”", "'LOT 7'", "'00123", "*LOT 9*")
+        around: tuple[str, ...] = (" LOT 7", "LOT 7 ", "“LOT 7”", "'LOT 7'", "'00123", "*LOT 9*")
         around += ("level=H abc", "height=30 LOT", "mask=2 1", "min-version=3 x")
         wanted = {
             **{cell: f'refused: "{cell}" {AROUND}' for cell in around},

@@ -16,15 +16,25 @@ import time
 import unittest
 import zipfile
 from contextlib import contextmanager
-from typing import Callable, Dict, Iterator, List, Sequence
+from typing import Callable, Iterator, Sequence
 
 import support
 from labeltools.common.messages import Silence, ToolError
 from labeltools.tables.table import lines_of_table
-from labeltools.tables.options import ColumnOptions, TableOptions
+from labeltools.tables.table_options import ColumnOptions, TableOptions
 from test_table import BOOK, PENCIL, SMALL
-from test_table_workbooks import KINDS, cell, ods, ods_cell, packed, relations, rows, table
-from test_table_workbooks import unpacked, xlsx
+from test_table_workbooks import (
+    cell,
+    KINDS,
+    ods,
+    ods_cell,
+    packed,
+    relations,
+    rows,
+    table,
+    unpacked,
+    xlsx,
+)
 
 SEED = 60
 MUTANTS = 4000
@@ -37,7 +47,7 @@ OPTIONS = TableOptions(
 )
 
 
-def base_files() -> List[Dict[str, str]]:
+def base_files() -> list[dict[str, str]]:
     """The parts of a workbook of each kind, with most of what such a file may have."""
     line = [PENCIL, "Bleistift\n2B", cell(0.8, style=1), 3]
     merges = (
@@ -151,7 +161,7 @@ CHANGES: Sequence[Callable[[str, random.Random], str]] = (
 )
 
 
-def mutant(files: Sequence[Dict[str, str]], number: int) -> bytes:
+def mutant(files: Sequence[dict[str, str]], number: int) -> bytes:
     """The mutant of a number."""
     numbers = random.Random(f"{SEED} {number}")
     parts = dict(numbers.choice(files))

@@ -19,12 +19,12 @@ import tempfile
 import unittest
 from collections import Counter
 from pathlib import Path
-from typing import Any, Callable, Dict, Iterator, List, NamedTuple, Optional, Set, Tuple
+from typing import Any, Callable, Iterator, NamedTuple
 from xml.etree import ElementTree
 
 import support
-from labeltools.sheets.cells import PRINTED, taken_of
 from labeltools.common.messages import RowError, Silence
+from labeltools.sheets.cells import PRINTED, taken_of
 from labeltools.sheets.number_format import Formatter, Signs
 from labeltools.sheets.rows import Row
 from labeltools.tables.table import rows_of_workbook
@@ -42,7 +42,7 @@ MANIFEST = "".join(
 MANIFEST = f'<manifest:manifest xmlns:manifest="{MANIFEST_SPACE}">{MANIFEST}</manifest:manifest>'
 
 
-def between_bars(text: str) -> Tuple[str, ...]:
+def between_bars(text: str) -> tuple[str, ...]:
     """What is between bars and line ends."""
     return tuple(re.split(r" \| |\n", text.strip("\n")))
 
@@ -80,7 +80,7 @@ SPACES = dict.fromkeys(map(ord, "\u00a0\u202f\u2009"), " ")
 class Found(NamedTuple):
     """What a reader says of a cell: its text as shown, or why it has none."""
 
-    text: Optional[str]
+    text: str | None
     reason: str = ""
 
 
@@ -89,21 +89,21 @@ class Sheet(NamedTuple):
     rows.
     """
 
-    cells: Dict[Tuple[int, int], Found]
-    hidden: Set[int]
+    cells: dict[tuple[int, int], Found]
+    hidden: set[int]
 
 
 class Made(NamedTuple):
     """A workbook that was made: its data, and the format of each cell that has one."""
 
     data: bytes
-    formats: Dict[Tuple[int, int], str]
+    formats: dict[tuple[int, int], str]
 
 
 def ours(data: bytes) -> Sheet:
     """What labeltools reads."""
     formatter = Formatter(Signs(".", ","))
-    cells: Dict[Tuple[int, int], Found] = {}
+    cells: dict[tuple[int, int], Found] = {}
     hidden: set[int] = set()
     for row in rows_of_workbook(data, "x", None, formatter, Silence()):
         if row.is_hidden:
@@ -152,7 +152,7 @@ def gnumerics(data: bytes, ending: str) -> Sheet:
     return Sheet(cells, hidden)
 
 
-def seen_by_gnumeric(shown: str, kind: Optional[ElementTree.Element]) -> Found:
+def seen_by_gnumeric(shown: str, kind: ElementTree.Element | None) -> Found:
     """What Gnumeric says of a cell, by its text and its type."""
     number = "" if kind is None else kind.get("ValueType", "")
     is_formula = kind is not None and number == ""
@@ -238,7 +238,7 @@ def is_cut(mine: Found, theirs: Found, number_format: str) -> bool:
     return (one + 1) % 60 == other % 60
 
 
-DIFFERENCES: Dict[str, Difference] = {
+DIFFERENCES: dict[str, Difference] = {
     "the format depends on the program: the row is left out": lambda mine, theirs, number_format: (
         number_format in NOT_UNDERSTOOD and mine.text is None and "number format" in mine.reason
     ),
@@ -289,9 +289,9 @@ def values(numbers: random.Random) -> Iterator[float]:
         )
 
 
-def table_of(numbers: random.Random, columns: int) -> List[List[Tuple[Any, str]]]:
+def table_of(numbers: random.Random, columns: int) -> list[list[tuple[Any, str]]]:
     """Rows of values with their formats: one row for each format, and rows of texts."""
-    lines: List[List[Tuple[Any, str]]] = []
+    lines: list[list[tuple[Any, str]]] = []
     found = values(numbers)
     first = [next(found) for _ in range(14)]
     for number_format in FORMATS:
@@ -306,7 +306,7 @@ def table_of(numbers: random.Random, columns: int) -> List[List[Tuple[Any, str]]
     return lines
 
 
-def placed(numbers: random.Random, count: int) -> List[int]:
+def placed(numbers: random.Random, count: int) -> list[int]:
     """The numbers of rows, some of which are left empty."""
     row, places = 0, []
     for _ in range(count):

@@ -12,10 +12,20 @@ import unittest
 
 import support
 from labeltools.common.messages import quoted
-from sheets import KINDS, Cell, Sheet
-from test_table import BOOK, PENCIL, SMALL, SOAP, Label, TableTest, parts_of
-from test_table_workbooks import KINDS as SPACE
-from test_table_workbooks import cell, ods, ods_cell, packed, relations, rows, table, unpacked, xlsx
+from sheets import Cell, KINDS, Sheet
+from test_table import BOOK, Label, parts_of, PENCIL, SMALL, SOAP, TableTest
+from test_table_workbooks import (
+    cell,
+    KINDS as SPACE,
+    ods,
+    ods_cell,
+    packed,
+    relations,
+    rows,
+    table,
+    unpacked,
+    xlsx,
+)
 
 NO_PRICE = "which is not a price: it"
 WORDS = "has words that no price tag has; give --price-text if it is right"
@@ -143,12 +153,24 @@ class Prices(RulesTest):
         self.assertEqual(self.price("0,80\t€"), "0,80 €")
         self.assertEqual(self.price('="1,20"'), "1,20")
 
+    def test_a_text_that_may_be_a_month_is_no_price(self) -> None:
+        """Excel makes 12.2026 of a date; a program's number may be the same."""
+        for text in ("12.2026", "1.1999"):
+            self.assertEqual(self.price(text), "may be a month; give --price-as if it is none")
+            self.assertEqual(self.price(text, "--price-text"), text)
+            self.assertEqual(self.price(text, "--price-as", "0.00"), f"{float(text):.2f}")
+        for text in ("13.2026", "12.2126", "12.20265", "12.2026 €"):
+            self.assertEqual(self.price(text), text)
+
     def test_what_a_column_says_once(self) -> None:
+        program = "row 2 has {}, as programs write prices{}: give --price-as {} for two decimals"
         cases = {
             ("1.234", "5.678"): "",
             ("1,50", "1.50"): "",
-            ("7.5", "8.25"): "",
-            ("7.5", "8"): "",
+            ("7.5", "8.2"): program.format("7.5", " (2 rows)", "0.00"),
+            ("7,5", "8"): program.format("7,5", "", "0,00"),
+            ("34.000000", "8.125"): program.format("34.000000", "", "0.00"),
+            ("7.5 €", "8.00 €"): program.format("7.5 €", "", "'0.00 ¤'"),
             ("0.0249 €/g", "0.0184 €/g"): "",
             ("0,00", "0"): "row 2 has the price 0,00 (2 rows)",
             ("5 €", "5 CHF"): "the prices have several currencies: CHF, EUR",

@@ -10,11 +10,11 @@ import io
 import subprocess
 import unittest
 import zipfile
-from typing import Dict, List, Optional, Sequence, Tuple, Union
+from typing import Sequence
 from xml.sax.saxutils import escape, quoteattr
 
 import support
-from test_table import BOOK, PENCIL, SMALL, SOAP, Label, TableTest, parts_of
+from test_table import BOOK, Label, parts_of, PENCIL, SMALL, SOAP, TableTest
 
 MAIN = "http://schemas.openxmlformats.org/spreadsheetml/2006/main"
 STRICT = "http://purl.oclc.org/ooxml/spreadsheetml/main"
@@ -40,7 +40,7 @@ ODS_SPACES = " ".join(
 )
 
 
-def packed(parts: Dict[str, str], method: int = zipfile.ZIP_DEFLATED) -> bytes:
+def packed(parts: dict[str, str], method: int = zipfile.ZIP_DEFLATED) -> bytes:
     """A zip file of these parts."""
     stream = io.BytesIO()
     with zipfile.ZipFile(stream, "w", method) as archive:
@@ -70,8 +70,8 @@ def rows(*lines: Sequence[object]) -> str:
 
 def xlsx(
     sheet: str,
-    *others: Tuple[str, str, str],
-    formats: Sequence[Union[str, int]] = (),
+    *others: tuple[str, str, str],
+    formats: Sequence[str | int] = (),
     strings: str = "",
     before: str = "",
     after: str = "",
@@ -130,7 +130,7 @@ def xlsx(
     return packed(parts)
 
 
-def relations(targets: Sequence[Tuple[str, str, str]]) -> str:
+def relations(targets: Sequence[tuple[str, str, str]]) -> str:
     """The part of .xlsx that says where other parts are."""
     listed = "".join(
         f'<Relationship Id="{name}" Type="{KINDS}/{kind}" Target="{path}"/>'
@@ -139,7 +139,7 @@ def relations(targets: Sequence[Tuple[str, str, str]]) -> str:
     return f'{XML}<Relationships xmlns="{RELATIONS}">{listed}</Relationships>'
 
 
-def ods(*sheets: str, styles: str = "", extra: Optional[Dict[str, str]] = None) -> bytes:
+def ods(*sheets: str, styles: str = "", extra: dict[str, str] | None = None) -> bytes:
     """An .ods file with these tables."""
     body = f"<office:body><office:spreadsheet>{''.join(sheets)}</office:spreadsheet></office:body>"
     content = (
@@ -173,7 +173,7 @@ def ods_cell(text: str, kind: str = "string", more: str = "", before: str = "") 
 class WorkbookTest(TableTest):
     """Steps that the tests share."""
 
-    def found(self, data: bytes, *arguments: str) -> List[Tuple[Label, str]]:
+    def found(self, data: bytes, *arguments: str) -> list[tuple[Label, str]]:
         """The labels and lines of a file of which no row is left out."""
         done = support.run_here("label-table", "--code", "EAN", *arguments, input=data)
         self.assertEqual((done.returncode, support.messages(done)), (0, []))
@@ -186,7 +186,7 @@ class WorkbookTest(TableTest):
         self.assertEqual((done.returncode, done.stdout), (status, b""))
 
     def check_codes(
-        self, cells: Dict[str, str], symbology: str, formats: Sequence[Union[str, int]] = ()
+        self, cells: dict[str, str], symbology: str, formats: Sequence[str | int] = ()
     ) -> None:
         """Cells of .xlsx, and of each the line, or `refused: ` and the message for its column."""
         data = xlsx(rows(["EAN"], *([text] for text in cells)), formats=formats)
@@ -207,7 +207,7 @@ class Xlsx(WorkbookTest):
         forms = (
             '0.00E+00|#,##0|0.00|dd/mm/yyyy|"LOT "0|0_ ;[Red]\\-0\\ ||0000|000\\-000|' + "0" * 12
         )
-        formats: List[Union[str, int]] = [*forms.split("|"), "0,", '"SKU-"@']
+        formats: list[str | int] = [*forms.split("|"), "0,", '"SKU-"@']
         formats[6] = 14  # a date by the number of its format
         styles = (0, 1, 2, 3, 6)
         lines = {cell(int(PENCIL), style=style): f"ean13 {PENCIL}" for style in styles}
@@ -344,7 +344,7 @@ class Xlsx(WorkbookTest):
             )
 
 
-def unpacked(data: bytes) -> Dict[str, str]:
+def unpacked(data: bytes) -> dict[str, str]:
     """The parts of a zip file."""
     with zipfile.ZipFile(io.BytesIO(data)) as archive:
         return {name: archive.read(name).decode() for name in archive.namelist()}
@@ -354,7 +354,7 @@ class Formats(WorkbookTest):
     """What a number in a column of text is shown as."""
 
     def shown(
-        self, value: object, number_format: Union[str, int], *arguments: str, date1904: bool = False
+        self, value: object, number_format: str | int, *arguments: str, date1904: bool = False
     ) -> str:
         """The text of a number with a format; where it is refused, the message."""
         data = xlsx(
@@ -445,7 +445,7 @@ class Formats(WorkbookTest):
         long = "is the number 0.333333333333333 in a format without fixed decimals"
         numbers = '# ?/?|0.00E+00|[h]:mm|[>4]0;0|0.00 EUR|000-000|0.00" €|0 0|x'
         days = "d. mmm yyyy|dddd|[$-F800]dddd\\,\\ d|yyy|dd 0|d%0|d%"
-        cases: List[Tuple[float, Union[str, int], str, str]] = [
+        cases: list[tuple[float, str | int, str, str]] = [
             *((5, one, unknown.format(one), again) for one in numbers.split("|")),
             *(
                 (45678, one, unknown.format(one), "give --date-as dd.mm.yyyy, or another format")
@@ -650,7 +650,7 @@ class Hostile(WorkbookTest):
 
     def test_files_of_other_kinds(self) -> None:
         word = [("rId1", "officeDocument", "word/document.xml")]
-        files: List[Dict[str, str]] = [
+        files: list[dict[str, str]] = [
             {"word/document.xml": "<x/>"},
             {"mimetype": "application/vnd.oasis.opendocument.text", "content.xml": "<x/>"},
             {"x": "y"},
@@ -724,7 +724,7 @@ class LongTables(WorkbookTest):
         head = ["EAN", "Name", "Price"]
         urls = "".join(f"https://example.com/01/0{PENCIL}/21/{n};x;1\n" for n in range(20000))
         pencils = f'{PENCIL};"a, b";1\n' * 20000
-        tables: List[Tuple[bytes, str, int]] = [
+        tables: list[tuple[bytes, str, int]] = [
             (f"EAN;Name;Price\n{pencils}".encode(), "auto", 20),
             (f"EAN;Name;Price\n{urls}".encode(), "qr", 20),
             (xlsx(rows(head, *lines), formats=["0.00"]), "auto", 40),

@@ -17,12 +17,13 @@ from typing import Any, Callable
 from unittest import mock
 
 import cairo
+
 import support
 from labeltools.common.messages import ToolError
 from labeltools.common.text import NOTHING, Text
-from labeltools.printing.cups import JobState, Queue
+from labeltools.sending.cups import JobState, Queue
 from printers import Printer
-from scheduler import WITH_TEST, Scheduler, raster_of
+from scheduler import raster_of, Scheduler, WITH_TEST
 
 TABLE = """Nr;EAN;Name;Price;Stock;Labels
 1;4006381333931;Pencil, red;0,80 €;5000;3
@@ -40,6 +41,7 @@ scheduler: Any = None
 folder: Any = None
 application: Any = None
 dialog: Any = None
+gtk: Any = None
 ways: Any = None
 window: Any = None
 work: Any = None
@@ -78,7 +80,7 @@ def setUpModule() -> None:
 
 def load() -> None:
     """Loads the window, where there is a screen."""
-    global application, dialog, ways, window, work, Gdk, Gio, GLib, Gtk
+    global application, dialog, gtk, ways, window, work, Gdk, Gio, GLib, Gtk
     sys.path.insert(0, str(support.TOOLS))
     application, dialog, ways, window, work, gtk = (
         import_module(f"labeltools.window.{name}")
@@ -286,12 +288,13 @@ class WindowTest(Keeper):
         """A printer that takes PDF gets the file as it is."""
         scheduler.add("pdf", "pdf")
         self.open()
-        self.assertRegex(self.answered("pdf"), "^sent to pdf, at 600 dpi: job [0-9]+$")
+        self.assertRegex(self.answered("pdf"), "^sent to pdf, at 600 dpi: job [0-9]+")
         page = ("--stock", "Avery L7160", "--dpi", "600")
         self.assertEqual(scheduler.printed("pdf"), self.by_commands(*page))
+        self.until(lambda: self.window.said.get_text().endswith("CUPS reports it as printed"))
         self.assertEqual(len(self.printed()), 3)
 
-    @mock.patch("labeltools.window.ways.Ways.watch", mock.Mock())
+    @mock.patch("labeltools.window.ways.WaysOut.watch", mock.Mock())
     def test_chosen_pages_do_not_count_as_printed(self) -> None:
         """They may be a trial. Of the labels only those on these pages are reported."""
         self.open()
@@ -302,20 +305,143 @@ class WindowTest(Keeper):
             self.assertRegex(said, f"^{labels} labels sent .*: job [0-9]+; pages were chosen, so ")
         self.assertEqual(self.printed(), [])
 
-    def test_nothing_is_printed_by_a_preview(self) -> None:
-        scheduler.add("seen", "pdf")
+    def test_the_dialog_offers_what_labels_take(self) -> None:
+        """It shows neither a preview, which would close it, nor what would change labels; the
+        printer of the last time is chosen again.
+        """
+        for name in ("first", "seen", "third"):
+            scheduler.add(name, "both")
         self.open()
-        pressed: list[bool] = []
+        found: dict[str, Any] = {}
 
-        def press() -> bool:
-            pressed.append(answer_dialog("seen", Gtk.ResponseType.APPLY))
-            return pressed[-1]
+        def look() -> bool:
+            for top in Gtk.Window.list_toplevels():
+                if type(top).__name__ != dialog.DIALOG:
+                    continue
+                shown = [one for one in gtk.within(top) if one.get_mapped()]
+                tree = next(one for one in shown if isinstance(one, Gtk.TreeView))
+                model, row = tree.get_selection().get_selected()
+                if row and model[row][1] == "seen":
+                    book = next(one for one in shown if isinstance(one, Gtk.Notebook))
+                    book.set_current_page(1)
+                    settle(0.2)
+                    parts = [one for one in gtk.within(top) if isinstance(one, Gtk.Buildable)]
+                    mapped = [one for one in parts if one.get_mapped()]
+                    found["seen"] = {Gtk.Buildable.get_name(one) for one in mapped}
+                    preview = top.get_widget_for_response(Gtk.ResponseType.APPLY)
+                    found["preview"] = bool(preview and preview.get_mapped())
+                    top.response(Gtk.ResponseType.CANCEL)
+                    return False
+            return True
 
-        GLib.timeout_add(BEAT, press)
+        self.assertIn("sent to seen", self.answered("seen"))
+        GLib.timeout_add(10 * BEAT, look)
         self.window.print_button.clicked()
-        self.until(lambda: False in pressed)
-        settle(0.5)
+        self.until(lambda: "preview" in found)
+        self.assertFalse(found["preview"])
+        self.assertIn("page_set_combo", found["seen"])
+        self.assertEqual(found["seen"] & (dialog.UNUSED | {"scale_spin"}), set())
+
+    def test_labels_count_as_printed_once_their_job_is_over(self) -> None:
+        """Not those of a job that is cancelled; a later window asks CUPS about one that waited."""
+        scheduler.add("later", "both")
+        subprocess.run(["cupsdisable", "later"], check=True)
+        self.open()
+        self.assertIn("sent to later", self.answered("later"))
+        self.until(lambda: "it waits in the queue" in self.window.said.get_text())
+        self.assertEqual(self.window.done.get_message_type(), Gtk.MessageType.WARNING)
+        self.window.done.response(Gtk.ResponseType.CLOSE)
         self.assertFalse(self.window.done.get_visible())
+        self.answered("later")
+        self.assertEqual((self.printed(), len(self.waiting())), ([], 2))
+        first = min(job.number for job in self.waiting())
+        subprocess.run(["cancel", str(first)], check=True)
+        self.again()
+        self.until(lambda: "which was sent before" in self.window.said.get_text())
+        self.until(lambda: "it waits in the queue" in self.window.said.get_text())
+        self.assertEqual((self.printed(), len(self.waiting())), ([], 1))
+        with mock.patch.object(ways, "WATCH", BEAT):
+            subprocess.run(["cupsenable", "later"], check=True)
+            self.until(lambda: "reports it as printed" in self.window.said.get_text())
+        self.assertEqual((len(self.printed()), self.waiting()), (3, {}))
+        self.assertEqual(self.window.done.get_message_type(), Gtk.MessageType.INFO)
+
+    def again(self) -> None:
+        """Closes the window, and opens the table in a new one."""
+        self.window.destroy()
+        self.window = window.Window()
+        self.window.present()
+        self.open()
+
+    def waiting(self) -> Any:
+        """The jobs that are not known to be printed."""
+        return self.window.table.waiting()
+
+    def test_a_job_that_cups_has_forgotten_is_asked_for(self) -> None:
+        scheduler.add("forgets", "both")
+        subprocess.run(["cupsdisable", "forgets"], check=True)
+        for number, printed in ((0, 3), (1, 3)):
+            self.open()
+            self.answered("forgets")
+            subprocess.run(["cancel", "-a", "-x", "forgets"], check=True)
+            if printed and not number:
+                self.assertEqual(self.printed(), [])
+            self.again()
+            self.until(self.problem)
+            self.assertIn("CUPS does not know whether it was printed", self.problem())
+            self.window.offers.get_children()[number].clicked()
+            self.assertEqual((len(self.printed()), self.waiting()), (printed, {}))
+            self.assertEqual(self.problem(), "")
+
+    def test_labels_go_on_by_a_button(self) -> None:
+        """After a stop, from the next label on; the words of the command are not named."""
+        codes = map(support.ean13, range(401_234_500_000, 401_234_500_040))
+        self.open("EAN;Name;Price\n" + "".join(f"{code};Pen;1,00 €\n" for code in codes))
+        self.change(roll=True, to="zpl", dpi="203")
+        printer = Printer(stuck=2).start()
+        self.addCleanup(printer.off)
+        self.window.ways.send_to(printer.name)
+        self.until(lambda: len(printer.labels) > 1)
+        self.window.on_stop(None)
+        printer.told.set()
+        self.until(self.problem)
+        taken = len(printer.labels)
+        self.assertNotIn("--after", self.problem())
+        (button,) = self.window.offers.get_children()
+        self.assertEqual(button.get_label(), f"Go on with label {taken + 1}")
+        self.assertIn(f"taken by {printer.name}", self.said_after(button.clicked))
+        printer.wait(40)
+        plain = self.by_columns("--paper", "60x40", "--to", "zpl", "--dpi", "203")
+        self.assertEqual(b"".join(printer.labels), plain)
+        self.assertEqual(len(self.printed()), 40)
+
+    def by_columns(self, *words: Any) -> Any:
+        """What the commands write for a table of codes, names and prices."""
+        options = ["--header", "--code", "1", "--title", "2", "--price", "3"]
+        lines = support.run("label-table", *options, "--", self.table).stdout
+        return support.run("label-print", *words, input=lines).stdout
+
+    def test_enter_accepts_an_address_and_a_name(self) -> None:
+        for box, entry in (
+            (self.window.network, self.window.address),
+            (self.window.naming, self.window.preset_name),
+        ):
+            answers: list[bool] = []
+
+            def press(entry: Any = entry, answers: list[bool] = answers) -> bool:
+                entry.activate()
+                return not answers
+
+            GLib.timeout_add(10 * BEAT, press)
+            answers.append(ways.confirmed(box))
+            self.assertEqual(answers, [True])
+
+    def test_office_printers_are_not_offered_for_a_language_of_labels(self) -> None:
+        for name in ("office", "zebra", "bare"):
+            scheduler.add(name, {"office": "plain", "bare": ""}.get(name, name))
+        with mock.patch.object(ways, "queues", return_value=["bare", "office", "zebra"]):
+            self.assertEqual(ways.printers(True, None)[:2], ["bare", "zebra"])
+            self.assertEqual(ways.printers(False, None), ["bare", "office", "zebra"])
 
     def test_says_what_is_left_out_and_what_there_is(self) -> None:
         self.open()
@@ -447,7 +573,7 @@ class WindowTest(Keeper):
             self.window.print_button.clicked()
             self.until(lambda: asked)
         self.assertEqual(asked[0][-1], str(device))
-        ways.Ways.ask_way(self.window.ways, asked[0])
+        ways.WaysOut.ask_way(self.window.ways, asked[0])
         printer = Printer().start()
         self.addCleanup(printer.off)
         wanted = self.by_commands("--paper", "60x40", "--to", "zpl", "--dpi", "203")
@@ -687,7 +813,7 @@ class WindowTest(Keeper):
         ):
             settings.set(name, value)
         chosen = {"Quality": "Best", "copies": "2", "page-ranges": "1-2,5-5"}
-        self.assertEqual(dialog.options_of(settings), {**chosen, "outputorder": "reverse"})
+        self.assertEqual(dialog.cups_options(settings), {**chosen, "outputorder": "reverse"})
 
     def test_a_roll_takes_the_dots_that_its_queue_has_by_itself(self) -> None:
         self.open()
@@ -718,7 +844,7 @@ class WindowTest(Keeper):
             self.assertNotIn("cancelled", self.window.said.get_text())
             subprocess.run(["cancel", "-a", "paused"], check=True)
             self.until(lambda: "was cancelled" in self.window.said.get_text())
-        state = JobState(NOTHING, "The printer is not responding.", True)
+        state = JobState(Text("The printer is not responding."), "", True)
         future: Any = mock.Mock(exception=lambda: None, result=lambda: state)
         self.window.ways.show_state(None, "6 labels sent", "", future)
         self.assertIn("not responding", self.window.said.get_text())
@@ -855,6 +981,17 @@ class WindowTest(Keeper):
         self.open(TABLE.replace("€", "CHF"))
         self.assertNotIn("0,80 €", [row[0] for row in self.window.price_as.get_model()])
 
+    def test_what_the_sign_of_prices_means_is_asked_for(self) -> None:
+        """In words, and not by an option, since only the keeper knows."""
+        self.open("EAN;Name;Price\n96385074;Gum;1,200\n4006381333931;Pen;2,500\n")
+        self.change(price_as="€0.00")
+        self.until(lambda: self.problem() == "what is 1,234 in the prices?")
+        settle(0.5)  # nothing else is under way
+        self.assertNotIn("--", "".join(row[2] for row in self.window.notes))
+        self.window.offers.get_children()[1].clicked()
+        self.until(lambda: self.window.words == "--decimal point" and self.window.has_labels)
+        self.assertEqual(self.window.made.labels.labels[0].label.record.label.price, "€1200.00")
+
     def test_the_wheel_changes_no_choice(self) -> None:
         """It scrolls what the controls are in."""
         self.open()
@@ -953,8 +1090,9 @@ class WindowTest(Keeper):
         first = made.labels[0]
         packed = bytearray(first.label.modules.packed)
         packed[len(packed) // 2] ^= 0b00111100
-        wrong = replace(first.label, modules=replace(first.label.modules, packed=bytes(packed)))
-        bad = replace(first, label=wrong)
+        modules = replace(first.label.modules, packed=bytes(packed))
+        record = first.label.record._replace(modules=modules)
+        bad = replace(first, label=replace(first.label, record=record))
         prints = [bad if item is first else item for item in made.prints]
         self.window.made = replace(self.window.made, labels=replace(made, prints=prints))
         path = self.folder / "wrong.pdf"

@@ -10,24 +10,24 @@ user's own may have several.
 from functools import cache, lru_cache
 from itertools import islice, tee
 from operator import itemgetter, mul
-from typing import Any, Iterator, NamedTuple, Optional, Sequence
+from typing import Any, Iterator, NamedTuple, Sequence
 
-from labeltools.paper.area import Plan
-from labeltools.paper.picture import Picture, rows_reader
-from labeltools.checking.decode import NotDecoded, dots_of
-from labeltools.checking.pdf import DrawnPage, is_at, pages_of
-from labeltools.checking.svg import dots_of_svg
-from labeltools.lines.engine import Engine, LABELS_FAILED, Refused, bytes_a_row
-from labeltools.layout.frames import Box
-from labeltools.layout.layout import LaidOut, short
-from labeltools.lines.file import LineRecord
+from labeltools.checking.decode import dots_of, NotDecoded
+from labeltools.checking.read_pdf import DrawnPage, is_at, pages_of
+from labeltools.checking.read_svg import dots_of_svg
 from labeltools.common.messages import FAULT, Talk, ToolError
-from labeltools.designs.layout import OwnSymbol, symbols_of
-from labeltools.designs.places import PARTS, Place, key_of
 from labeltools.common.text import Text
+from labeltools.designs.design import Design, PlacedSymbol
+from labeltools.designs.places import key_of, PARTS, Place
+from labeltools.layout.layout import LaidOut, short
+from labeltools.lines.engine import bytes_a_row, Engine, LABELS_FAILED, Refused
+from labeltools.lines.file import LineRecord
+from labeltools.paper.area import Plan
+from labeltools.paper.box import Box
+from labeltools.paper.picture import Picture, rows_reader
 
 Labels = Sequence[tuple[LaidOut, tuple[int, int]]]
-Kind = tuple[str, tuple[int, int, int, int], int, int]  # symbology, quiet zones, width, rows
+CodeShape = tuple[str, tuple[int, int, int, int], int, int]  # symbology, quiet zones, width, rows
 How = tuple[int, Box, int]  # quarters to the right, the bars in their room, dots of a module
 LONGER = 5  # modules by which guards are longer (GS1 General Specifications, 5.2)
 # modules of the longer bars, from the first bar on: ISO/IEC 15420
@@ -43,7 +43,7 @@ DIGITS = bytes.maketrans(b"\0\1", b"01")
 class Different(NotDecoded):
     """What differs in a label of a line, if that is known."""
 
-    def __init__(self, what: Text, record: Optional[LineRecord] = None) -> None:
+    def __init__(self, what: Text, record: LineRecord | None = None) -> None:
         super().__init__(what)
         self.record = record
 
@@ -56,7 +56,7 @@ class Document(NamedTuple):
     data: bytes
     pages: Sequence[Labels]
     copies: int = 1
-    drawn: Optional[Picture] = None
+    drawn: Picture | None = None
 
 
 class Where(NamedTuple):
@@ -82,7 +82,7 @@ class Wanted(NamedTuple):
     where: Where
 
 
-class Part(NamedTuple):
+class SymbolPart(NamedTuple):
     """A part of a symbol: rows of modules as digits, 1 where dark; of how many modules each column
     is wide, and each row high; and the light modules left, right, above and below.
     """
@@ -92,7 +92,7 @@ class Part(NamedTuple):
     highs: tuple[int, ...]
     zones: tuple[int, int, int, int] = (0, 0, 0, 0)
 
-    def turned(self, quarters: int) -> "Part":
+    def turned(self, quarters: int) -> "SymbolPart":
         """Returns it turned to the right."""
         if not quarters:
             return self
@@ -101,7 +101,7 @@ class Part(NamedTuple):
             rows = tuple("".join(column) for column in zip(*rows[::-1]))
             wides, highs = highs[::-1], wides
             left, right, above, below = below, above, left, right
-        return Part(rows, wides, highs, (left, right, above, below))
+        return SymbolPart(rows, wides, highs, (left, right, above, below))
 
 
 class Comparison:
@@ -110,8 +110,15 @@ class Comparison:
     """
 
     def __init__(
-        self, plan: Plan, form: str, is_escaped: bool, is_turned: bool, talk: Talk
+        self,
+        design: Design,
+        plan: Plan,
+        form: str,
+        is_escaped: bool,
+        is_turned: bool,
+        talk: Talk,
     ) -> None:
+        self.design = design
         self.plan = plan
         self.talk = talk
         self.form = form
@@ -131,7 +138,7 @@ class Comparison:
             self.compare(document)
         except NotDecoded as error:
             record = error.record if isinstance(error, Different) else None
-            place = (record or first_of(document.pages[0])).place.text
+            place = (record or first_record(document.pages[0])).origin.text
             raise ToolError(Text("{}: {}", place, error.what), FAULT, LABELS_FAILED) from error
 
     def compare(self, document: Document) -> None:
@@ -145,7 +152,7 @@ class Comparison:
                 try:
                     drawn = next(pages)
                 except NotDecoded as error:
-                    raise Different(error.what, first_of(labels)) from error
+                    raise Different(error.what, first_record(labels)) from error
                 check_codes(symbols, drawn, self.plan.dot)
             return
         if self.form == "svg":
@@ -181,7 +188,7 @@ class Comparison:
         """Yields what has to be on a page, in the order of its drawing; raises `Different`."""
         for item, at in labels:
             record = item.label.record
-            for spot in symbols_of(item, self.area):
+            for spot in self.design.symbols(item, self.area):
                 try:
                     symbol = self.symbol(spot, record)
                     kind = (symbol.symbology, symbol.quiet_zones, symbol.width, symbol.rows)
@@ -190,7 +197,7 @@ class Comparison:
                 except Different as error:
                     raise Different(error.what, record) from error
 
-    def new_where(self, at: tuple[int, int], room: Box, how: How, kind: Kind) -> Where:
+    def new_where(self, at: tuple[int, int], room: Box, how: How, kind: CodeShape) -> Where:
         """Returns where a symbol of a kind has to be on the page, in a room of a label whose area
         is at a place; raises `Different`.
         """
@@ -211,14 +218,14 @@ class Comparison:
         self.check_cell(at, picture)
         return Where(picture, tuple(whites), (quarters + self.is_turned) % 4, scale, wide, high)
 
-    def symbol(self, spot: OwnSymbol, record: LineRecord) -> Any:
+    def symbol(self, spot: PlacedSymbol, record: LineRecord) -> Any:
         """Returns a symbol of a label, drawn anew from its line; raises `Different` where that does
         not say its data.
         """
         place = spot.place
         engine, line, data = self.engine, record.line, record.data
         if place.symbology:
-            text = own_text(place, record)
+            text = text_for(place, record)
             said = spot.data if text is None else text.encode("utf-8", "surrogateescape")
             escaped = said.replace(b"\\", b"\\\\").replace(b"\n", b"\\n")
             line = ",".join((place.symbology, *place.settings)).encode() + b" " + escaped
@@ -255,7 +262,7 @@ class Comparison:
                 raise Different(Text("its code extends beyond its cell"))
 
 
-def first_of(labels: Labels) -> LineRecord:
+def first_record(labels: Labels) -> LineRecord:
     """Returns the line of the first label of a page."""
     return labels[0][0].label.record
 
@@ -303,7 +310,7 @@ def parts_in_dots(wanted: Wanted) -> Iterator[tuple[Box, bytes]]:
         highs = (where.high,)
         zones = (*zones[:2], 0, 0)
     whole, *longer = where.whites
-    part = Part(rows, (1,) * width, highs, zones)
+    part = SymbolPart(rows, (1,) * width, highs, zones)
     yield whole, in_dots(part.turned(where.quarters), where.scale, whole)
     for box, (first, end) in zip(longer, GUARDS.get(symbol.symbology, ())):
         yield box, guard_in_dots(modules[first:end], where, box)
@@ -312,11 +319,11 @@ def parts_in_dots(wanted: Wanted) -> Iterator[tuple[Box, bytes]]:
 @lru_cache(KNOWN)
 def guard_in_dots(digits: str, where: Where, box: Box) -> bytes:
     """Returns a longer guard in the dots of a box; most labels have the same ones."""
-    part = Part((digits,), (1,) * len(digits), (LONGER,))
+    part = SymbolPart((digits,), (1,) * len(digits), (LONGER,))
     return in_dots(part.turned(where.quarters), where.scale, box)
 
 
-def in_dots(part: Part, scale: int, box: Box) -> bytes:
+def in_dots(part: SymbolPart, scale: int, box: Box) -> bytes:
     """Returns a part in the dots of a box, in its rows of bytes: all rows at once, which is
     quicker.
     """
@@ -390,7 +397,7 @@ def wrong(wanted: Wanted, dot: float) -> Different:
     return Different(what, wanted.record)
 
 
-def own_text(place: Place, record: LineRecord) -> Optional[str]:
+def text_for(place: Place, record: LineRecord) -> str | None:
     """Returns the text of a label in a place, by the line itself; None where it is put together of
     several.
     """

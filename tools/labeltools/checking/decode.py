@@ -7,7 +7,7 @@ import struct
 import zlib
 from binascii import Error, unhexlify
 
-from labeltools.common.kept import Kept
+from labeltools.common.cache import Kept
 from labeltools.common.text import Text
 from labeltools.paper.picture import Picture, rows_reader
 
@@ -56,7 +56,7 @@ def dots_of_pbm(data: bytes, _: int) -> Printed:
     kind, size, rest = data.split(b"\n", 2)
     width, height = map(int, size.split())
     length = (width + 7) // 8 * height
-    return Picture(width, height, whole(rest, length if kind == b"P4" else -1)), 1
+    return Picture(width, height, of_length(rest, length if kind == b"P4" else -1)), 1
 
 
 def dots_of_png(data: bytes, _: int) -> Printed:
@@ -77,7 +77,7 @@ def dots_of_png(data: bytes, _: int) -> Printed:
         packed += body if kind == b"IDAT" else b""
         at += length + 12
     stride = (width + 7) // 8
-    rows = whole(zlib.decompress(packed), (1 + stride) * height)
+    rows = of_length(zlib.decompress(packed), (1 + stride) * height)
     if any(rows[:: 1 + stride]):
         raise NotDecoded(Text("png with filters"))
     light = rows_reader(1, stride, 0, height)(rows)
@@ -197,7 +197,7 @@ def without_counts(text: bytes, digits: int) -> list[bytes]:
     return [part.replace(MARKED, b"0") for part in parts]
 
 
-def whole(data: bytes, length: int) -> bytes:
+def of_length(data: bytes, length: int) -> bytes:
     """Returns data of a length; raises `NotDecoded` for another one."""
     if len(data) != length:
         raise NotDecoded(Text("{} bytes of dots for {}", len(data), length))

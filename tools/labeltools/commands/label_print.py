@@ -8,33 +8,32 @@ import stat
 import sys
 from dataclasses import replace
 from pathlib import Path
-from typing import Any, Callable, Optional, Sequence
+from typing import Any, Callable, Sequence
 
-from labeltools.common.command_line import (
+from labeltools.common.arguments import flag, Parser, value, wrong_argument
+from labeltools.common.messages import BAD_ARGUMENTS, sentence, ToolError, write_message
+from labeltools.common.process import (
     CommandTalk,
-    Parser,
     hold_signals,
     keep_standard_error,
     read_input,
     standard_output,
-    wrong_argument,
 )
-from labeltools.common.messages import BAD_ARGUMENTS, ToolError, sentence, write_message
-from labeltools.common.report import places_text, report
-from labeltools.common.text import Text, counted, joined
-from labeltools.designs.design import is_file
+from labeltools.common.report import places_text, Ranges, report
+from labeltools.common.text import counted, joined, Text
+from labeltools.designs.svg_design import is_file
 from labeltools.drawing.forms import FORMS
 from labeltools.lines.file import LineRecord
 from labeltools.paper.area import DESIGNS
 from labeltools.paper.stock import forget, list_stock
-from labeltools.printing.cups import Queue, lp_line, queue_of
-from labeltools.printing.job import DRAWING_DPI, Job, PrintOptions, form_of, planned, refuse
-from labeltools.printing.journal import Journal
-from labeltools.printing.network import address_of
-from labeltools.printing.outlets import Files, OUTPUT, Outlet, StandardOutput
-from labeltools.printing.press import Prepared, check_count, labels_of
-from labeltools.printing.selection import Ranges, ranges_in, selection_of
-from labeltools.printing.sending import Sender, direct_outlet, labels_text, print_on
+from labeltools.printing.job import DRAWING_DPI, form_of, Job, planned, PrintOptions, refuse
+from labeltools.printing.press import check_count, labels_of, Prepared
+from labeltools.printing.selection import ranges_in, selection_of
+from labeltools.sending.cups import lp_line, Queue, queue_of, SentJob
+from labeltools.sending.journal import Journal
+from labeltools.sending.network import address_of
+from labeltools.sending.outlets import Files, Outlet, OUTPUT, StandardOutput
+from labeltools.sending.sender import direct_outlet, labels_text, print_on, Sender
 
 TOOL = "label-print"
 USAGE = """label-print --stock NAME [OPTIONS] [LINES]
@@ -100,7 +99,7 @@ def rows(argument: str) -> Ranges:
     raise wrong_argument(Text("{!r}: write rows as 2,7-9 or 7-", argument))
 
 
-def filled(argument: str) -> str:
+def not_empty(argument: str) -> str:
     """Returns an argument that is not empty, as it is where a variable of a shell is not set."""
     if not argument.strip("@ "):
         raise wrong_argument(Text("it is empty"))
@@ -109,7 +108,7 @@ def filled(argument: str) -> str:
 
 def printer_of(argument: str) -> str:
     """Returns the name of a queue of CUPS, of a printer in the network, or of a file."""
-    if "://" in filled(argument):
+    if "://" in not_empty(argument):
         try:
             address_of(argument)
         except ToolError as error:
@@ -122,7 +121,7 @@ POINT = reads("7x15")
 COUNT = reads("3", 1, int)
 
 
-def command_line() -> Parser:
+def new_parser() -> Parser:
     """Returns the arguments; their names are those of `PrintOptions`, which has their defaults."""
     parser = Parser(TOOL, USAGE, ABOUT, EXAMPLES)
     add_sheet_options(parser.add_argument_group("the paper"))
@@ -135,16 +134,6 @@ def command_line() -> Parser:
     flag(parser, "--summary", "is_summed", summary)
     parser.set_defaults(**vars(PrintOptions()))
     return parser
-
-
-def value(group: Any, name: str, metavar: str, kind: Any, text: str, **how: Any) -> None:
-    """Adds an option with a value, which `kind` reads; `metavar` stands for it in the help."""
-    group.add_argument(name, metavar=metavar, type=kind, help=text, **how)
-
-
-def flag(group: Any, name: str, target: str, text: str, is_on: bool = True) -> None:
-    """Adds an option without a value, which sets its target."""
-    group.add_argument(name, action="store_const", const=is_on, dest=target, help=text)
 
 
 def add_sheet_options(group: Any) -> None:
@@ -188,7 +177,7 @@ def add_choice_options(group: Any) -> None:
     value(group, "--only", "ROWS", rows, only, dest="rows_only")
     code = "print the label with this code, or those of @FILE, a code on each line; with --only "
     code += "those of either"
-    value(group, "--only-code", "CODE", filled, code, action="append", dest="codes", default=[])
+    value(group, "--only-code", "CODE", not_empty, code, action="append", dest="codes", default=[])
     after = reads("9", 0, int, 7)  # as many as one run takes
     value(group, "--after", "N", after, "skip this many labels, which are on paper already (0)")
     unique = "skip a line whose code came before, as for tickets and serial numbers"
@@ -208,33 +197,33 @@ def add_output_options(group: Any) -> None:
     queue = "print on this queue of CUPS, tcp://HOST or /dev/usb/lp0, not to standard output"
     value(one, "--print", "QUEUE", printer_of, queue, dest="queue")
     journal = "write each label into this file before it is sent; what is there is not sent again"
-    value(group, "--journal", "FILE", filled, journal)
+    value(group, "--journal", "FILE", not_empty, journal)
     again = "with --only or --only-code: print once more what the journal has of this printer"
-    value(group, "--again", "PRINTER", filled, again)
+    value(group, "--again", "PRINTER", not_empty, again)
     stream = "print each label as soon as its line has come in, and answer on standard error"
     flag(group, "--stream", "is_stream", stream)
     value(group, "--dots", "N", COUNT, "escpos: dots across the paper (576)")
     flag(group, "--no-cut", "is_cut", "escpos: do not cut after each label", False)
 
 
-def options_of(words: Optional[Sequence[str]] = None) -> PrintOptions:
+def print_options(words: Sequence[str] | None = None) -> PrintOptions:
     """Returns what words ask for, or else the arguments of this program; raises `ToolError` and
     `OSError`.
     """
-    given = vars(command_line().parse_args(words))
+    given = vars(new_parser().parse_args(words))
     given["only"] = selection_of(given.pop("rows_only") or (), given.pop("codes"))
     return PrintOptions(**given)
 
 
 def run() -> int:
     """Returns 0 where each label is printed, 1 where one is left out."""
-    options = options_of()
+    options = print_options()
     if options.is_stream:
         keep_standard_error()
     if options.list_stock is not None:
         one_word = Text("--list-stock takes one WORD: put quotes around several")
         refuse(options.lines, one_word)
-        print(listed(options.list_stock))
+        print(stock_lines(options.list_stock))
         return 0
     queue = None
     if options.queue and not options.is_stream and not options.is_sent_singly:
@@ -246,30 +235,42 @@ def run() -> int:
     forget()
     check_way(job, queue)
     if options.is_stream:
-        from labeltools.printing import stream
+        from labeltools.sending import stream
 
-        return stream.run(job, sender_of(job, direct_way(job), ()))
+        return stream.answer_lines(job, sender_of(job, direct_way(job), ()))
     gc.disable()  # no label leaves a cycle behind, and to look for them takes time
     return print_lines(job, queue, CommandTalk(TOOL))
 
 
-def print_lines(job: Job, queue: Optional[Queue], talk: CommandTalk) -> int:
+def print_lines(job: Job, queue: Queue | None, talk: CommandTalk) -> int:
     """Prints the lines of a file; returns 1 where a label is left out or doubtful."""
     found = labels_of(job, *read_input(job.options.lines), talk)
     for message in [*report(found.left_out, found.tables), *(one.reason for one in found.remarks)]:
         write_message(TOOL, message)
     check_count(job, found.prints)
     if after := job.options.after:
-        place = places_text([found.prints[0].label.record.place], len(found.tables) > 1)
+        place = places_text([found.prints[0].label.record.origin], len(found.tables) > 1)
         write_message(TOOL, Text("--after {}: the first label is {}", after, place))
     if queue is None:
         return give_out(found, talk)
-    sent, text = print_on(found, queue, talk)
-    write_message(TOOL, joined("; ", filter(None, (text, sent.state().trouble))))
-    return 1 if found.left_out else 0
+    is_printed = follow(*print_on(found, queue, talk), talk)
+    return 1 if found.left_out or not is_printed else 0
 
 
-def listed(wanted: str) -> str:
+def follow(sent: SentJob, text: Text, talk: CommandTalk) -> bool:
+    """Reports what became of a job of CUPS, and returns whether it was printed. A signal ends only
+    the watching: the job goes on.
+    """
+    with hold_signals() as came:
+        state = sent.follow(talk.wait, came)
+        told = state.told
+        if came and not state.is_over:
+            told = Text("it goes on: cancel {} ends it", sent.number)
+        write_message(TOOL, joined("; ", (text, told)))
+    return state.is_printed
+
+
+def stock_lines(wanted: str) -> str:
     """Returns the sheets that have some words; raises `ToolError` if there is none."""
     hint = Text("try a part of the name, or the size of a cell, such as 70x37")
     what = Text("no sheet has all of these words: {}", wanted)
@@ -278,7 +279,7 @@ def listed(wanted: str) -> str:
     raise ToolError(Text("{}: {}", what, hint))
 
 
-def check_way(job: Job, queue: Optional[Queue]) -> None:
+def check_way(job: Job, queue: Queue | None) -> None:
     """Raises `ToolError` where a queue does not print a job, or standard output is closed or would
     show a drawing.
     """
@@ -300,7 +301,7 @@ def direct_way(job: Job) -> Outlet:
 def sender_of(job: Job, outlet: Outlet, records: Sequence[LineRecord]) -> Sender:
     """Returns what sends the labels of some lines, after a look at the journal."""
     options = job.options
-    journal = Journal(options.journal, outlet.name) if options.journal else None
+    journal = Journal(options.journal, outlet.name, records) if options.journal else None
     if journal is not None:
         check_journal(options, journal)
     return Sender(outlet, journal, options.again, records)
@@ -333,7 +334,7 @@ def give_out(found: Prepared, talk: CommandTalk) -> int:
         outlet = Files(options.each, data, options.after + 1)
     sender = sender_of(found.job, outlet, found.records)
     try:
-        send(sender, found, talk)
+        send_labels(sender, found, talk)
     finally:
         doubtful = sender.doubtful()
         for message in sender.doubts(doubtful):
@@ -345,7 +346,7 @@ def give_out(found: Prepared, talk: CommandTalk) -> int:
     return 1 if found.left_out or doubtful else 0
 
 
-def send(sender: Sender, found: Prepared, talk: CommandTalk) -> None:
+def send_labels(sender: Sender, found: Prepared, talk: CommandTalk) -> None:
     """Sends labels; raises `ToolError`. If they go out one by one a signal ends it after the label
     that is on its way: that is such an error, which is said here, since the signal then ends the
     tool.

@@ -7,24 +7,31 @@ import shlex
 import sys
 from dataclasses import fields
 from pathlib import Path
-from typing import Any, Callable, Mapping, Sequence, TypeVar
+from typing import Any, Callable, Sequence, TypeVar
 
-from labeltools.sheets.options import FileOptions
-from labeltools.common.text import NOTHING, Text, joined
+from labeltools.common.arguments import flag, Parser, value, words_of, wrong_argument
+from labeltools.common.messages import (
+    BadArguments,
+    Origin,
+    quoted,
+    sentence,
+    Silence,
+    ToolError,
+    write_message,
+)
+from labeltools.common.process import CommandTalk, read_input, standard_output
+from labeltools.common.report import listed
+from labeltools.common.text import joined, NOTHING, Text
+from labeltools.lines.file import LinesFile, read_lines
+from labeltools.lines.symbologies import EAN13, SYMBOLOGIES
+from labeltools.sheets.file_options import FileOptions
+from labeltools.sheets.number_format import date_section
 from labeltools.tables.codes import AUTO, CodeRules, NAMES
 from labeltools.tables.columns import column_word
-from labeltools.common.command_line import CommandTalk, Parser, main_of, read_input, standard_output
-from labeltools.common.command_line import words_of, wrong_argument
 from labeltools.tables.guess import Guess, guess_of
-from labeltools.lines.file import LinesFile, read_lines
-from labeltools.common.messages import BadArguments, Place, Silence, ToolError
-from labeltools.common.messages import quoted, sentence, write_message
-from labeltools.common.report import listed
-from labeltools.sheets.number_format import date_section
 from labeltools.tables.prices import PricePattern
-from labeltools.lines.symbologies import EAN13, SYMBOLOGIES
 from labeltools.tables.table import lines_of_table
-from labeltools.tables.options import Columns, PriceRules, TableOptions
+from labeltools.tables.table_options import Columns, PriceRules, TableOptions
 
 TOOL = "label-table"
 USAGE = "label-table --code COLUMN [OPTIONS] [TABLE]"
@@ -36,12 +43,13 @@ EXAMPLES = """examples:
   label-table --code Place --symbology code128 racks.csv > racks.lines
 
 label-print prints these files; man label-table has all details."""
-SETTINGS = "[a-z-]+=[A-Za-z0-9]+(?:,[a-z-]+=[A-Za-z0-9]+)*"
-DELIMITER = '[^"\r\n\0 \x80-\U0010ffff]|tab|none'
+SETTINGS = re.compile("[a-z-]+=[A-Za-z0-9]+(?:,[a-z-]+=[A-Za-z0-9]+)*")
+DELIMITER = re.compile('[^"\r\n\0 \x80-\U0010ffff]|tab|none')
+ROW_NUMBER = re.compile("[1-9][0-9]{0,6}")
 SIGNS = {"comma": ",", "point": ".", ",": ",", ".": "."}
 MOST_PROPOSED = 3  # commands
 MOST_ALIKE = 50  # messages about rows that differ in their cells alone
-Made = TypeVar("Made")
+Read = TypeVar("Read")
 
 
 class TableTalk(CommandTalk):
@@ -53,13 +61,13 @@ class TableTalk(CommandTalk):
         super().__init__(TOOL)
         self.rows: dict[str, list[int]] = {}
 
-    def note(self, place: Place, cell: str, reason: Text, hint: Text) -> None:
+    def note(self, origin: Origin, cell: str, reason: Text, hint: Text) -> None:
         """Writes why a row is left out."""
         kind = re.sub(r'"[^"]*"|[0-9]+X?', "", sentence(reason, hint))
         rows = self.rows.setdefault(kind, [])
-        rows.append(place.number)
+        rows.append(origin.number)
         if len(rows) <= MOST_ALIKE:
-            super().note(place, cell, reason, hint)
+            super().note(origin, cell, reason, hint)
 
     def finish(self) -> None:
         """Writes how many more rows were left out for each reason."""
@@ -70,30 +78,94 @@ class TableTalk(CommandTalk):
                 write_message(TOOL, what)
 
 
-def command_line() -> Parser:
-    """Returns the parser of the arguments."""
+def new_parser() -> Parser:
+    """Returns the parser of the arguments; but for a few their names are those of fields of
+    `TableOptions`, which have their defaults.
+    """
     parser = Parser(TOOL, USAGE, ABOUT, EXAMPLES)
-    parser.add_argument("table", metavar="TABLE", nargs="?", help=OF_TABLE)
-    parser.add_argument("--summary", action="store_true", help=OF_SUMMARY)
-    groups = {title: parser.add_argument_group(title) for title in OPTIONS}
-    for title, options in OPTIONS.items():
-        for name, metavar, text, more in options:
-            kind: dict[str, Any] = {"metavar": metavar} if metavar else {"action": "store_true"}
-            groups[title].add_argument(f"--{name}", help=text, **{**kind, **more})
-    header = groups[OF_FILE].add_mutually_exclusive_group().add_argument
-    said: dict[str, Any] = {"dest": "has_header", "default": None}
-    header("--header", action="store_true", help="row 1 has the names of the columns", **said)
-    text = "row 1 is an article, not the names of columns"
-    header("--no-header", action="store_false", help=text, **said)
-    text = "this row has the names of the columns"
-    header("--header-row", metavar="N", type=lambda text: int(row_number(text)), help=text)
+    table = "the table; standard input if it is not given, or is -"
+    parser.add_argument("table", metavar="TABLE", nargs="?", help=table)
+    summary = "report at the end how many labels there are, and which prices"
+    flag(parser, "--summary", "is_summed", summary)
+    add_column_options(parser.add_argument_group("columns"))
+    add_row_options(parser.add_argument_group("rows"))
+    add_code_options(parser.add_argument_group("codes"))
+    add_price_options(parser.add_argument_group("prices and dates"))
+    add_file_options(parser.add_argument_group("the file"))
     return parser
 
 
-def argument(make: Callable[[str], Made]) -> Callable[[str], Made]:
+def add_column_options(group: Any) -> None:
+    """Adds the options that say which column is what."""
+    value(group, "--code", "COLUMN", str, "the column of the codes; without it one is proposed")
+    title = "a column for the title; may be repeated"
+    value(group, "--title", "COLUMN", str, title, action="append", default=[])
+    text = "a column for the text below; may be repeated"
+    value(group, "--text", "COLUMN", str, text, action="append", default=[])
+    value(group, "--price", "COLUMN", str, "the column of the price")
+    unit = "the column of the price of a unit, such as 7,96 €/kg"
+    value(group, "--unit-price", "COLUMN", str, unit)
+    old = "the column of the price before a reduction"
+    value(group, "--old-price", "COLUMN", str, old)
+    value(group, "--currency", "COLUMN", str, "the column of the currency of the prices")
+    copies = "the column of the number of labels, 0 to 9999"
+    value(group, "--copies", "COLUMN", str, copies)
+
+
+def add_row_options(group: Any) -> None:
+    """Adds the options of which rows become lines."""
+    where = "print only rows that have this value; may be repeated"
+    value(group, "--where", "COLUMN=VALUE", condition, where, action="append", default=[])
+    since = "print only what is new or has changed since these lines"
+    value(group, "--new-since", "LINES", str, since)
+    flag(group, "--hidden", "hidden", "print hidden rows too")
+
+
+def add_code_options(group: Any) -> None:
+    """Adds the options of how codes are read and drawn."""
+    names = f"{', '.join(NAMES)} [default: {AUTO}]"
+    value(group, "--symbology", "NAME", str, names, choices=NAMES, default=AUTO)
+    value(group, "--symbology-column", "COLUMN", str, "the column of the symbologies")
+    some = "settings of all lines, such as height=30 or level=Q,mask=2"
+    value(group, "--settings", "TEXT", settings, some)
+    flag(group, "--fill-zeros", "fill_zeros", "put back up to three lost leading zeros")
+    without = "the numbers have no check digit; labels adds it"
+    flag(group, "--without-check-digit", "without_check_digit", without)
+    zeros = "take numbers that end in many zeros, which look rounded"
+    flag(group, "--allow-zeros", "allow_zeros", zeros)
+    flag(group, "--links", "links", "draw the address of the link in the cell of a code")
+
+
+def add_price_options(group: Any) -> None:
+    """Adds the options of how prices and dates are read and written."""
+    value(group, "--price-as", "FORMAT", pattern, "write prices like '0,00 €' or '¤ 0.00'")
+    flag(group, "--price-text", "price_text", "prices may be any text, such as 'on request'")
+    name = "a currency that label-table does not know"
+    value(group, "--currency-name", "NAME", str, name, default="")
+    decimal = "decimal sign: comma or point [default: the locale's]"
+    value(group, "--decimal", "SIGN", sign, decimal)
+    value(group, "--date-as", "FORMAT", dates, "write dates like dd.mm.yyyy")
+
+
+def add_file_options(group: Any) -> None:
+    """Adds the options of how the file is read."""
+    sheet = "the sheet of .xlsx or .ods [default: the visible one with data]"
+    value(group, "--sheet", "NAME", str, sheet)
+    between = "the character between cells of CSV, tab, or none for one column"
+    value(group, "--delimiter", "C", delimiter, between)
+    encoding = "the encoding of CSV [default: UTF-8, or by its mark]"
+    value(group, "--encoding", "NAME", str, encoding)
+    one = group.add_mutually_exclusive_group()
+    flag(one, "--header", "has_header", "row 1 has the names of the columns")
+    no_names = "row 1 is an article, not the names of columns"
+    flag(one, "--no-header", "has_header", no_names, False)
+    value(one, "--header-row", "N", row_number, "this row has the names of the columns")
+
+
+def reported(make: Callable[[str], Read]) -> Callable[[str], Read]:
     """Returns a function of an argument whose ValueError, which has a `Text`, is reported."""
 
-    def of(text: str) -> Made:
+    def of(text: str) -> Read:
         try:
             return make(text)
         except ValueError as error:
@@ -102,104 +174,54 @@ def argument(make: Callable[[str], Made]) -> Callable[[str], Made]:
     return of
 
 
-@argument
+@reported
 def dates(text: str) -> str:
     """Returns the pattern of dates that an argument is."""
     date_section(text)
     return text
 
 
-@argument
+pattern = reported(PricePattern.of)
+
+
 def condition(text: str) -> tuple[str, str]:
     """Returns the column and the value of an argument."""
-    column, sign, value = text.partition("=")
-    if not sign or not column:
-        raise ValueError(Text("{}: write it as COLUMN=VALUE", quoted(text)))
-    return column, value
+    column, equals, wanted = text.partition("=")
+    if not equals or not column:
+        raise wrong_argument(Text("{}: write it as COLUMN=VALUE", quoted(text)))
+    return column, wanted
 
 
-@argument
 def sign(text: str) -> str:
     """Returns the decimal sign that an argument is."""
     if text not in SIGNS:
-        raise ValueError(Text("{} is neither comma nor point", quoted(text)))
+        raise wrong_argument(Text("{} is neither comma nor point", quoted(text)))
     return SIGNS[text]
 
 
-def like(pattern: str, said: Callable[[str], Text]) -> Callable[[str], str]:
-    """Returns a function of an argument that has to match a pattern, and of what is said if not."""
-
-    def of(text: str) -> str:
-        if not re.fullmatch(pattern, text, re.ASCII):
-            raise wrong_argument(said(quoted(text)))
-        return text
-
-    return of
+def settings(text: str) -> str:
+    """Returns the settings that an argument is."""
+    if not SETTINGS.fullmatch(text):
+        raise wrong_argument(Text("{}: write it as height=30 or level=Q,mask=2", quoted(text)))
+    return text
 
 
-settings = like(SETTINGS, lambda one: Text("{}: write it as height=30 or level=Q,mask=2", one))
-delimiter = like(
-    DELIMITER, lambda one: Text("{} is not tab, none or a character that can separate cells", one)
-)
-row_number = like("[1-9][0-9]{0,6}", lambda one: Text("{} is not the number of a row", one))
-pattern = argument(PricePattern.of)
-OF_TABLE = "the table; standard input if it is not given, or is -"
-OF_SUMMARY = "report at the end how many labels there are, and which prices"
-OF_FILE = "the file"
-SEVERAL: dict[str, Any] = {"action": "append", "default": []}
-CODE_NAMES: dict[str, Any] = {"choices": NAMES, "default": AUTO}
-# the options, in groups: their names, what they take, if anything, their help, and what argparse
-# needs more
-OPTIONS: Mapping[str, Sequence[tuple[str, str, str, dict[str, Any]]]] = {
-    "columns": (
-        ("code", "COLUMN", "the column of the codes; without it one is proposed", {}),
-        ("title", "COLUMN", "a column for the title; may be repeated", SEVERAL),
-        ("text", "COLUMN", "a column for the text below; may be repeated", SEVERAL),
-        ("price", "COLUMN", "the column of the price", {}),
-        ("unit-price", "COLUMN", "the column of the price of a unit, such as 7,96 €/kg", {}),
-        ("old-price", "COLUMN", "the column of the price before a reduction", {}),
-        ("currency", "COLUMN", "the column of the currency of the prices", {}),
-        ("copies", "COLUMN", "the column of the number of labels, 0 to 9999", {}),
-    ),
-    "rows": (
-        (
-            *("where", "COLUMN=VALUE", "print only rows that have this value; may be repeated"),
-            {"type": condition, **SEVERAL},
-        ),
-        ("new-since", "LINES", "print only what is new or has changed since these lines", {}),
-        ("hidden", "", "print hidden rows too", {}),
-    ),
-    "codes": (
-        ("symbology", "NAME", f"{', '.join(NAMES)} [default: auto]", CODE_NAMES),
-        ("symbology-column", "COLUMN", "the column of the symbologies", {}),
-        (
-            *("settings", "TEXT", "settings of all lines, such as height=30 or level=Q,mask=2"),
-            {"type": settings},
-        ),
-        ("fill-zeros", "", "put back up to three lost leading zeros", {}),
-        ("without-check-digit", "", "the numbers have no check digit; labels adds it", {}),
-        ("allow-zeros", "", "take numbers that end in many zeros, which look rounded", {}),
-        ("links", "", "draw the address of the link in the cell of a code", {}),
-    ),
-    "prices and dates": (
-        ("price-as", "FORMAT", "write prices like '0,00 €' or '¤ 0.00'", {"type": pattern}),
-        ("price-text", "", "prices may be any text, such as 'on request'", {}),
-        ("currency-name", "NAME", "a currency that label-table does not know", {"default": ""}),
-        ("decimal", "SIGN", "decimal sign: comma or point [default: the locale's]", {"type": sign}),
-        ("date-as", "FORMAT", "write dates like dd.mm.yyyy", {"type": dates}),
-    ),
-    OF_FILE: (
-        ("sheet", "NAME", "the sheet of .xlsx or .ods [default: the visible one with data]", {}),
-        (
-            *("delimiter", "C", "the character between cells of CSV, tab, or none for one column"),
-            {"type": delimiter},
-        ),
-        ("encoding", "NAME", "the encoding of CSV [default: UTF-8, or by its mark]", {}),
-    ),
-}
+def delimiter(text: str) -> str:
+    """Returns what separates cells."""
+    if not DELIMITER.fullmatch(text):
+        what = Text("{} is not tab, none or a character that can separate cells", quoted(text))
+        raise wrong_argument(what)
+    return text
 
 
-def made(kind: type[Made], arguments: argparse.Namespace, **more: Any) -> Made:
+def row_number(text: str) -> int:
+    """Returns the number of a row."""
+    if not ROW_NUMBER.fullmatch(text):
+        raise wrong_argument(Text("{} is not the number of a row", quoted(text)))
+    return int(text)
+
+
+def made(kind: type[Read], arguments: argparse.Namespace, **more: Any) -> Read:
     """Returns a record whose fields are the arguments of these names, or what is given beside
     them; a field keeps its default if there is no such argument.
     """
@@ -208,7 +230,7 @@ def made(kind: type[Made], arguments: argparse.Namespace, **more: Any) -> Made:
     return kind(**{name: found[name] for name in names if found[name] is not None})
 
 
-def options_of(arguments: argparse.Namespace) -> TableOptions:
+def table_options(arguments: argparse.Namespace) -> TableOptions:
     """Returns the options that the arguments are; raises `ToolError` and `OSError` for older lines
     that cannot be read.
     """
@@ -220,7 +242,7 @@ def options_of(arguments: argparse.Namespace) -> TableOptions:
         columns=made(Columns, arguments, symbology=arguments.symbology_column, **several),
         file=made(FileOptions, arguments),
         codes=made(CodeRules, arguments),
-        prices=PriceRules(arguments.price_text, arguments.price_as, arguments.currency_name),
+        prices=PriceRules(bool(arguments.price_text), arguments.price_as, arguments.currency_name),
         new_since=None if older is None else older_lines(older),
         table="" if arguments.table in (None, "-") else arguments.table,
     )
@@ -228,7 +250,7 @@ def options_of(arguments: argparse.Namespace) -> TableOptions:
 
 def understood(words: Sequence[str]) -> argparse.Namespace:
     """Returns the arguments that words are; raises `BadArguments`."""
-    parser = command_line()
+    parser = new_parser()
     arguments = parser.parse_args(words)
     if arguments.code is None:
         what = Text("the following arguments are required: --code")
@@ -323,20 +345,15 @@ def older_lines(path: str) -> LinesFile:
 
 def run() -> int:
     """Reads the table, and then writes its lines; returns the status."""
+    gc.disable()  # no row leaves a cycle behind, and looking for them takes a tenth of the time
     arguments = understood(sys.argv[1:])
     output = standard_output()
-    options = options_of(arguments)
+    options = table_options(arguments)
     name, data = read_input(arguments.table)
     talk = TableTalk()
     lines = lines_of_table(data, name, options, talk)
     talk.finish()
-    if arguments.summary or sys.stderr.isatty():
+    if arguments.is_summed or sys.stderr.isatty():
         talk.say(lines.summary)
     output.write(lines.output)
     return 1 if lines.left_out else 0
-
-
-def main() -> None:
-    """Runs the command, and ends."""
-    gc.disable()  # no row leaves a cycle behind, and looking for them takes a tenth of the time
-    main_of(TOOL, run)

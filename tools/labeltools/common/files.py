@@ -7,8 +7,8 @@ from contextlib import contextmanager
 from pathlib import Path
 from typing import IO, Iterator
 
-from labeltools.common.text import Text
 from labeltools.common.messages import ToolError
+from labeltools.common.text import Text
 
 PART = ".{number}.part"  # a name that no label has: those begin with no dot
 BLOCK = 1 << 20
@@ -49,7 +49,7 @@ def save(file: IO[bytes], path: Path, number: int = 1) -> None:
         raise
 
 
-def send(data: bytes, output: int) -> None:
+def write_whole(data: bytes, output: int) -> None:
     """Writes bytes to an open file, which gets nothing where it does not take all; raises
     `Unwritten` where that is so, and `OSError`.
     """

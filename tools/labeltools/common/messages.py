@@ -58,18 +58,18 @@ class Cancelled(ToolError):
 class RowError(Exception):
     """Why a row of a table, or a label, is left out.
 
-    `what` and `hint` are as in `ToolError`; `place` is that of the column, from 0, where the reason
-    is one cell.
+    `what` and `hint` are as in `ToolError`; `column` is the place of the column, from 0, where the
+    reason is one cell.
     """
 
-    def __init__(self, what: Text, hint: Text = NOTHING, place: int | None = None) -> None:
+    def __init__(self, what: Text, hint: Text = NOTHING, column: int | None = None) -> None:
         super().__init__(sentence(what, hint))
         self.what = what
         self.hint = hint
-        self.place = place
+        self.column = column
 
 
-class Place(NamedTuple):
+class Origin(NamedTuple):
     """What a message is about: a row of a table, or a line of a file, by its number from 1."""
 
     table: str  # the name of the table or file, where there may be several; else empty
@@ -90,7 +90,7 @@ class Talk(Protocol):
     shows it.
     """
 
-    def note(self, place: Place, cell: str, reason: Text, hint: Text) -> None:
+    def note(self, origin: Origin, cell: str, reason: Text, hint: Text) -> None:
         """A row or line is left out: the text of its cell, why, and what to do, which may be
         empty.
         """
@@ -107,7 +107,7 @@ class Talk(Protocol):
 class Silence:
     """A talk to nobody."""
 
-    def note(self, place: Place, cell: str, reason: Text, hint: Text) -> None:
+    def note(self, origin: Origin, cell: str, reason: Text, hint: Text) -> None:
         """Does nothing."""
 
     def say(self, text: Text, hint: Text = NOTHING) -> None:

@@ -2,10 +2,10 @@
 
 from dataclasses import dataclass
 from itertools import groupby, islice
-from typing import Iterable, Iterator, Optional, Sequence
+from typing import Iterable, Iterator, Sequence
 
-from labeltools.common.text import NOTHING, Text, joined
-from labeltools.common.messages import Place
+from labeltools.common.messages import Origin
+from labeltools.common.text import joined, NOTHING, Text
 
 MOST_REASONS = 8  # that have a message of their own
 MOST_RANGES = 10  # of rows that a message names
@@ -14,9 +14,9 @@ Ranges = Sequence[tuple[int, int]]  # the first and the last number of each
 
 @dataclass(frozen=True, slots=True)
 class LeftOut:
-    """A label that is not printed: its place where that is known, its data, why, and what to do."""
+    """A label that is not printed: its origin if that is known, its data, why, and what to do."""
 
-    place: Optional[Place]
+    origin: Origin | None
     data: str
     reason: Text
     hint: Text = NOTHING
@@ -27,11 +27,11 @@ def report(left_out: Sequence[LeftOut], tables: Iterable[str]) -> Iterator[Text]
     reasons; places are named with their table where there are several.
     """
     has_tables = len(set(tables)) > 1
-    places: dict[Text, list[Place]] = {}
+    places: dict[Text, list[Origin]] = {}
     for one in left_out:
         named = places.setdefault(one.reason, [])
-        if one.place is not None:
-            named.append(one.place)
+        if one.origin is not None:
+            named.append(one.origin)
     reasons = sorted(places, key=lambda reason: -len(places[reason]))
     for reason in reasons[:MOST_REASONS]:
         named = places[reason]
@@ -42,7 +42,7 @@ def report(left_out: Sequence[LeftOut], tables: Iterable[str]) -> Iterator[Text]
         yield Text("{}: skipped for other reasons, such as: {}", where, reasons[MOST_REASONS])
 
 
-def places_text(places: Iterable[Place], has_tables: bool) -> Text:
+def places_text(places: Iterable[Origin], has_tables: bool) -> Text:
     """Returns places in words, such as `rows 2, 5-9`."""
     texts = []
     for (table, unit), group in groupby(sorted(set(places)), key=lambda place: place[:2]):

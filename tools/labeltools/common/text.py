@@ -6,7 +6,7 @@ xgettext finds them: `--keyword=Text --keyword=counted:1,2`.
 from dataclasses import dataclass
 from typing import Iterable
 
-from labeltools.common.words import ngettext, one_text
+from labeltools.common.language import ngettext, one_text
 
 
 class Text(str):
@@ -83,10 +83,10 @@ def translated(text: object) -> str:
         template = ngettext(text.template, text.many, first)
     else:
         template = one_text(text.template)
-    return template.format(*map(shown, text.fields))
+    return template.format(*map(shown_field, text.fields))
 
 
-def shown(field: object) -> object:
+def shown_field(field: object) -> object:
     """Returns what a text has in the place of a field."""
     if isinstance(field, Text):
         return translated(field)

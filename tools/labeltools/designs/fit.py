@@ -8,16 +8,17 @@ from bisect import bisect_left
 from collections import Counter
 from functools import cache
 from statistics import median_high
-from typing import NamedTuple, Optional
+from typing import NamedTuple
 
-from labeltools.layout.fitting import Style
-from labeltools.layout.glyphs import LINE_END
-from labeltools.layout.frames import Box, HINTING, LEAST_TEXT, LINE, share
-from labeltools.common.kept import Found
-from labeltools.layout.letters import BLANK, Letters, Sign, extent_of
-from labeltools.common.messages import ToolError, quoted
-from labeltools.designs.places import Place
+from labeltools.common.cache import Found
+from labeltools.common.messages import quoted, ToolError
 from labeltools.common.text import Text
+from labeltools.designs.places import Place
+from labeltools.layout.fitting import Style
+from labeltools.layout.frame import common_value, HINTING, LEAST_TEXT, LINE
+from labeltools.layout.glyphs import LINE_END
+from labeltools.layout.letters import BLANK, extent_of, Letters, Sign
+from labeltools.paper.box import Box
 
 SIDE = 1 / 8  # white at both sides of wrapped lines, in letters
 STEP = 0.97  # the next smaller size of letters that is tried
@@ -35,7 +36,7 @@ class NoRoom(ToolError):
     """Why a price or a symbol has no room in its place."""
 
 
-class OwnText(NamedTuple):
+class PlacedText(NamedTuple):
     """A text in the box of a place, with the ends of its lines, and how it is written."""
 
     place: Place
@@ -67,7 +68,7 @@ class Room:
         self.wide, self.high = place.as_read(box)
         self.sign = cache(self.new_sign)
         self.largest = cache(self.new_largest)
-        self.texts: Found[str, OwnText] = Found(self.new_text)
+        self.texts: Found[str, PlacedText] = Found(self.new_text)
         signs = [self.sign(line) for line in {one for text in counts for one in text.split("\n")}]
         if max(sign.bottom - sign.top for sign in signs) < LOW:
             signs.append(self.sign(LETTER))
@@ -83,7 +84,7 @@ class Room:
         for text, labels in counts.items():
             sizes[1 / self.fits[text].size] += labels
         most = OUTLYING * median_high(sizes.elements())
-        self.common = round(1 / share({one: sizes[one] for one in sizes if one <= most}))
+        self.common = round(1 / common_value({one: sizes[one] for one in sizes if one <= most}))
 
     def new_largest(self, lines: int) -> int:
         """Returns the largest letters of a number of lines."""
@@ -120,7 +121,7 @@ class Room:
         whole = self.lines_of(text, sizes[end]) if end < len(sizes) else None
         return Fit(self.least, text, True) if whole is None else Fit(sizes[end], whole)
 
-    def lines_of(self, text: str, size: int) -> Optional[str]:
+    def lines_of(self, text: str, size: int) -> str | None:
         """Returns a text with the ends of its lines in letters of a size; None where it does not
         fit.
         """
@@ -157,7 +158,7 @@ class Room:
             used += wide + self.letters.spaces[self.place.is_bold] * (len(part) - len(bare))
         return [line.rstrip(" ") for line in lines]
 
-    def new_text(self, text: str) -> OwnText:
+    def new_text(self, text: str) -> PlacedText:
         """Returns where a text is; raises `NoRoom` for a price that would be cut."""
         place = self.place
         fit = self.fits[text]
@@ -176,7 +177,7 @@ class Room:
         struck = len(text.encode()) if place.part == "was" else 0
         most = lines if lines > 1 or fit.is_cut else 0
         how = (self.letters.family, place.is_bold, size, most, place.across, 0.0, struck, base)
-        return OwnText(place, written, self.box, Style(*how))
+        return PlacedText(place, written, self.box, Style(*how))
 
     def is_parted_number(self, word: str) -> bool:
         """Returns whether a word is a number that is wider than a line of the least letters: in two

@@ -7,16 +7,17 @@
 import re
 from dataclasses import dataclass, replace
 from functools import cached_property, lru_cache
-from typing import Any, Optional
+from typing import Any
 from xml.etree.ElementTree import Element
 
-from labeltools.common.messages import ToolError, quoted
-from labeltools.common.names import name_of
-from labeltools.lines.symbologies import SYMBOLOGIES
+from labeltools.common.column_names import name_of
+from labeltools.common.messages import quoted, ToolError
 from labeltools.common.text import Text
-from labeltools.designs.drawing import SPACE
-from labeltools.layout.frames import Box
+from labeltools.designs.svg_page import SPACE
+from labeltools.layout.fitting import Colour
+from labeltools.lines.symbologies import SYMBOLOGIES
 from labeltools.paper.area import Dots
+from labeltools.paper.box import Box
 
 # where programs write the name that was typed; ids have no spaces and commas in many of them
 WRITTEN = (
@@ -50,8 +51,6 @@ WHERE: dict[str, dict[str, Any]] = {  # a text or a symbol is in its place
 }
 WORDS = {**WHERE, "bold": {"is_bold": True}}  # of texts
 
-Colour = tuple[float, float, float]  # red, green, blue: 0 to 1
-
 
 @dataclass(frozen=True, eq=False)
 class Place:
@@ -71,7 +70,7 @@ class Place:
     down: float = 0.5
     is_bold: bool = False
     font: str = ""
-    colour: Optional[Colour] = None
+    colour: Colour | None = None
     symbology: str = ""
     settings: tuple[str, ...] = ()
     module: float = 0.0

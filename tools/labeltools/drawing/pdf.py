@@ -5,16 +5,16 @@ import os
 import re
 import tempfile
 from dataclasses import dataclass
-from typing import IO, Any, Callable, Iterable
+from typing import Any, Callable, IO, Iterable
 
 import cairo
 
-from labeltools.paper.area import MILLIMETRES
 from labeltools.common.files import BLOCK
-from labeltools.drawing.pen import Page, Pen
+from labeltools.drawing.pen import Pen
+from labeltools.layout.layout import Page
+from labeltools.paper.area import MILLIMETRES, POINTS
 from labeltools.paper.stock import Size
 
-POINTS = 72  # in an inch
 OBJECT = re.compile(rb"([0-9]{10}) [0-9]{5} n")
 TABLE_AT = 64  # bytes from the end of a PDF, in which the place of its table of objects is
 
@@ -30,7 +30,7 @@ class Paper:
     turn: int
 
 
-def drawing(
+def drawn_file(
     paper: Paper, pens: Iterable[Pen], pages: Callable[[], Iterable[Page]], is_svg: bool
 ) -> IO[bytes]:
     """Returns a file of pages, at its begin.

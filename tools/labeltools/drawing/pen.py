@@ -1,28 +1,26 @@
 """Draws labels by Cairo and Pango, in dots or for a drawing. Lengths are in dots."""
 
-import math
 import re
 from collections import defaultdict
-from dataclasses import dataclass
 from functools import cache, lru_cache
 from itertools import accumulate, repeat
-from typing import Any, Iterable, Iterator, NamedTuple, Optional, Sequence
+from typing import Any, Iterable, Iterator, Sequence
 
 import cairo
 
-from labeltools.paper.area import Dots
-from labeltools.lines.engine import LABELS_FAILED, Modules, bytes_a_row
-from labeltools.layout.fitting import Fitted, Fitter, LEFT, MIDDLE, RIGHT, Style
-from labeltools.layout.frames import Box, LINE
-from labeltools.layout.layout import LaidOut, Layout, PrintLabel
-from labeltools.layout.letters import DIGITS_FONT, Letters
-from labeltools.designs.design import is_light
-from labeltools.designs.layout import OwnSymbol, symbols_of
 from labeltools.common.messages import FAULT, ToolError
 from labeltools.common.text import Text
-from labeltools.designs.places import Colour
+from labeltools.designs.design import Design, PlacedSymbol
+from labeltools.designs.svg_design import is_light
+from labeltools.layout.fitting import Fitted, Fitter, MIDDLE, Placed, Style
+from labeltools.layout.layout import LaidOut, Page
+from labeltools.layout.letters import DIGITS_FONT, Letters
+from labeltools.layout.medium import font_options, Medium
 from labeltools.layout.pango import PangoCairo, plain_options
-from labeltools.lines.symbologies import SYMBOLOGIES, Span, Symbology
+from labeltools.lines.engine import bytes_a_row, LABELS_FAILED, Modules
+from labeltools.lines.symbologies import Span, SYMBOLOGIES, Symbology
+from labeltools.paper.area import Dots
+from labeltools.paper.box import Box
 
 DARK = re.compile("1+")
 INSET = 0.01  # of a dot: what touches a dot paints it
@@ -35,59 +33,27 @@ DIGITS_TOP = 1
 DIGITS_SIZE = 10.4
 LARGE = 1000  # dots: the size in which digits are measured
 DIGITS = "0123456789"
-BETWEEN = "   "  # old price and unit price on one line
 EDGE = 4.0  # dots: white around letters on a tint, of which letters cover half
-WITHOUT_END = 1 << 20  # dots: the height of a text of which all lines are wanted
 KNOWN = 1024  # boxes that are kept
 KNOWN_PAGES = 16  # of which the white is kept
-Page = Sequence[tuple[LaidOut, Dots]]  # labels, with the upper left corners of their areas
-Codes = Sequence[tuple[OwnSymbol, Dots]]  # symbols, with those of the areas of their labels
+Codes = Sequence[tuple[PlacedSymbol, Dots]]  # symbols, with those of the areas of their labels
 Whites = Sequence[tuple[Sequence[Box], Dots]]  # boxes of labels, with those of their areas
-
-
-class Placed(NamedTuple):
-    """A text that is fitted into a box: its style; the box, turned to the right by some quarters;
-    its colour where that is not black; whether its letters have a white edge.
-    """
-
-    text: Fitted
-    style: Style
-    box: Box
-    quarters: int = 0
-    colour: Optional[Colour] = None
-    is_edged: bool = False
 
 
 # glyphs of many labels that are drawn together, by their faces and sizes: a call of Cairo takes as
 # long as a line of glyphs
-Runs = defaultdict[tuple[Any, int], list[tuple[int, float, float]]]
-
-
-@dataclass(frozen=True)
-class Medium:
-    """What is drawn on: its dots an inch; whether letters are made of these dots; whether bars are
-    rectangles, since programs that show it smooth a stretched picture; the fonts whose letters are
-    shapes.
-    """
-
-    dpi: int
-    is_dots: bool
-    is_smooth: bool = False
-    outlines: frozenset[str] = frozenset()
-
-    @property
-    def is_pdf(self) -> bool:
-        """Whether it is a page of PDF."""
-        return not self.is_dots and not self.is_smooth
+GlyphRuns = defaultdict[tuple[Any, int], list[tuple[int, float, float]]]
 
 
 class Pen:
-    """Draws labels on a medium, in a built-in design."""
+    """Draws labels of a design on a medium."""
 
-    def __init__(self, medium: Medium, letters: Letters) -> None:
+    def __init__(self, medium: Medium, letters: Letters, design: Design) -> None:
         self.medium = medium
         self.letters = letters
-        self.options = options_of(medium)
+        self.design = design
+        self.below = design.below(medium)
+        self.options = font_options(medium)
         self.fitter = Fitter(letters, self.options, medium.is_dots)
         # Cairo keeps a face as it was first used: a name of its own for each medium
         self.digits_face = cairo.ToyFontFace(DIGITS_FONT + " " * medium.is_dots)
@@ -96,7 +62,6 @@ class Pen:
         self.digit_width = extents.x_advance / LARGE
         self.digit_height = -extents.y_bearing / LARGE
         self.digits_of_size = cache(self.new_digits)
-        self.style = cache(self.new_style)
         self.digit_places = cache(self.new_digit_places)
         self.recorded_white = lru_cache(KNOWN_PAGES)(self.new_recorded_white)
 
@@ -113,18 +78,18 @@ class Pen:
         if turn:
             canvas.transform(upright_from(turn))
             page = [(item, (top, -left)) for item, (left, top) in page]
-        self.draw_below(canvas, page)
-        runs: Runs = defaultdict(list)
-        labels = [(item, place, symbols_of(item)) for item, place in page]
+        self.below.draw(canvas, page)
+        runs: GlyphRuns = defaultdict(list)
+        labels = [(item, place, self.design.symbols(item)) for item, place in page]
         codes = [(symbol, place) for _, place, symbols in labels for symbol in symbols]
         for symbol, place in codes:
             if "digits" in symbol.boxes:
                 self.draw_digits(canvas, symbol, place, runs)
         for item, place, symbols in labels:
-            taken = [box for symbol in symbols for box in white_of(symbol)]
+            taken = [box for symbol in symbols for box in white_boxes(symbol)]
             for text in self.texts(item):
                 if is_over(text.box, taken):
-                    what = Text("{}: a text is over its code", item.label.record.place.text)
+                    what = Text("{}: a text is over its code", item.label.record.origin.text)
                     raise ToolError(what, FAULT, LABELS_FAILED)
                 self.draw_text(canvas, text, place, runs)
         self.show_runs(canvas, runs)
@@ -140,104 +105,30 @@ class Pen:
                 canvas.set_matrix(turned)
         canvas.set_matrix(whole)
 
-    def draw_below(self, canvas: Any, page: Page) -> None:
-        """Draws what is below the symbols and texts of a page: nothing."""
-
     def texts(self, item: LaidOut) -> Iterator[Placed]:
         """Yields the texts of a label, each of which is drawn before the next one is fitted."""
-        label = item.label
-        layout = item.layout
-        boxes = layout.boxes
-        if "title" in boxes:
-            yield from self.head(label, layout)
-        for kind in ("text", "price", "details"):
-            if kind in boxes:
-                yield self.placed(kind, label, layout, boxes[kind])
-
-    def head(self, label: PrintLabel, layout: Layout) -> Iterator[Placed]:
-        """Yields a title, and the text below it where that has no place of its own."""
-        frame = layout.frame
-        box = layout.boxes["title"]
-        has_text = bool(label.text) and "text" not in layout.boxes
-        room = box.height
-        if has_text:
-            room -= math.ceil((label.text.count("\n") + 1) * LINE * frame.sizes["text"])
-        used = 0
-        title = None
-        if label.title:
-            most = math.ceil(frame.lines * LINE * frame.sizes["title"])
-            title = self.placed("title", label, layout, box._replace(height=min(most, room)))
-            used = min(title.text.height, room)
-        top = box.top
-        if frame.kind == "beside" and "price" not in frame.boxes:
-            top += (room - used) // 2
-        if title is not None:
-            yield title if top == box.top else title._replace(box=box._replace(top=top))
-        if has_text:
-            rest = box._replace(top=top + used, height=box.bottom - top - used)
-            yield self.placed("text", label, layout, rest)
-
-    def placed(self, kind: str, label: PrintLabel, layout: Layout, box: Box) -> Placed:
-        """Returns a text of a label as it fits a box."""
-        text, style = self.text_of(kind, label, layout)
-        return Placed(self.fitter.found(text, style, box.width, box.height), style, box)
-
-    def text_of(self, kind: str, label: PrintLabel, layout: Layout) -> tuple[str, Style]:
-        """Returns a text of a label and how it is written."""
-        frame = layout.frame
-        how = (kind, frame.kind, frame.sizes[kind])
-        whole = label.record.label
-        if kind == "title":
-            lines = frame.lines - label.title.count("\n")
-            if lines > 0:
-                return label.title, self.style(*how, lines)
-            return label.title.replace("\n", " "), self.style(*how, max(1, frame.lines))
-        if kind == "text":
-            return label.text, self.style(*how, 1)
-        if kind == "price":
-            return whole.price, self.style(*how, 0)
-        between = BETWEEN if frame.details_lines == 1 else "\n"
-        text = between.join(part for part in (whole.was, whole.unit) if part)
-        return text, self.style(*how, 0)._replace(struck=len(whole.was.encode()))
-
-    def new_style(self, kind: str, arrangement: str, size: int, lines: int) -> Style:
-        """Returns how a part of a label is written; `lines` are those of each line of a title."""
-        words, numbers = (MIDDLE, MIDDLE) if arrangement == "below" else (LEFT, RIGHT)
-        across, down = {
-            "title": (words, 0.0),
-            "text": (RIGHT if arrangement == "foot" else words, 0.0),
-            "price": (numbers, 0.5),
-            "details": (numbers, 1.0),
-        }[kind]
-        is_bold = kind in ("title", "price")
-        return Style(self.letters.family, is_bold, size, lines, across, down, 0)
+        return self.design.texts(item, self.fitter, self.below)
 
     def is_shortened(self, item: LaidOut) -> bool:
         """Returns whether a text of a label ends in an ellipsis."""
-        return item.label.is_cut or any(self.fitter.is_cut(*text) for text in self.lines_of(item))
+        return item.label.is_cut or any(
+            self.fitter.is_cut(*text) for text in self.design.cut_texts(item, self.fitter)
+        )
 
     def shown_texts(self, item: LaidOut) -> tuple[str, ...]:
         """Returns the texts of a label that may be cut as they are seen: up to the ellipsis, where
         they have one.
         """
-        return tuple(self.fitter.shown(*text) for text in self.lines_of(item))
+        return tuple(self.fitter.shown(*text) for text in self.design.cut_texts(item, self.fitter))
 
-    def lines_of(self, item: LaidOut) -> Iterator[tuple[str, Style, int, int]]:
-        """Yields the texts of a label that may be cut, with the room of their lines."""
-        boxes = item.layout.boxes
-        for kind in ("title", "text"):
-            text, style = self.text_of(kind, item.label, item.layout)
-            if text:
-                yield text, style, (boxes.get(kind) or boxes["title"]).width, WITHOUT_END
-
-    def draw_digits(self, canvas: Any, symbol: OwnSymbol, place: Dots, runs: Runs) -> None:
+    def draw_digits(self, canvas: Any, symbol: PlacedSymbol, place: Dots, runs: GlyphRuns) -> None:
         """Draws what is below the bars of a symbol of a label whose area begins at a place; digits
         that are not turned are shown with those of other labels.
         """
         quarters = symbol.place.quarters
         whole = canvas.get_matrix()
         corner = turn_to(canvas, symbol.box, quarters, place)
-        own: Runs = defaultdict(list) if quarters else runs
+        own: GlyphRuns = defaultdict(list) if quarters else runs
         self.draw_data(canvas, symbol, corner, own)
         if quarters:
             self.show_runs(canvas, own)
@@ -247,7 +138,7 @@ class Pen:
         """Draws what is white below the codes of a page, so that nothing is over them, and makes
         black the colour. A PDF has it once for all pages that have their codes in the same places.
         """
-        whites: Whites = [(white_of(symbol), place) for symbol, place in codes]
+        whites: Whites = [(white_boxes(symbol), place) for symbol, place in codes]
         if self.medium.is_pdf:
             canvas.set_source_surface(self.recorded_white(tuple(whites), turn))
             canvas.paint()
@@ -278,7 +169,7 @@ class Pen:
         canvas.set_matrix(whole)
         canvas.fill()
 
-    def draw_text(self, canvas: Any, placed: Placed, place: Dots, runs: Runs) -> None:
+    def draw_text(self, canvas: Any, placed: Placed, place: Dots, runs: GlyphRuns) -> None:
         """Draws a text of a label whose area begins at a place; in dots it is black, or takes black
         dots away.
         """
@@ -286,7 +177,7 @@ class Pen:
         if not quarters and colour is None and not is_edged:
             self.show(canvas, text, style, (place[0] + box.left, place[1] + box.top), runs)
             return
-        own: Runs = defaultdict(list)
+        own: GlyphRuns = defaultdict(list)
         canvas.save()
         corner = turn_to(canvas, box, quarters, place)
         if is_edged:
@@ -301,7 +192,7 @@ class Pen:
         self.show_runs(canvas, own)
         canvas.restore()
 
-    def show(self, canvas: Any, text: Fitted, style: Style, corner: Dots, runs: Runs) -> None:
+    def show(self, canvas: Any, text: Fitted, style: Style, corner: Dots, runs: GlyphRuns) -> None:
         """Shows a text in a box that begins at a corner, as shapes where its font needs that;
         glyphs are shown with those of other texts.
         """
@@ -318,7 +209,7 @@ class Pen:
         else:
             show_layout(canvas, text.layout)
 
-    def show_runs(self, canvas: Any, runs: Runs) -> None:
+    def show_runs(self, canvas: Any, runs: GlyphRuns) -> None:
         """Shows glyphs, as shapes if their font needs that."""
         canvas.set_font_options(self.options)
         for (face, size), glyphs in runs.items():
@@ -330,7 +221,9 @@ class Pen:
             else:
                 canvas.show_glyphs(glyphs)
 
-    def draw_modules(self, canvas: Any, modules: Modules, layout: OwnSymbol, corner: Dots) -> None:
+    def draw_modules(
+        self, canvas: Any, modules: Modules, layout: PlacedSymbol, corner: Dots
+    ) -> None:
         """Draws the modules of a symbol whose box begins at a corner, and longer guards of bars."""
         bars = layout.boxes["bars"]
         box = Box(corner[0] + bars.left, corner[1] + bars.top, bars.width, bars.height)
@@ -351,7 +244,7 @@ class Pen:
         mask.set_matrix(scaled(place, modules.width, high))
         canvas.mask(mask)
 
-    def draw_data(self, canvas: Any, symbol: OwnSymbol, corner: Dots, runs: Runs) -> None:
+    def draw_data(self, canvas: Any, symbol: PlacedSymbol, corner: Dots, runs: GlyphRuns) -> None:
         """Draws what is below the bars of a symbol whose box begins at a corner: digits in their
         places, or all data in the middle.
         """
@@ -406,17 +299,6 @@ def edge_letters(canvas: Any, text: Fitted) -> None:
     canvas.restore()
 
 
-def options_of(medium: Medium) -> cairo.FontOptions:
-    """Returns how letters are drawn on a medium."""
-    if not medium.is_dots:
-        return plain_options()
-    options = cairo.FontOptions()
-    options.set_hint_metrics(cairo.HintMetrics.ON)
-    options.set_hint_style(cairo.HintStyle.FULL)
-    options.set_antialias(cairo.Antialias.NONE)
-    return options
-
-
 def turn_to(canvas: Any, box: Box, quarters: int, place: Dots) -> Dots:
     """Turns a canvas to the right by some quarters, with a box of a label whose area begins at a
     place, and returns where that begins.
@@ -438,7 +320,7 @@ def upright_from(turn: int) -> cairo.Matrix:
     return cairo.Matrix(0, 1, -1, 0, turn, 0)
 
 
-def white_of(symbol: OwnSymbol) -> tuple[Box, ...]:
+def white_boxes(symbol: PlacedSymbol) -> tuple[Box, ...]:
     """Returns where a symbol is on its label: its bars, and what guards are longer."""
     bars, room = symbol.boxes["bars"], symbol.box
     return boxes_of(bars, symbol.module, symbol.symbology.name, room, symbol.place.quarters)

@@ -6,7 +6,7 @@ from itertools import repeat
 from operator import ne, or_
 from typing import Iterator, NamedTuple
 
-from labeltools.common.kept import Kept
+from labeltools.common.cache import Kept
 from labeltools.paper.picture import Picture, rows_reader
 
 MOST_BYTES = 99_999  # of a graphic field
@@ -54,12 +54,12 @@ def graphic_fields(picture: Picture) -> Iterator[bytes]:
         high = MOST_BYTES // size
         for top in range(block.top, block.bottom, high):
             part = block._replace(top=top, bottom=min(block.bottom, top + high))
-            dots = b"".join(rows_of(picture, part))
+            dots = b"".join(block_rows(picture, part))
             head = (8 * block.left, top, len(dots), len(dots), size)
             yield b"^FO%d,%d^GFA,%d,%d,%d,%b^FS\n" % (*head, run_lengths(dots, size))
 
 
-def rows_of(picture: Picture, block: Block) -> tuple[bytes, ...]:
+def block_rows(picture: Picture, block: Block) -> tuple[bytes, ...]:
     """Returns the rows of a block."""
     left, top, right, bottom = block
     read = rows_reader(left, right - left, picture.stride - right, bottom - top)
@@ -75,7 +75,7 @@ def blocks(picture: Picture, block: Block, is_narrow: bool) -> Iterator[Block]:
         yield from bands
         return
     for band in bands:
-        rows = {*rows_of(picture, band)}
+        rows = {*block_rows(picture, band)}
         dots = [int.from_bytes(row, "big") for row in rows]
         inked = reduce(or_, dots).to_bytes(band.right - band.left, "big")
         parts = [*INKED.finditer(inked)]
@@ -93,7 +93,7 @@ def blocks(picture: Picture, block: Block, is_narrow: bool) -> Iterator[Block]:
 def bands_of(picture: Picture, block: Block) -> Iterator[Block]:
     """Yields parts of a block with white rows between them, and none at their ends."""
     blank = bytes(block.right - block.left)
-    inked = bytes(map(ne, rows_of(picture, block), repeat(blank)))
+    inked = bytes(map(ne, block_rows(picture, block), repeat(blank)))
     for first, last in map(re.Match.span, INKED_ROWS.finditer(inked)):
         yield block._replace(top=block.top + first, bottom=block.top + last)
 

@@ -3,15 +3,16 @@
 import re
 from functools import cache
 from math import ceil, floor
-from typing import Any, Hashable, Iterator, NamedTuple, Optional, Sequence
+from typing import Any, Hashable, Iterator, NamedTuple, Sequence
 
 import cairo
 
-from labeltools.layout.frames import Box, LINE
-from labeltools.layout.glyphs import BY_PAIRS, Glyphs, LINE_END, Row
-from labeltools.common.kept import Kept
+from labeltools.common.cache import Kept
+from labeltools.layout.frame import LINE
+from labeltools.layout.glyphs import BY_PAIRS, GlyphRow, Glyphs, LINE_END
 from labeltools.layout.letters import Letters
-from labeltools.layout.pango import Pango, UNIT, pango_context
+from labeltools.layout.pango import Pango, pango_context, UNIT
+from labeltools.paper.box import Box
 
 NOT_LATIN = re.compile("[^\0-\u024f]")  # letters that may leave their line
 ELLIPSIS = 1 << 1  # PANGO_ANALYSIS_FLAG_IS_ELLIPSIS of a run
@@ -29,6 +30,8 @@ ALIGNMENTS = {
     RIGHT: Pango.Alignment.RIGHT,
 }
 
+Colour = tuple[float, float, float]  # red, green, blue: 0 to 1
+
 
 class Style(NamedTuple):
     """How a text is drawn: its letters and their size; the most lines that each line of it takes,
@@ -44,7 +47,7 @@ class Style(NamedTuple):
     across: int
     down: float
     struck: int
-    base: Optional[int] = None
+    base: int | None = None
 
 
 class Fitted(NamedTuple):
@@ -57,12 +60,12 @@ class Fitted(NamedTuple):
     y: int
     height: int
     layout: Any
-    glyphs: Optional[Glyphs] = None
-    rows: Sequence[Row] = ()
+    glyphs: Glyphs | None = None
+    rows: Sequence[GlyphRow] = ()
     room: int = 0
     part: float = 0.0
 
-    def lines(self) -> Iterator[tuple[Row, float, float]]:
+    def lines(self) -> Iterator[tuple[GlyphRow, float, float]]:
         """Yields its rows of glyphs, with where they begin on their base lines."""
         assert self.glyphs
         base = self.y + self.glyphs.base
@@ -70,6 +73,19 @@ class Fitted(NamedTuple):
             shift = (self.room - row.width) * self.part
             yield row, self.x + (floor(shift + 0.5) if row.width.is_integer() else shift), base
             base += self.glyphs.high
+
+
+class Placed(NamedTuple):
+    """A text that is fitted into a box: its style; the box, turned to the right by some quarters;
+    its colour where that is not black; whether its letters have a white edge.
+    """
+
+    text: Fitted
+    style: Style
+    box: Box
+    quarters: int = 0
+    colour: Colour | None = None
+    is_edged: bool = False
 
 
 class Fitter:
@@ -92,7 +108,7 @@ class Fitter:
         key = text, style, width, height
         return self.kept.get(key, lambda _: self.by_glyphs(*key) or self.by_pango(*key), copied)
 
-    def by_glyphs(self, text: str, style: Style, width: int, height: int) -> Optional[Fitted]:
+    def by_glyphs(self, text: str, style: Style, width: int, height: int) -> Fitted | None:
         """Returns a text of plain letters; None where Pango has to say it, or another size."""
         glyphs = self.glyphs(style)
         is_on_base = style.base is not None
@@ -118,7 +134,7 @@ class Fitter:
         x, y = corner_of(style, extents, ink, width, height)
         return Fitted(size, x, y, extents[1], None, glyphs, (row,))
 
-    def rows(self, glyphs: Glyphs, text: str, style: Style, width: int) -> list[Row]:
+    def rows(self, glyphs: Glyphs, text: str, style: Style, width: int) -> list[GlyphRow]:
         """Returns the rows of a text in lines, if all are whole; none where Pango has to say
         them.
         """
@@ -179,7 +195,7 @@ class Fitter:
         layout.set_attributes(attributes_of(style, size))
         return layout
 
-    def new_glyphs(self, style: Style) -> Optional[Glyphs]:
+    def new_glyphs(self, style: Style) -> Glyphs | None:
         """Returns the glyphs of a style, in a font whose letters are nearer by pairs."""
         is_of_pairs = style.family.lower().startswith(BY_PAIRS) and not style.struck
         how = (style.family, style.is_bold, style.size, style.lines > 0)

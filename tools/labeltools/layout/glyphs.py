@@ -10,9 +10,9 @@ from typing import Any, Iterator, NamedTuple
 
 import cairo
 
-from labeltools.common.kept import Found
-from labeltools.layout.frames import Box
+from labeltools.common.cache import Found
 from labeltools.layout.pango import UNIT
+from labeltools.paper.box import Box
 
 BY_PAIRS = "dejavu "  # how the names of these fonts begin
 # letters that stand one behind another: Latin, Greek, Cyrillic; punctuation; currencies
@@ -25,7 +25,7 @@ UNCLEAR = -1.0  # the step of letters that Pango may draw otherwise
 NEAR = 0.01  # of the size of letters: glyphs with ink as near are the same ones
 
 
-class Row(NamedTuple):
+class GlyphRow(NamedTuple):
     """A line of glyphs: their numbers, how far each one is from the next, and the width of all."""
 
     numbers: list[int]
@@ -58,7 +58,7 @@ class Glyphs:
         self.before = 0.0
         self.behind = 0.0
 
-    def rows(self, text: str, room: float) -> list[Row]:
+    def rows(self, text: str, room: float) -> list[GlyphRow]:
         """Returns the rows of a line of text as Pango parts it in a room; none where Pango has to
         say them.
         """
@@ -70,15 +70,15 @@ class Glyphs:
             return [row]
         if not row or PARTED.search(text):
             return []
-        rows = [row_of(row, *ends) for ends in ends_of(text, [0.0, *accumulate(row.steps)], room)]
+        rows = [row_of(row, *ends) for ends in row_ends(text, [0.0, *accumulate(row.steps)], room)]
         return rows if max(found.width for found in rows) <= room else []
 
-    def row(self, text: str) -> "Row | None":
+    def row(self, text: str) -> "GlyphRow | None":
         """Returns a line of text in one row; None where Pango may draw it otherwise."""
         steps = [*map(self.steps.__getitem__, zip_longest(text, text[1:], fillvalue=""))]
         if not steps or min(steps) == UNCLEAR:
             return None
-        return Row([*map(self.numbers.__getitem__, text)], steps, sum(steps))
+        return GlyphRow([*map(self.numbers.__getitem__, text)], steps, sum(steps))
 
     def step(self, pair: tuple[str, str]) -> float:
         """Returns how far a letter is from the next one, or from the end of its line."""
@@ -124,7 +124,7 @@ class Glyphs:
         """
         return [round(end * UNIT) / UNIT for end in self.font.glyph_extents(glyphs)[:4]]
 
-    def ink_of(self, row: Row) -> Box:
+    def ink_of(self, row: GlyphRow) -> Box:
         """Returns where a row has ink, in whole dots from the upper left corner of its text."""
         numbers, steps, width = row
         left, right = self.sides[numbers[0]][0], self.sides[numbers[-1]][1]
@@ -139,7 +139,7 @@ class Glyphs:
         return Box(x, y, ceil(right) - x, ceil(self.base + bottom) - y)
 
 
-def ends_of(text: str, places: list[float], room: float) -> Iterator[tuple[int, int]]:
+def row_ends(text: str, places: list[float], room: float) -> Iterator[tuple[int, int]]:
     """Yields which letters are in each row of a text: as many words as fit."""
     first = last = 0
     for end in [at for at, letter in enumerate(text) if letter == " "] + [len(text)]:
@@ -150,7 +150,7 @@ def ends_of(text: str, places: list[float], room: float) -> Iterator[tuple[int, 
     yield first, last
 
 
-def row_of(row: Row, first: int, last: int) -> Row:
+def row_of(row: GlyphRow, first: int, last: int) -> GlyphRow:
     """Returns some glyphs of a row as a row."""
     steps = row.steps[first:last]
-    return Row(row.numbers[first:last], steps, sum(steps))
+    return GlyphRow(row.numbers[first:last], steps, sum(steps))

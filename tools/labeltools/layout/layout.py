@@ -8,17 +8,19 @@ from bisect import bisect_left
 from collections import Counter, defaultdict
 from dataclasses import dataclass, replace
 from functools import cache
-from typing import Iterator, Mapping, Optional, Sequence
+from typing import Iterator, Mapping, Sequence
 
-from labeltools.paper.area import Area, PAD, size_of
-from labeltools.lines.engine import Modules
-from labeltools.layout.frames import Box, Frame, HINTING, Need, frame_of, module_in
+from labeltools.common.messages import Origin, Talk
+from labeltools.common.text import joined, Text
+from labeltools.layout.frame import Frame, HINTING, Need
+from labeltools.layout.frame_search import frame_of, module_in
 from labeltools.layout.letters import Letters
+from labeltools.lines.engine import Modules
 from labeltools.lines.file import LineRecord
-from labeltools.common.messages import Place, Talk
-from labeltools.paper.stock import Size, size_text
 from labeltools.lines.symbologies import SYMBOLOGIES, Symbology
-from labeltools.common.text import Text, joined
+from labeltools.paper.area import Area, Dots, millimetres_of, PAD
+from labeltools.paper.box import Box
+from labeltools.paper.stock import Size, size_text
 
 # marks above or below a letter, of which so many are drawn
 MARKS = "[\u0300-\u036f\u0483-\u0489\u1ab0-\u1aff\u1dc0-\u1dff\u20d0-\u20ff\ufe20-\ufe2f]"
@@ -32,20 +34,24 @@ LOW_PART = 0.5  # of their width: bars below it may not serve a till that reads 
 ALMOST = 0.97  # bars are a whole number of modules high, so they may be a bit lower
 MOST_HEIGHT = 150  # millimetres: the highest label that a message proposes
 ASKED = 256  # labels between two calls of `go_on`
-CODE = Need._fields[:3]  # what is of the code alone
 NUMBERS = [name for name in Need._fields if name not in ("symbology", "title")]
 
 
 @dataclass(frozen=True, slots=True)
 class PrintLabel:
-    """A label to print: its line, the modules of its code, its title, and its text, which may have
-    a line that is the same on all labels.
+    """A label to print: its line, which is drawn, its title, and its text, which may have a line
+    that is the same on all labels.
     """
 
     record: LineRecord
-    modules: Modules
     title: str
     text: str
+
+    @property
+    def modules(self) -> Modules:
+        """The modules of its code."""
+        assert self.record.modules is not None
+        return self.record.modules
 
     @property
     def is_cut(self) -> bool:
@@ -97,6 +103,9 @@ class LaidOut:
     layout: Layout
 
 
+Page = Sequence[tuple[LaidOut, Dots]]  # labels, with the upper left corners of their areas
+
+
 @dataclass(frozen=True)
 class LaidOutFile:
     """Labels that were laid out, in their order, the area that they are in (which may be turned),
@@ -107,15 +116,15 @@ class LaidOutFile:
     labels: tuple[LaidOut, ...]
     area: Area
     left_out: Mapping[int, Text]
-    said: tuple[tuple[Place, Text], ...] = ()
+    said: tuple[tuple[Origin, Text], ...] = ()
 
 
-def print_label(record: LineRecord, modules: Modules, note: str) -> PrintLabel:
-    """Returns the label of a line; `note` is one more line of its text."""
+def print_label(record: LineRecord, note: str) -> PrintLabel:
+    """Returns the label of a line that is drawn; `note` is one more line of its text."""
     texts = record.label.text
     if note:
         texts = (*texts, note)
-    return PrintLabel(record, modules, short(record.label.title), short("\n".join(texts)))
+    return PrintLabel(record, short(record.label.title), short("\n".join(texts)))
 
 
 def short(text: str) -> str:
@@ -218,13 +227,17 @@ def laid_out_needs(counted: Mapping[Need, int], area: Area) -> LaidOutNeeds:
         common = frame_of(area, fitting) if fitting else None
 
     @cache
-    def shared(key: tuple[object, ...]) -> Optional[Frame]:
-        return frame_of(area, {one: n for one, n in fitting.items() if one[: len(key)] == key})
+    def of_symbology(name: str) -> Frame | None:
+        return frame_of(area, {one: n for one, n in fitting.items() if one.symbology == name})
 
-    def frames(need: Need) -> Iterator[Optional[Frame]]:
+    @cache
+    def of_code(code: tuple[str, int, int]) -> Frame | None:
+        return frame_of(area, {one: n for one, n in fitting.items() if one.code == code})
+
+    def frames(need: Need) -> Iterator[Frame | None]:
         yield common
-        yield shared(need[:1])
-        yield shared(need[: len(CODE)])
+        yield of_symbology(need.symbology)
+        yield of_code(need.code)
         yield frame_of(area, {need: 1})
 
     layouts = {}
@@ -238,9 +251,9 @@ def laid_out_needs(counted: Mapping[Need, int], area: Area) -> LaidOutNeeds:
 
 def fitting_needs(area: Area, counted: Mapping[Need, int]) -> dict[Need, int]:
     """Returns the needs that have a frame by themselves."""
-    groups: dict[tuple[object, ...], list[Need]] = defaultdict(list)
+    groups: dict[tuple[str, int, int], list[Need]] = defaultdict(list)
     for need in counted:
-        groups[need[: len(CODE)]].append(need)
+        groups[need.code].append(need)
     fits = cache(lambda need: frame_of(area, {need: 1}) is not None)
     found: dict[Need, int] = {}
     for needs in groups.values():
@@ -256,7 +269,7 @@ def alone(need: Need) -> Need:
     return need._replace(title=(1.0,) if need.title else (), price=rounded(need.price))
 
 
-def layout_in(frame: Frame, need: Need, area: Area) -> Optional[Layout]:
+def layout_in(frame: Frame, need: Need, area: Area) -> Layout | None:
     """Returns the layout of a label in a frame; None where its code does not fit."""
     boxes = code_boxes(frame, need, area)
     if boxes is None:
@@ -279,7 +292,7 @@ def layout_in(frame: Frame, need: Need, area: Area) -> Optional[Layout]:
     return Layout(frame, need.kind, module, boxes, is_small)
 
 
-def code_boxes(frame: Frame, need: Need, area: Area) -> Optional[dict[str, Box]]:
+def code_boxes(frame: Frame, need: Need, area: Area) -> dict[str, Box] | None:
     """Returns the places of a code and of what is below its bars; None where it does not fit."""
     code = frame.boxes["code"]
     module = module_in(area, need, frame.module, code.width)
@@ -311,7 +324,7 @@ def reason(needs: Sequence[Need], area: Area) -> Text:
         )
     wide = max(need.width for need in needs) * min(modules)
     is_wide = wide > area.width
-    taken = size_text(size_of(area))
+    taken = size_text(millimetres_of(area))
     what = Text(
         "{} is too high, with its texts, and the label has room for {}", symbology.title, taken
     )
@@ -341,7 +354,7 @@ def largest_of(needs: Sequence[Need]) -> Need:
     return needs[0]._replace(title=max((need.title for need in needs), key=sum), **most)
 
 
-def smallest_for(need: Need, area: Area, width: int) -> Optional[Size]:
+def smallest_for(need: Need, area: Area, width: int) -> Size | None:
     """Returns the lowest cell of a width, or of a bit more, in which a label is laid out, in whole
     millimetres; None where there is none.
     """

@@ -3,16 +3,16 @@
 import re
 import unicodedata
 from functools import lru_cache, partial
-from typing import Any, Iterable, Mapping, NamedTuple, Optional, Sequence
+from typing import Any, Iterable, Mapping, NamedTuple, Sequence
 
 import cairo
 
-from labeltools.common.text import Text
-from labeltools.layout.glyphs import OTHERS
-from labeltools.layout.frames import Extent
+from labeltools.common.cache import Found
 from labeltools.common.messages import ToolError
-from labeltools.common.kept import Found
-from labeltools.layout.pango import MEASURED, Pango, PangoCairo, pango_context, plain_options
+from labeltools.common.text import Text
+from labeltools.layout.frame import Extent
+from labeltools.layout.glyphs import OTHERS
+from labeltools.layout.pango import MEASURED, Pango, pango_context, PangoCairo, plain_options
 
 KEPT = 2048  # words of which the extent is kept
 MOST_NAMED = 9  # letters that a message names
@@ -110,7 +110,7 @@ class Letters:
         line = self.line(text, is_bold)
         return extent_of(line) if line else self.whole(text, is_bold)
 
-    def line(self, text: str, is_bold: bool) -> Optional[Sign]:
+    def line(self, text: str, is_bold: bool) -> Sign | None:
         """Returns what a line of text takes, letter by letter; None where letters change beside
         others.
         """
@@ -137,7 +137,7 @@ class Letters:
         ends = [found.start_index + found.length for found in lines]
         return [written[start:end].decode() for start, end in zip([0, *ends], ends)]
 
-    def word(self, is_bold: bool, word: str) -> Optional[Sign]:
+    def word(self, is_bold: bool, word: str) -> Sign | None:
         """Measures a word, letter by letter; None where letters change beside others."""
         if OTHERS.search(word):
             return None
@@ -210,7 +210,7 @@ def script_of(letter: str) -> str:
     return unicodedata.name(letter, "Signs").split()[0].capitalize()
 
 
-def first_reason(texts: Iterable[str], reasons: dict[str, Text]) -> Optional[Text]:
+def first_reason(texts: Iterable[str], reasons: dict[str, Text]) -> Text | None:
     """Returns the reason of the first letter of some texts that no font has."""
     letters = (letter for text in texts for letter in text if letter in reasons)
     return next(map(reasons.__getitem__, letters), None)

@@ -9,14 +9,14 @@ import gi
 MEASURED = 200  # dots: the size of letters in which they are measured
 
 
-def library(name: str, version: str) -> Any:
+def gi_library(name: str, version: str) -> Any:
     """Returns a library; raises `ImportError` and `ValueError` where it is not there."""
     gi.require_version(name, version)
     return importlib.import_module(f"gi.repository.{name}")
 
 
-Pango = library("Pango", "1.0")
-PangoCairo = library("PangoCairo", "1.0")
+Pango = gi_library("Pango", "1.0")
+PangoCairo = gi_library("PangoCairo", "1.0")
 UNIT: int = Pango.SCALE
 
 

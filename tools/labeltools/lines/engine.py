@@ -1,22 +1,15 @@
 """Draws lines as labels(1) does, by the proved library liblabels in this process."""
 
-import os
-import shlex
-import sys
 from dataclasses import dataclass
-from functools import cache
-from pathlib import Path
-from typing import Any, Callable, Iterable, Iterator, Optional
+from typing import Any, Callable, Iterable, Iterator
 
+from labeltools.common.messages import Talk
 from labeltools.common.text import Text
+from labeltools.lines.library import labels_library
 from labeltools.lines.reasons import reason_of
-from labeltools.common.messages import Talk, ToolError
 
 LABELS_FAILED = 3  # the status of a tool that is not in order
-MAJOR = "1"  # the version of the library that these tools know: later ones of it can do no less
 ASKED = 256  # lines between two calls of `go_on`
-LIBRARY = "LABELS_LIBRARY"  # the variable that names another library
-INSTALL = Text("install python3-liblabels with the tools, or name the library in $LABELS_LIBRARY")
 
 
 @dataclass(frozen=True, slots=True)
@@ -47,53 +40,9 @@ class Refused(Exception):
     """Why a line has no code."""
 
 
-def option_words(argument: str) -> tuple[str, ...]:
-    """Returns options that are given as one text, as a shell reads them; raises `ToolError`."""
-    try:
-        return tuple(shlex.split(argument))
-    except ValueError as error:
-        raise ToolError(Text("{}: {}", repr(argument), error)) from error
-
-
 def bytes_a_row(width: int) -> int:
     """Returns the bytes of a row of `width` dots or modules."""
     return (width + 7) // 8
-
-
-@cache
-def library() -> Any:
-    """Returns the module liblabels with its library: that of $LABELS_LIBRARY, or else those that
-    were installed or built with this package, or else those of the system. Raises `ToolError` where
-    they are not there, or of another version.
-    """
-    package = Path(__file__).resolve().parents[1]
-    sources = package.parents[1]
-    prefix = package.parents[2]  # PREFIX/share/label-tools/labeltools
-    module = first_of(sources / "lib/python", "liblabels*")
-    module = module or first_of(prefix / "lib/python3/dist-packages", "liblabels*")
-    if module is not None and str(module.parent) not in sys.path:
-        sys.path.append(str(module.parent))
-    name = f"liblabels.so.{MAJOR}*"
-    file = first_of(sources / "out/lib", name) or first_of(prefix / "lib", name)
-    if file is not None:
-        os.environ.setdefault(LIBRARY, str(file))
-    try:
-        import liblabels
-    except (ImportError, OSError) as error:
-        raise ToolError(
-            Text("the library liblabels cannot be loaded: {}", error), INSTALL
-        ) from error
-    found: str = liblabels.version()
-    if found.partition(".")[0] != MAJOR:
-        what = Text("liblabels is version {}, and these tools are another one", found)
-        hint = Text("install the tools and python3-liblabels of one version, {}", MAJOR)
-        raise ToolError(what, hint)
-    return liblabels
-
-
-def first_of(folder: Path, pattern: str) -> Optional[Path]:
-    """Returns the first file of a folder that has a name as in a pattern."""
-    return min(folder.glob(pattern), default=None)
 
 
 class Engine:
@@ -102,7 +51,7 @@ class Engine:
     def __init__(self, is_escaped: bool) -> None:
         """Raises `ToolError` where the library is not there."""
         self.is_escaped = is_escaped
-        self.module = library()
+        self.module = labels_library()
         self.line: Callable[..., Any] = self.module.line
 
     def symbol(self, line: bytes) -> Any:

@@ -17,13 +17,14 @@ import sys
 from dataclasses import dataclass, field, replace
 from io import BytesIO
 from itertools import count
-from typing import Any, Iterable, NamedTuple, Optional, Sequence
+from typing import Any, Iterable, NamedTuple, Sequence
 
 from labeltools import VERSION
+from labeltools.common.messages import Origin, quoted, Talk, ToolError
 from labeltools.common.text import NOTHING, Text
-from labeltools.common.messages import Place, Talk, ToolError, quoted
-from labeltools.lines.engine import Modules, drawn
-from labeltools.lines.symbologies import SYMBOLOGIES, check_digit
+from labeltools.lines.engine import drawn, Modules
+from labeltools.lines.escapes import escaped, unescaped
+from labeltools.lines.symbologies import check_digit, SYMBOLOGIES
 
 MOST_COPIES = 9999
 MOST_LEFT_OUT = 20  # rows that the last remark names
@@ -56,8 +57,6 @@ ONE_LINE = ("price", "unit", "was")
 # what Pango cuts a text at or takes for a line end: controls (but LF), separators of lines and
 # paragraphs; surrogates
 UNPRINTABLE = re.compile("[\x00-\x09\x0b-\x1f\x7f-\x9f\u2028\u2029\ud800-\udfff]")
-ESCAPE = re.compile(rb"\\(?:x([0-9A-Fa-f]{2})|([n\\]))")
-ESCAPED = {b"n": b"\n", b"\\": b"\\"}
 encode = json.JSONEncoder(ensure_ascii=False, separators=(",", ":")).encode
 decode = json.JSONDecoder().decode
 
@@ -80,6 +79,11 @@ class Label(NamedTuple):
     copies: int = 1
     names: tuple[str, ...] = ()
 
+    @property
+    def shown(self) -> tuple[str, tuple[str, ...], str, str, str]:
+        """What is printed beside the code: its title, its text and its prices."""
+        return self.title, self.text, self.price, self.unit, self.was
+
 
 class LineRecord(NamedTuple):
     """A line of labels(1) with its label.
@@ -95,7 +99,7 @@ class LineRecord(NamedTuple):
     table: str
     label: Label
     line: bytes
-    modules: Optional[Modules] = None
+    modules: Modules | None = None
     refused: Text = NOTHING
 
     @property
@@ -108,11 +112,17 @@ class LineRecord(NamedTuple):
         return self.symbology, self.data
 
     @property
-    def place(self) -> Place:
+    def code(self) -> bytes:
+        """Its code on one line, with its symbology, as a journal has it."""
+        symbology, data = self.key
+        return symbology.encode("utf-8", "replace") + b" " + escaped(data)
+
+    @property
+    def origin(self) -> Origin:
         """What messages name: the row of the table, or else the line."""
         if self.label.row:
-            return Place(self.table, "row", self.label.row)
-        return Place("", "line", self.number)
+            return Origin(self.table, "row", self.label.row)
+        return Origin("", "line", self.number)
 
 
 @dataclass(frozen=True)
@@ -122,7 +132,7 @@ class LinesFile:
     """
 
     records: tuple[LineRecord, ...]
-    left_out: tuple[Place, ...]
+    left_out: tuple[Origin, ...]
     left_out_count: int
     empty: frozenset[str] = frozenset()
 
@@ -215,7 +225,7 @@ class _Reader:
     waiting: dict[str, Any] = field(default_factory=dict)
     torn: Text = NOTHING
     records: list[LineRecord] = field(default_factory=list)
-    left_out: list[Place] = field(default_factory=list)
+    left_out: list[Origin] = field(default_factory=list)
     left_out_count: int = 0
     empty: set[str] = field(default_factory=set)
 
@@ -231,7 +241,7 @@ class _Reader:
         if "labels" in found:
             self.table, self.first = found.get("table", ""), len(self.records)
         elif "end" in found:
-            self.left_out += [Place(self.table, "row", row) for row in found.get("left_out", [])]
+            self.left_out += [Origin(self.table, "row", row) for row in found.get("left_out", [])]
             self.left_out_count += found.get("left_out_count", 0)
             self.empty.update(found.get("empty", ()))
             self.table, self.first = "", -1
@@ -333,13 +343,8 @@ def symbology_and_data(line: bytes, has_escapes: bool) -> tuple[str, bytes]:
     head, _, data = line.partition(b" ")
     symbology = sys.intern(head.partition(b",")[0].decode("ascii", "replace"))
     if has_escapes:
-        data = ESCAPE.sub(unescaped, data)
+        data = unescaped(data)
     known = SYMBOLOGIES.get(symbology)
     if known and known.is_number and len(data) == known.digits - 1 and data.isdigit():
         data += check_digit(data.decode()).encode()
     return symbology, data
-
-
-def unescaped(match: re.Match[bytes]) -> bytes:
-    """Returns the byte that an escape of labels(1) means."""
-    return bytes([int(match[1], 16)]) if match[1] else ESCAPED[match[2]]

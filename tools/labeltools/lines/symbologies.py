@@ -7,6 +7,8 @@ from dataclasses import dataclass
 from functools import cached_property
 from typing import Any, NamedTuple
 
+from labeltools.lines.library import labels_library
+
 
 class Span(NamedTuple):
     """Modules of a picture, from `left` on and before `right`."""
@@ -62,9 +64,7 @@ class Symbology:
 
 def layout_of(symbology: Symbology) -> Any:
     """Returns the layout that liblabels has for a symbology; raises `ToolError` without it."""
-    from labeltools.lines.engine import library  # not above: it reads lines by this table
-
-    return library().layout(symbology.name)
+    return labels_library().layout(symbology.name)
 
 
 # ISO/IEC 15420: the smallest module is 80 % of 0.33 mm, the height that at 100 %

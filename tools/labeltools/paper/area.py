@@ -3,15 +3,15 @@
 import math
 from dataclasses import dataclass, replace
 from functools import cached_property
-from typing import Optional
 
-from labeltools.paper.stock import Sheet, Size
 from labeltools.lines.symbologies import SYMBOLOGIES, Symbology
+from labeltools.paper.stock import Sheet, Size
 
 Dots = tuple[int, int]
 Edges = tuple[float, float, float, float]  # left, top, right, bottom in millimetres
 
 MILLIMETRES = 25.4  # in an inch
+POINTS = 72  # in an inch
 PAD = 1.0  # millimetres of white inside each edge of a cell
 # millimetres: the module that is aimed at, and the largest ones of bars and of QR
 MODULE = 0.33
@@ -26,7 +26,7 @@ TINY = 1e-6  # what a sum of rounded numbers may be off by
 
 
 @dataclass(frozen=True)
-class Design:
+class Purpose:
     """What labels are for: bars are this part of their width where there is room for no more, and
     QR grows with labels above a size in millimetres.
 
@@ -39,21 +39,21 @@ class Design:
     full_qr: float
 
 
-OWN = Design("own", 0.0, 0.0)  # of a file: its places say it
-ARTICLE = Design("article", 0.5, 40.0)
-SHELF = Design("shelf", 0.25, 60.0)
+NO_PURPOSE = Purpose("svg", 0.0, 0.0)  # of a page of SVG: its places say it
+ARTICLE = Purpose("article", 0.5, 40.0)
+SHELF = Purpose("shelf", 0.25, 60.0)
 DESIGNS = {design.name: design for design in (ARTICLE, SHELF)}
 
 
 @dataclass(frozen=True)
 class Wishes:
-    """What is asked for: a module in millimetres, a design, whether labels are turned to the right
-    (None: where more of them fit so), whether the paper is a roll.
+    """What is asked for: what labels are for, a module in millimetres, whether they are turned to
+    the right (None: where more of them fit so), whether the paper is a roll.
     """
 
-    design: Design = ARTICLE
-    module: Optional[float] = None
-    turn: Optional[bool] = None
+    purpose: Purpose = ARTICLE
+    module: float | None = None
+    turn: bool | None = None
     is_roll: bool = False
 
 
@@ -156,7 +156,7 @@ def whole_plan_of(sheet: Sheet, dpi: int, wishes: Wishes) -> Plan:
     return Plan(sheet, dpi, page, places, Area(width, height, dot, wishes))
 
 
-def white_of(sheet: Sheet, edges: Edges) -> Edges:
+def unprinted_edges(sheet: Sheet, edges: Edges) -> Edges:
     """Returns how much of a cell's edges is within those of its page, in any cell."""
     lefts = [x for x, _ in sheet.places]
     tops = [y for _, y in sheet.places]
@@ -178,6 +178,6 @@ def span(side: int, start: float, sheet: Sheet, edges: Edges, dot: float) -> Dot
     return begin, max(0, math.floor(last / dot + TINY) - begin)
 
 
-def size_of(area: Area) -> Size:
+def millimetres_of(area: Area) -> Size:
     """Returns the sides of an area in millimetres."""
     return area.width * area.dot, area.height * area.dot

@@ -7,11 +7,11 @@ from contextlib import suppress
 from dataclasses import dataclass
 from functools import cache
 from pathlib import Path
-from typing import Iterator, Optional
+from typing import Iterator
 from xml.etree.ElementTree import Element, parse
 
-from labeltools.common.text import Text
 from labeltools.common.messages import BAD_ARGUMENTS, ToolError
+from labeltools.common.text import Text
 
 Size = tuple[float, float]
 PartName = tuple[str, str]  # the maker and the name of a part
@@ -59,7 +59,7 @@ class Grid:
     cell: Size
     columns: int
     rows: int
-    margin: Optional[Size] = None
+    margin: Size | None = None
     gap: Size = (0.0, 0.0)
 
 
@@ -102,7 +102,7 @@ def stock_sheet(name: str) -> Sheet:
     """
     found = parts_named(name)
     if len(found) == 1:
-        return sheet_of(found[0])
+        return glabels_sheet(found[0])
     reason = Text("no such sheet")
     hint = Text("--list-stock WORD lists the sheets")
     if found:
@@ -115,15 +115,15 @@ def parts_named(name: str) -> list[PartName]:
     """Returns the parts of a name: of its maker and part, or of the part alone, behind the names of
     any makers.
     """
-    wanted = plain(name)
-    if whole := [key for key in parts() if plain("".join(key)) == wanted]:
+    wanted = bare_name(name)
+    if whole := [key for key in parts() if bare_name("".join(key)) == wanted]:
         return whole
     words = name.split()
-    makers = [word for word in words if plain(word) in brands()]
-    bare = plain("".join(word for word in words if word not in makers))
-    found = [key for key in parts() if plain(key[1]) in (wanted, bare)]
-    named = {plain(maker) for maker in makers}
-    return [key for key in found if plain(key[0]) in named] or found
+    makers = [word for word in words if bare_name(word) in brands()]
+    bare = bare_name("".join(word for word in words if word not in makers))
+    found = [key for key in parts() if bare_name(key[1]) in (wanted, bare)]
+    named = {bare_name(maker) for maker in makers}
+    return [key for key in found if bare_name(key[0]) in named] or found
 
 
 def list_stock(words: str) -> Iterator[str]:
@@ -131,11 +131,11 @@ def list_stock(words: str) -> Iterator[str]:
     `70x37` is the size of a cell.
     """
     wanted = words.lower().split()
-    makers = [word for word in wanted if plain(word) in brands()]
+    makers = [word for word in wanted if bare_name(word) in brands()]
     others = [word for word in wanted if word not in makers]
     for key in parts():
         with suppress(ToolError):
-            sheet = sheet_of(key)
+            sheet = glabels_sheet(key)
             line = f"{' '.join(key)}: {sheet}"
             is_maker = not makers or any(has_word(key, sheet, line, one) for one in makers)
             if is_maker and all(has_word(key, sheet, line, word) for word in others):
@@ -149,10 +149,10 @@ def has_word(key: PartName, sheet: Sheet, line: str, word: str) -> bool:
     if size := SIZE_WORD.fullmatch(word):
         near = [abs(float(size[1 + side]) - sheet.cell[side]) <= NEAR for side in (0, 1)]
         return all(near) or word in line.lower()
-    return word in line.lower() or plain(word) in plain("".join(key))
+    return word in line.lower() or bare_name(word) in bare_name("".join(key))
 
 
-def plain(name: str) -> str:
+def bare_name(name: str) -> str:
     """Returns a name without case, spaces and hyphens."""
     return re.sub(r"[\s\-]", "", name).lower()
 
@@ -174,28 +174,28 @@ def parts() -> dict[PartName, Element]:
 def forget() -> None:
     """Frees the parts, which take some 16 MB, and their sheets."""
     parts.cache_clear()
-    sheet_of.cache_clear()
+    glabels_sheet.cache_clear()
 
 
 @cache
 def brands() -> frozenset[str]:
     """Returns the plain names of all makers."""
-    return frozenset(plain(maker) for maker, _ in parts())
+    return frozenset(bare_name(maker) for maker, _ in parts())
 
 
 @cache
 def papers() -> dict[str, Size]:
     """Returns the sizes of paper that the parts name."""
     sizes = parse(TEMPLATES / "paper-sizes.xml").iterfind("{*}Paper-size")
-    return {one.get("id", ""): size_of(one) for one in sizes}
+    return {one.get("id", ""): lengths_of(one) for one in sizes}
 
 
-def size_of(element: Element, first: str = "width", second: str = "height") -> Size:
+def lengths_of(element: Element, first: str = "width", second: str = "height") -> Size:
     """Returns two lengths of an element; one that it does not have is 0."""
     return length_of(element.get(first)), length_of(element.get(second))
 
 
-def length_of(text: Optional[str]) -> float:
+def length_of(text: str | None) -> float:
     """Returns a length in millimetres; 0 where there is none.
 
     >>> [round(length_of(text), 2) for text in ("9mm", "2.54cm", "1in", "72pt", "6pc", "72")]
@@ -206,12 +206,12 @@ def length_of(text: Optional[str]) -> float:
 
 
 @cache
-def sheet_of(key: PartName) -> Sheet:
+def glabels_sheet(key: PartName) -> Sheet:
     """Returns the sheet of a part; raises `ToolError` where no label can be laid out for it."""
     part = parts()[key]
     head = f"--stock {' '.join(key)}"
     if same := part.get("equiv"):
-        return sheet_of((key[0], same))
+        return glabels_sheet((key[0], same))
     cell = next(child for child in part if "Label-" in child.tag)
     if not cell.tag.endswith("Label-rectangle"):
         kind = cell.tag.rpartition("Label-")[2]
@@ -219,8 +219,8 @@ def sheet_of(key: PartName) -> Sheet:
             Text("{}: its labels are not rectangles ({})", head, kind), status=BAD_ARGUMENTS
         )
     places = sorted(places_of(cell), key=lambda at: at[::-1])
-    page = papers().get(part.get("size", "")) or size_of(part)
-    sheet = Sheet(page, size_of(cell), tuple(places))
+    page = papers().get(part.get("size", "")) or lengths_of(part)
+    sheet = Sheet(page, lengths_of(cell), tuple(places))
     if not places or not min(sheet.cell) or sheet.beyond() > MOST_BEYOND:
         hint = Text("give --columns, --rows, --cell")
         raise ToolError(Text("{}: glabels has it larger than its page", head), hint, BAD_ARGUMENTS)
@@ -230,8 +230,8 @@ def sheet_of(key: PartName) -> Sheet:
 def places_of(cell: Element) -> Iterator[Size]:
     """Yields the upper left corners of the cells of all layouts of a part."""
     for layout in cell.iterfind("{*}Layout"):
-        left, top = size_of(layout, "x0", "y0")
-        across, down = size_of(layout, "dx", "dy")
+        left, top = lengths_of(layout, "x0", "y0")
+        across, down = lengths_of(layout, "dx", "dy")
         for row in range(int(layout.get("ny", "0"))):
             for column in range(int(layout.get("nx", "0"))):
                 yield left + column * across, top + row * down

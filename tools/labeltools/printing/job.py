@@ -6,18 +6,29 @@
 """
 
 from dataclasses import dataclass, replace
-from typing import Optional, Sequence
+from typing import Sequence
 
 from labeltools.common.messages import BAD_ARGUMENTS, ToolError
-from labeltools.common.text import NOTHING, Text, counted
-from labeltools.designs.design import OwnDesign, is_file, read_design, size_of_page
-from labeltools.drawing.forms import ESCPOS, FORMS, Form, PDF
+from labeltools.common.text import counted, NOTHING, Text
+from labeltools.designs.design import Design
+from labeltools.designs.framed import FramedDesign
+from labeltools.designs.svg_design import is_file, read_design, size_of_page
+from labeltools.designs.svg_labels import SvgLabels
+from labeltools.drawing.forms import ESCPOS, Form, FORMS, PDF
 from labeltools.layout.letters import FONT
 from labeltools.lines.file import UNPRINTABLE
-from labeltools.paper.area import ARTICLE, DESIGNS, Edges, OWN, Plan, Wishes
-from labeltools.paper.area import plan_of, white_of, whole_plan_of
-from labeltools.paper.stock import Grid, Sheet, Size, grid_sheet, stock_sheet
-from labeltools.printing.outlets import is_direct
+from labeltools.paper.area import (
+    ARTICLE,
+    DESIGNS,
+    Edges,
+    NO_PURPOSE,
+    Plan,
+    plan_of,
+    unprinted_edges,
+    whole_plan_of,
+    Wishes,
+)
+from labeltools.paper.stock import Grid, grid_sheet, Sheet, Size, stock_sheet
 from labeltools.printing.selection import Selection
 
 A4 = (210.0, 297.0)
@@ -44,21 +55,21 @@ class PrintOptions:
     --escapes of labels(1); `queue` is any printer.
     """
 
-    lines: Optional[str] = None
-    list_stock: Optional[str] = None
-    stock: Optional[str] = None
-    paper: Optional[Size] = None
-    cell: Optional[Size] = None
-    columns: Optional[int] = None
-    rows: Optional[int] = None
-    page: Optional[Size] = None
-    margin: Optional[Size] = None
-    gap: Optional[Size] = None
-    edge: Optional[Edges] = None
+    lines: str | None = None
+    list_stock: str | None = None
+    stock: str | None = None
+    paper: Size | None = None
+    cell: Size | None = None
+    columns: int | None = None
+    rows: int | None = None
+    page: Size | None = None
+    margin: Size | None = None
+    gap: Size | None = None
+    edge: Edges | None = None
     shift: Size = (0.0, 0.0)
     design: str = ARTICLE.name
-    turn: Optional[bool] = None
-    module: Optional[float] = None
+    turn: bool | None = None
+    module: float | None = None
     note: str = ""
     font: str = FONT
     first: int = 1
@@ -66,14 +77,14 @@ class PrintOptions:
     after: int = 0
     is_unique: bool = False
     is_escaped: bool = False
-    to: Optional[str] = None
-    dpi: Optional[int] = None
-    each: Optional[str] = None
-    queue: Optional[str] = None
-    journal: Optional[str] = None
-    again: Optional[str] = None
+    to: str | None = None
+    dpi: int | None = None
+    each: str | None = None
+    queue: str | None = None
+    journal: str | None = None
+    again: str | None = None
     is_stream: bool = False
-    dots: Optional[int] = None
+    dots: int | None = None
     is_cut: bool = True
     is_summed: bool = False
 
@@ -95,12 +106,12 @@ class PrintOptions:
 
 @dataclass(frozen=True)
 class Job:
-    """How labels go out: what is asked for, on which sheet, in which form; a design of a file."""
+    """How labels go out: what is asked for, on which sheet, in which form and design."""
 
     options: PrintOptions
     plan: Plan
     form: Form
-    design: Optional[OwnDesign] = None
+    design: Design
 
     @property
     def is_each(self) -> bool:
@@ -124,20 +135,18 @@ def planned(options: PrintOptions) -> Job:
     if edges is None:
         edge = 0.0 if sheet.is_single else EDGE
         edges = edge, edge, edge, edge
-    own = None
+    wishes = (options.module, options.turn, options.paper is not None)
     if is_file(options.design):
-        own = read_design(options.design, sheet.cell, white_of(sheet, edges), options.turn)
-    wishes = Wishes(
-        OWN if own else DESIGNS[options.design],
-        options.module,
-        options.turn,
-        options.paper is not None,
-    )
-    plan = whole_plan_of(sheet, dpi, wishes) if own else plan_of(sheet, dpi, edges, wishes)
+        white = unprinted_edges(sheet, edges)
+        design: Design = SvgLabels(read_design(options.design, sheet.cell, white, options.turn))
+        plan = whole_plan_of(sheet, dpi, Wishes(NO_PURPOSE, *wishes))
+    else:
+        design = FramedDesign()
+        plan = plan_of(sheet, dpi, edges, Wishes(DESIGNS[options.design], *wishes))
     dots = options.dots or RECEIPT_DOTS
     too_wide = Text("a label is {} dots wide, and the printer has {} (--dots)", plan.page[0], dots)
     refuse(form == ESCPOS and plan.page[0] > dots, too_wide)
-    return Job(options, plan, form, own)
+    return Job(options, plan, form, design)
 
 
 def refuse(is_wrong: object, what: Text, hint: Text = NOTHING) -> None:
@@ -218,3 +227,10 @@ def named_sheet(options: PrintOptions) -> Sheet:
         raise ToolError(NO_GRID if options.cell else NO_PAPER, status=BAD_ARGUMENTS)
     size = (options.page or A4, options.cell, options.columns, options.rows)
     return grid_sheet(Grid(*size, options.margin, options.gap or NO_GAP))
+
+
+def is_direct(printer: str) -> bool:
+    """Returns whether a printer takes labels one by one: tcp://HOST, or a path, which no queue of
+    CUPS is.
+    """
+    return "/" in printer

@@ -4,24 +4,24 @@ from dataclasses import dataclass, replace
 from functools import partial
 from itertools import groupby
 from operator import attrgetter
-from typing import Any, Iterable, Iterator, Mapping, Optional, Sequence
+from typing import Any, Iterable, Iterator, Mapping, Sequence
 
 from labeltools.checking.compare import Comparison, Document
 from labeltools.common.files import temporary
 from labeltools.common.messages import Talk, ToolError
 from labeltools.common.report import LeftOut, places_text
 from labeltools.common.text import Text
-from labeltools.designs.layout import OwnLayouts
+from labeltools.designs.design import Design, Setting
 from labeltools.drawing.dots import drawn_page, pbm, png
 from labeltools.drawing.escpos import escpos
 from labeltools.drawing.forms import ESCPOS, PBM, PDF, PNG, SVG, ZPL
-from labeltools.drawing.own_pen import OwnPen
-from labeltools.drawing.pdf import Paper, drawing
-from labeltools.drawing.pen import Medium, Page, Pen
+from labeltools.drawing.pdf import drawn_file, Paper
+from labeltools.drawing.pen import Pen
 from labeltools.drawing.zpl import zpl
-from labeltools.layout.layout import LaidOut, LaidOutFile, PrintLabel, lay_out, print_label
+from labeltools.layout.layout import LaidOut, LaidOutFile, Page, print_label, PrintLabel
 from labeltools.layout.letters import DIGITS_FONT, Letters
-from labeltools.lines.file import LineRecord, LinesFile, drawn_lines
+from labeltools.layout.medium import Medium
+from labeltools.lines.file import drawn_lines, LineRecord, LinesFile
 from labeltools.paper.picture import Picture
 from labeltools.printing.job import Job
 from labeltools.printing.remarks import remarks_on
@@ -97,22 +97,18 @@ def prepared(
     pens = pens or pens_of(job, Letters(options.font))
     letters = pens[0].letters
     labels = [
-        print_label(record, record.modules, options.note)
+        print_label(record, options.note)
         for record in lines.records
         if record.modules is not None and record.label.copies
     ]
     reasons = {record.number: record.refused for record in lines.records if record.refused}
-    area = job.plan.area
-    own = None
-    if job.design:
-        own_area = area.turned() if job.design.is_turned else area
-        own = OwnLayouts(job.design, own_area, letters, options.note, lines.empty)
-    reasons.update(without_letters(labels, own, letters))
+    on = Setting(job.plan.area, letters, options.note, lines.empty)
+    reasons.update(without_letters(labels, job.design, on))
     if options.is_each_once:
         reasons.update(doubles(lines, reasons))
     if reasons:
         labels = [label for label in labels if label.record.number not in reasons]
-    laid_out = own.lay_out(labels, talk) if own else lay_out(labels, area, letters, talk)
+    laid_out = job.design.lay_out(labels, on, talk)
     reasons.update(laid_out.left_out)
     only = options.only
     wanted = [item for item in laid_out.labels if only.has(item.label.record)]
@@ -127,13 +123,13 @@ def prepared(
 
 
 def without_letters(
-    labels: Sequence[PrintLabel], own: Optional[OwnLayouts], letters: Letters
+    labels: Sequence[PrintLabel], design: Design, on: Setting
 ) -> Mapping[int, Text]:
-    """Returns why labels are left out that have letters which no font has; in a design of a file
-    only those of its places.
+    """Returns why labels are left out that have letters which no font has, where a design prints
+    them.
     """
-    found = letters.missing({label.record.number: label.texts for label in labels})
-    return letters.missing(own.texts_in_places(labels)) if own and found else found
+    found = on.letters.missing({label.record.number: label.texts for label in labels})
+    return on.letters.missing(design.printed(labels, on)) if found else found
 
 
 def doubles(lines: LinesFile, refused: Mapping[int, Text]) -> Mapping[int, Text]:
@@ -148,7 +144,7 @@ def doubles(lines: LinesFile, refused: Mapping[int, Text]) -> Mapping[int, Text]
             continue
         earlier = first.setdefault(record.key, record)
         if earlier is not record:
-            named = places_text([earlier.place], earlier.table != record.table)
+            named = places_text([earlier.origin], earlier.table != record.table)
             found[record.number] = Text("has the code of {}", named)
     return found
 
@@ -177,7 +173,7 @@ def refused_labels(
         reason = reasons.get(record.number)
         if reason is not None and only.has(record):
             data = record.data.decode("utf-8", "backslashreplace")
-            yield LeftOut(record.place, data, reason)
+            yield LeftOut(record.origin, data, reason)
 
 
 def repeated(items: Sequence[LaidOut], job: Job) -> Sequence[LaidOut]:
@@ -203,7 +199,7 @@ def check_count(job: Job, prints: Sequence[LaidOut]) -> None:
 
 
 @dataclass(frozen=True, slots=True)
-class Part:
+class Batch:
     """What goes out as a whole: pages of labels, or one label for all that have its dots; `items`
     are its labels with their copies.
     """
@@ -230,7 +226,7 @@ class Press:
         self.talk = talk
         area = laid_out.area
         self.turn = area.height if area.is_turned else 0
-        how = (job.plan, job.form.name, job.options.is_escaped, area.is_turned)
+        how = (job.design, job.plan, job.form.name, job.options.is_escaped, area.is_turned)
         self.comparison = Comparison(*how, talk)
 
     @property
@@ -249,7 +245,7 @@ class Press:
         """Draws a page on a canvas of Cairo, whose units are dots."""
         self.pen.draw(canvas, page, self.turn)
 
-    def parts(self, prints: Sequence[LaidOut]) -> Iterator[Part]:
+    def parts(self, prints: Sequence[LaidOut]) -> Iterator[Batch]:
         """Yields what goes out as a whole: a label of ZPL with how many follow one another that
         have the same dots, a label of ESC/POS, each page of another form, or all pages of a PDF.
         """
@@ -259,15 +255,15 @@ class Press:
             return
         pages = [self.page(number, prints) for number in range(self.job.pages_of(len(prints)))]
         if form == PDF and not self.job.is_each:
-            yield Part(pages, prints)
+            yield Batch(pages, prints)
         else:
-            yield from (Part([page], [item for item, _ in page]) for page in pages)
+            yield from (Batch([page], [item for item, _ in page]) for page in pages)
 
-    def part(self, items: Sequence[LaidOut]) -> Part:
+    def part(self, items: Sequence[LaidOut]) -> Batch:
         """Returns labels of a roll that have the same dots."""
-        return Part([[(items[0], self.job.plan.places[0])]], items)
+        return Batch([[(items[0], self.job.plan.places[0])]], items)
 
-    def document(self, part: Part, is_first: bool = True) -> bytes:
+    def document(self, part: Batch, is_first: bool = True) -> bytes:
         """Returns a part in the form of the job, which is whole by itself; `is_first` is whether it
         begins a job. Raises `ToolError` if it has not the codes of its labels.
         """
@@ -275,7 +271,7 @@ class Press:
         if form.is_drawn:
             paper = Paper(self.job.plan.sheet.page, self.job.plan.dpi, self.turn)
             pages = partial(self.told, part)
-            with temporary(), drawing(paper, self.pens, pages, form == SVG) as file:
+            with temporary(), drawn_file(paper, self.pens, pages, form == SVG) as file:
                 document = Document(file.read(), part.pages)
         else:
             picture = drawn_page(self.job.plan.page, self.pen, part.pages[0], self.turn)
@@ -285,7 +281,7 @@ class Press:
         self.comparison.check(document)
         return document.data
 
-    def told(self, part: Part) -> Iterator[Page]:
+    def told(self, part: Batch) -> Iterator[Page]:
         """Yields pages, and says before each one how many labels are drawn."""
         done = 0
         for page in part.pages:
@@ -317,11 +313,5 @@ def pens_of(job: Job, letters: Letters) -> list[Pen]:
         frozenset({DIGITS_FONT, job.options.font}),
     )
     wanted = outlines if job.form == PDF else outlines[:1]
-    return [pen_of(job, replace(medium, outlines=shapes), letters) for shapes in wanted]
-
-
-def pen_of(job: Job, medium: Medium, letters: Letters) -> Pen:
-    """Returns what draws labels of a job on a medium."""
-    if job.design:
-        return OwnPen(medium, letters, job.design)
-    return Pen(medium, letters)
+    media = (replace(medium, outlines=shapes) for shapes in wanted)
+    return [Pen(one, letters, job.design) for one in media]

@@ -8,7 +8,7 @@ from labeltools.common.report import LeftOut, listed, places_text
 from labeltools.common.text import Text
 from labeltools.drawing.pen import Pen
 from labeltools.layout.layout import LaidOut, LaidOutFile
-from labeltools.paper.area import ARTICLE, Area
+from labeltools.paper.area import Area, ARTICLE
 from labeltools.printing.selection import Selection
 
 DENSE = 0.33  # millimetres: modules of QR below it are reported
@@ -31,14 +31,14 @@ def remarks_on(
         yield LeftOut(place, "", said)
     for some, what in found_on(items, laid_out.area, pen):
         if some:
-            places = [item.label.record.place for item in some]
+            places = [item.label.record.origin for item in some]
             text = Text("{}: {}", places_text(places, has_tables), what)
             yield LeftOut(places[0], "", text)
 
 
 def several(items: Sequence[LaidOut], only: Selection) -> Iterator[LeftOut]:
     """Yields that rows that are asked for are in several tables of the file."""
-    places = [item.label.record.place for item in items]
+    places = [item.label.record.origin for item in items]
     counts = Counter(place.number for place in places if only.has_row(place))
     rows = sorted(number for number, count in counts.items() if count > 1)
     if rows:
@@ -51,7 +51,7 @@ def found_on(
     items: Sequence[LaidOut], area: Area, pen: Pen
 ) -> Iterator[tuple[Sequence[LaidOut], Text]]:
     """Yields labels, which may be none, and what is to be said of them."""
-    if area.wishes.design == ARTICLE:
+    if area.wishes.purpose == ARTICLE:
         low = [item for item in items if has_low_bars(item)]
         bars = min((item.layout.boxes["bars"].height for item in low), default=0) * area.dot
         hint = Text("hand scanners read them, a till that reads in all directions may not")

@@ -8,13 +8,11 @@ from itertools import filterfalse
 from pathlib import Path
 from typing import Iterable, Iterator
 
-from labeltools.printing.journal import code_of
-from labeltools.lines.file import LineRecord
-from labeltools.common.messages import Place, ToolError
-from labeltools.common.report import LeftOut, few, ranges_of, ranges_text
+from labeltools.common.messages import Origin, ToolError
+from labeltools.common.report import few, LeftOut, Ranges, ranges_of, ranges_text
 from labeltools.common.text import Text
+from labeltools.lines.file import LineRecord
 
-Ranges = tuple[tuple[int, int], ...]  # the first and the last number of each, in order
 ENDLESS = sys.maxsize  # the last number of a range without an end
 RANGE = re.compile(r"(\d{1,7})(-(\d{1,7})?)?", re.ASCII)
 FILE = "@"  # before the name of a file of codes
@@ -31,24 +29,24 @@ class Selection:
         """Whether labels are chosen."""
         return bool(self.rows or self.codes)
 
-    def has_row(self, place: Place) -> bool:
+    def has_row(self, place: Origin) -> bool:
         """Returns whether a row is asked for by its number."""
         return not self or any(first <= place.number <= last for first, last in self.rows)
 
     def has(self, record: LineRecord) -> bool:
         """Returns whether the label of a line is asked for."""
-        if self.codes and not self.codes.isdisjoint(names_of(record)):
+        if self.codes and not self.codes.isdisjoint(names_of_code(record)):
             return True
-        return self.has_row(record.place)
+        return self.has_row(record.origin)
 
-    def missing(self, records: Iterable[LineRecord], known: Iterable[Place]) -> Iterator[LeftOut]:
+    def missing(self, records: Iterable[LineRecord], known: Iterable[Origin]) -> Iterator[LeftOut]:
         """Yields what is asked for and not in the input; `known` are rows without a line."""
         rows = {place.number for place in known}
         codes: set[bytes] = set()
         for record in records:
-            rows.add(record.place.number)
+            rows.add(record.origin.number)
             if self.codes:
-                codes.update(names_of(record))
+                codes.update(names_of_code(record))
         if lacking := ranges_of(self.lacking(rows)):
             reason = Text("named by --only, but not in the input")
             yield LeftOut(None, "", Text("{}: {}", ranges_text(lacking), reason))
@@ -73,11 +71,11 @@ class Selection:
             done = max(done, last)
 
 
-def names_of(record: LineRecord) -> set[bytes]:
+def names_of_code(record: LineRecord) -> set[bytes]:
     """Returns how the code of a line may be named: its data, of a number without its check digit
     too, of UPC-A as EAN-13 too; and as a journal has it, with its symbology.
     """
-    whole = code_of(record)
+    whole = record.code
     if record.symbology not in ("ean13", "ean8", "upca"):
         return {record.data, whole}
     _, number = record.key
@@ -92,7 +90,7 @@ def selection_of(rows: Ranges, codes: Iterable[str]) -> Selection:
     """Returns what is asked for: rows, and codes or files of them; raises `ToolError` and
     `OSError`.
     """
-    return Selection(rows, frozenset(code for argument in codes for code in codes_of(argument)))
+    return Selection(rows, frozenset(code for argument in codes for code in codes_named(argument)))
 
 
 def ranges_in(rows: str) -> Ranges:
@@ -116,7 +114,7 @@ def ranges_in(rows: str) -> Ranges:
     return tuple(sorted(found))
 
 
-def codes_of(argument: str) -> set[bytes]:
+def codes_named(argument: str) -> set[bytes]:
     """Returns the code that an argument is, or those of the lines of a file, as in @damaged.txt."""
     if not argument.startswith(FILE):
         return {argument.encode("utf-8", "surrogateescape")}

@@ -11,11 +11,11 @@ import re
 import unicodedata
 from dataclasses import dataclass
 from decimal import Decimal
-from enum import Enum, auto
+from enum import auto, Enum
 from itertools import pairwise
-from typing import NamedTuple, Sequence, Union
+from typing import NamedTuple, Sequence
 
-from labeltools.common.messages import RowError, named, quoted
+from labeltools.common.messages import named, quoted, RowError
 from labeltools.common.text import NOTHING, Text
 
 LONGEST_CELL = 131068
@@ -53,7 +53,7 @@ CONDITION = Text(
 CONDITION_HINT = Text("choose rows with --where")
 
 
-class Kind(Enum):
+class CellKind(Enum):
     """What a cell is by its type, whatever its format shows."""
 
     TEXT = auto()
@@ -67,18 +67,18 @@ class Use(NamedTuple):
     where it takes none.
     """
 
-    kinds: tuple[Kind, ...]
+    kinds: tuple[CellKind, ...]
     of_moment: Text = NOTHING
 
 
-NUMBERS = (Kind.TEXT, Kind.NUMBER)
+NUMBERS = (CellKind.TEXT, CellKind.NUMBER)
 IS_NO_CODE = Text("is a date or a time, which is not a code")
 DIGITS = Use(NUMBERS, IS_NO_CODE)  # a code with a check digit
 DATA = Use(NUMBERS, IS_NO_CODE)  # a code of any letters
-PRINTED = Use((*NUMBERS, Kind.MOMENT))  # a title or a text
+PRINTED = Use((*NUMBERS, CellKind.MOMENT))  # a title or a text
 PRICE = Use(NUMBERS, Text("is a date or a time, which is not a price"))
 COPIES = Use(NUMBERS, Text("is a date or a time, which is not a number of copies"))
-MARK = Use(tuple(Kind))  # by which rows are chosen
+MARK = Use(tuple(CellKind))  # by which rows are chosen
 IS_TRUTH = Text("has neither a text nor a number, but TRUE, FALSE or the like")
 AS_TEXT = Text("enter it again as text")
 
@@ -93,9 +93,9 @@ class Special:
     value: str
 
     @property
-    def kind(self) -> Kind:
+    def kind(self) -> CellKind:
         """What it is by its type."""
-        return Kind.TEXT
+        return CellKind.TEXT
 
     def number(self) -> Decimal | None:
         """Returns the number that it has, whatever its format shows; None where it has none."""
@@ -138,9 +138,9 @@ class Truth(Special):
     value: str
 
     @property
-    def kind(self) -> Kind:
+    def kind(self) -> CellKind:
         """What it is by its type."""
-        return Kind.TRUTH
+        return CellKind.TRUTH
 
     def shown(self) -> str:
         """Returns its text."""
@@ -148,7 +148,7 @@ class Truth(Special):
 
 
 # what a row has: a text as it is, or a cell that knows more; an empty cell is an empty text
-Cell = Union[str, Special]
+Cell = str | Special
 
 
 class Mark(Enum):
@@ -168,7 +168,7 @@ class Mark(Enum):
         return self in (Mark.RAISED, Mark.LOWERED)
 
 
-class Form(NamedTuple):
+class Lettering(NamedTuple):
     """How letters look, in so far as that changes what they mean; the size is in points, 0 where
     it is not known; `is_filled` is whether their cell has a colour.
     """
@@ -177,26 +177,28 @@ class Form(NamedTuple):
     size: float = 0
     is_filled: bool = False
 
-    def within(self, cell: "Form") -> "Form":
+    def within(self, cell: "Lettering") -> "Lettering":
         """Returns the form of letters in a cell, whose size they have where they have none."""
         is_seen = self.mark is Mark.WHITE and cell.is_filled
-        return Form(Mark.NONE if is_seen else self.mark, self.size or cell.size, cell.is_filled)
+        return Lettering(
+            Mark.NONE if is_seen else self.mark, self.size or cell.size, cell.is_filled
+        )
 
 
-PLAIN = Form()
+PLAIN = Lettering()
 NO_LETTERS = {Mark.STRUCK: STRUCK, Mark.WHITE: UNSEEN}  # marks of letters that are none
-Runs = Sequence[tuple[str, Form]]  # letters of a cell, each with their form
+Runs = Sequence[tuple[str, Lettering]]  # letters of a cell, each with their form
 
 
 def text_of_runs(runs: Runs) -> str | Fault:
     """Returns the text of runs: digits that are raised or lowered are such digits. There is none
     if some letters are none, or a number goes on in letters of another size.
 
-    >>> text_of_runs([("7", PLAIN), ("99", Form(Mark.RAISED))])
+    >>> text_of_runs([("7", PLAIN), ("99", Lettering(Mark.RAISED))])
     '7⁹⁹'
-    >>> text_of_runs([("9", Form(Mark.STRUCK)), ("7,99", PLAIN)]).value
+    >>> text_of_runs([("9", Lettering(Mark.STRUCK)), ("7,99", PLAIN)]).value
     '97,99'
-    >>> text_of_runs([("7", Form(size=12)), ("99", Form(size=8))]).what
+    >>> text_of_runs([("7", Lettering(size=12)), ("99", Lettering(size=8))]).what
     'has digits of two sizes side by side, as for cents without a decimal sign'
     """
     if len(runs) == 1 and runs[0][1].mark is Mark.NONE:
@@ -220,7 +222,7 @@ def moved(text: str, mark: Mark) -> str:
     return text.translate(str.maketrans("0123456789", mark.value))
 
 
-def formed(cell: Cell, form: Form) -> Cell:
+def formed(cell: Cell, form: Lettering) -> Cell:
     """Returns a cell all of whose letters have a form."""
     if form.mark in NO_LETTERS and cell:
         return Fault(NO_LETTERS[form.mark], WITHOUT, cell if isinstance(cell, str) else cell.value)
@@ -250,12 +252,12 @@ def taken_of(cell: Special, use: Use) -> str:
     """Returns what a column takes of a cell that is more than a text; raises `RowError`."""
     kind = cell.kind
     if kind not in use.kinds:
-        raise RowError(IS_TRUTH if kind is Kind.TRUTH else use.of_moment, AS_TEXT)
+        raise RowError(IS_TRUTH if kind is CellKind.TRUTH else use.of_moment, AS_TEXT)
     if use is PRICE and (cell.number() or 0) < 0:
         raise RowError(Text("is below zero, though its number format may not show it"))
     if use in (DIGITS, DATA):
         return cell.digits(use is DATA)
-    if use is COPIES and kind is Kind.NUMBER:
+    if use is COPIES and kind is CellKind.NUMBER:
         if not re.search("[0-9]", shown := cell.shown()):  # TRUE, though its value is 1
             raise RowError(Text("is shown as {}, which is not a number", quoted(shown)), AS_TEXT)
         return cell.value

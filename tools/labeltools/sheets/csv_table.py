@@ -8,11 +8,11 @@ from dataclasses import dataclass
 from itertools import count, islice
 from typing import NamedTuple
 
-from labeltools.sheets.encoding import decoded
-from labeltools.sheets.options import CsvOptions
+from labeltools.common.column_names import name_of, row_with_names
+from labeltools.common.messages import BAD_ARGUMENTS, named, quoted, RowError, ToolError
 from labeltools.common.text import Text
-from labeltools.common.messages import BAD_ARGUMENTS, RowError, ToolError, named, quoted
-from labeltools.common.names import name_of, row_of_names
+from labeltools.sheets.encoding import decoded
+from labeltools.sheets.file_options import CsvOptions
 from labeltools.sheets.rows import Row
 
 LARGEST_FILE = 40 << 20  # bytes
@@ -218,7 +218,7 @@ def delimiter_of_names(text: str, begin: int, options: CsvOptions) -> str:
         return ""
     for mark in MARKS:
         rows = islice(parsed(text, begin, mark), NAMES_LOOKED_AT)
-        found = row_of_names(((row.number, row.cells) for row in rows), options.asked)
+        found = row_with_names(((row.number, row.cells) for row in rows), options.asked)
         if found > 1:
             return mark
     return ""

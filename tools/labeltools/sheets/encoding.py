@@ -9,8 +9,8 @@ from collections.abc import Iterable, Sequence
 from contextlib import suppress
 from itertools import islice
 
-from labeltools.common.messages import BAD_ARGUMENTS, ToolError, quoted
-from labeltools.common.text import Text, joined
+from labeltools.common.messages import BAD_ARGUMENTS, quoted, ToolError
+from labeltools.common.text import joined, Text
 
 # the marks in front of a text; that of UTF-32 before the one of UTF-16, which is its beginning
 UNICODE = ("utf-8", "utf-32-le", "utf-32-be", "utf-16-le", "utf-16-be")

@@ -10,14 +10,14 @@ import re
 from contextlib import suppress
 from dataclasses import dataclass, field
 from datetime import date, datetime, timedelta
-from decimal import ROUND_HALF_UP, Context, Decimal
+from decimal import Context, Decimal, ROUND_HALF_UP
 from functools import lru_cache
 from pathlib import Path
 from typing import NamedTuple, Sequence
 
-from labeltools.common.lists import lists_of
+from labeltools.common.messages import quoted, RowError
 from labeltools.common.text import Text
-from labeltools.common.messages import RowError, quoted
+from labeltools.common.word_lists import lists_of
 from labeltools.sheets.cells import AS_TEXT
 
 LONGEST_FORMAT = 255  # letters, as spreadsheets have it
@@ -215,22 +215,24 @@ def section_of(text: str, number_format: str) -> Section:
             language = language_of(literal["language"], number_format)
     if found := NUMBER.fullmatch(text):
         around = re.sub(LITERAL, "", found["before"] + found["behind"])
-        is_framed = found["pattern"] == "@" and shown(found["before"] + found["behind"]).strip()
+        is_framed = (
+            found["pattern"] == "@" and literals_shown(found["before"] + found["behind"]).strip()
+        )
         if around in ("", "%") and (found["pattern"] or not around) and not is_framed:
-            before, behind = shown(found["before"]), shown(found["behind"])
+            before, behind = literals_shown(found["before"]), literals_shown(found["behind"])
             return Section(before, found["pattern"], behind, around == "%", language)
     elif MOMENT.fullmatch(text):
-        parts = [one["date"] or f"'{shown(one[0])}" for one in MOMENT_PART.finditer(text)]
+        parts = [one["date"] or f"'{literals_shown(one[0])}" for one in MOMENT_PART.finditer(text)]
         moment = with_minutes(parts)
         if any(part[0] in "dmyhns" for part in moment):
             return Section(language=language, moment=moment)
     raise not_understood(number_format)
 
 
-def shown(literals: str) -> str:
+def literals_shown(literals: str) -> str:
     """Returns what literals show.
 
-    >>> shown('"a" \\\\b_-[$€-407][Red]')
+    >>> literals_shown('"a" \\\\b_-[$€-407][Red]')
     'a b €'
     """
 
@@ -347,7 +349,7 @@ def date_part(part: str, moment: datetime, is_noon: bool) -> str:
     return str(numbers.get(part[0], moment.second)).zfill(len(part))
 
 
-class Digits(NamedTuple):
+class DigitPattern(NamedTuple):
     """How a pattern of `0`, `#`, `?`, `,` and a point shows a number: `unit` is that of its last
     decimal, of which `needed` are always there, as `least` digits of the whole number are; it
     `shows_zero` where each spreadsheet shows that alike.
@@ -362,14 +364,14 @@ class Digits(NamedTuple):
 
 
 @lru_cache(maxsize=256)
-def digits_by(pattern: str) -> Digits:
+def digits_by(pattern: str) -> DigitPattern:
     """Returns how a pattern shows a number; raises `RowError` where spreadsheets differ."""
     whole_pattern, point, decimals_pattern = pattern.partition(".")
     has_groups = "," in whole_pattern
     is_plain = "E" not in pattern.upper() and "," not in decimals_pattern
     if not is_plain or has_groups and not WHOLE_PATTERN.fullmatch(whole_pattern):
         raise not_understood(pattern)
-    return Digits(
+    return DigitPattern(
         unit=Decimal(1).scaleb(-len(decimals_pattern)),
         needed=len(decimals_pattern.rstrip("#?")),
         least=least_digits(whole_pattern),

@@ -9,16 +9,46 @@ from itertools import groupby
 from typing import NamedTuple
 from zipfile import ZipFile
 
+from labeltools.common.messages import quoted, RowError, Talk, ToolError
 from labeltools.common.text import Text
-from labeltools.common.messages import RowError, Talk, ToolError, quoted
-from labeltools.sheets.number_format import DAY_ZERO, Formatter, date_section, date_text, digits_of
-from labeltools.sheets.cells import AS_TEXT, Cell, Fault, Form, Kind, Mark, RAISED, Special, Truth
-from labeltools.sheets.cells import CONDITION, CONDITION_HINT, NO_LETTERS, no_value, text_of_runs
+from labeltools.sheets.cells import (
+    AS_TEXT,
+    Cell,
+    CellKind,
+    CONDITION,
+    CONDITION_HINT,
+    Fault,
+    Lettering,
+    Mark,
+    NO_LETTERS,
+    no_value,
+    RAISED,
+    Special,
+    text_of_runs,
+    Truth,
+)
+from labeltools.sheets.number_format import date_section, date_text, DAY_ZERO, digits_of, Formatter
 from labeltools.sheets.rows import Merge, Row
-from labeltools.sheets.workbook import Attributes, LARGEST_ROW, MOST_COLUMNS, NOT_SAVED
-from labeltools.sheets.workbook import NOT_SAVED_HINT, Reader, SAVE_AGAIN, Sheet, TOO_LARGE
-from labeltools.sheets.workbook import chosen, elements, exact_of, filled, local
-from labeltools.sheets.workbook import merges_at, repeats, rows_from, whole
+from labeltools.sheets.workbook import (
+    Attributes,
+    chosen,
+    elements,
+    exact_of,
+    LARGEST_ROW,
+    local,
+    merges_at,
+    MOST_COLUMNS,
+    NOT_SAVED,
+    NOT_SAVED_HINT,
+    Reader,
+    repeats,
+    rows_from,
+    SAVE_AGAIN,
+    TOO_LARGE,
+    whole_number,
+    with_empty_cells,
+    Worksheet,
+)
 
 TABLE = "body/spreadsheet/table"
 CONTENT = "content.xml"
@@ -40,7 +70,7 @@ PLAINLY_SHOWN = re.compile(r"[0-9.,'’\s]+(?:E[+][0-9]+)?")
 
 
 @dataclass(slots=True)
-class Number(Special):
+class OdsNumber(Special):
     """A cell with a number, a date or a time, and the text that is shown.
 
     `exact` is its number, None for a date; `moment` is the date as the file has it.
@@ -51,7 +81,7 @@ class Number(Special):
     exact: Decimal | None
     moment: str
     formatter: Formatter
-    kind: Kind = Kind.NUMBER
+    kind: CellKind = CellKind.NUMBER
 
     def number(self) -> Decimal | None:
         """Returns the number that it has."""
@@ -59,7 +89,7 @@ class Number(Special):
 
     def agree(self) -> None:
         """Raises `RowError` where the text has a number without a value, or is cut off."""
-        if self.exact is None and self.kind is Kind.NUMBER and self.text:
+        if self.exact is None and self.kind is CellKind.NUMBER and self.text:
             what = Text("has a number without its value, and the text {}", quoted(self.text))
             raise RowError(what, SAVE_AGAIN)
         if self.text and not self.text.strip("#"):  # the column of the cell is narrow
@@ -100,7 +130,9 @@ class Styles:
     hidden: set[str] = field(default_factory=set)  # styles of tables that nobody sees
     of_conditions: set[str] = field(default_factory=set)  # styles that conditions give
     last: tuple[str, str] = ("", "")  # the style that is read
-    forms: dict[tuple[str, str], Form] = field(default_factory=dict)  # those that were asked for
+    forms: dict[tuple[str, str], Lettering] = field(
+        default_factory=dict
+    )  # those that were asked for
 
     def take(self, path: str, found: Mapping[str, str]) -> None:
         """Takes an element, which may be of a style."""
@@ -132,7 +164,7 @@ class Styles:
         """Returns whether a condition takes letters away."""
         return any(self.form(one).mark in NO_LETTERS for one in self.of_conditions)
 
-    def form(self, cell: str, spans: str = "") -> Form:
+    def form(self, cell: str, spans: str = "") -> Lettering:
         """Returns the form of the letters of a cell by its style, and by those of letters in it,
         with spaces between, the innermost last.
         """
@@ -141,14 +173,14 @@ class Styles:
             said = self.said(CELL, cell)
             for span in spans.split():
                 said |= self.said(SPAN, span)
-            self.forms[key] = form_of(said)
+            self.forms[key] = styled_lettering(said)
         return self.forms[key]
 
 
-def form_of(said: Mapping[str, str]) -> Form:
+def styled_lettering(said: Mapping[str, str]) -> Lettering:
     """Returns the form of letters by what styles say.
 
-    >>> form = form_of({"text-position": "super 58%", "font-size": "6pt"})
+    >>> form = styled_lettering({"text-position": "super 58%", "font-size": "6pt"})
     >>> form.mark.name, form.size
     ('RAISED', 6.0)
     """
@@ -156,12 +188,12 @@ def form_of(said: Mapping[str, str]) -> Form:
     points = float(exact_of(size[:-2])) if size.endswith("pt") else 0.0
     height = HEIGHT.fullmatch(said.get("text-position", "").partition(" ")[0])
     if any(said.get(line, "none") != "none" for line in LINES):
-        return Form(Mark.STRUCK, points)
+        return Lettering(Mark.STRUCK, points)
     if height:
-        return Form(Mark.RAISED if height[1] else Mark.LOWERED, points)
+        return Lettering(Mark.RAISED if height[1] else Mark.LOWERED, points)
     is_bare = said.get("background-color", "transparent") == "transparent"
     is_white = said.get("color", "").casefold() == "#ffffff" and is_bare
-    return Form(Mark.WHITE if is_white else Mark.NONE, points)
+    return Lettering(Mark.WHITE if is_white else Mark.NONE, points)
 
 
 def styles_of(archive: ZipFile) -> Styles:
@@ -179,18 +211,22 @@ def rows_of_ods(
     """Yields the rows of the sheet that is wanted, else of the only one that is visible and has
     data.
     """
-    reader = RowReader(archive, formatter)
+    reader = OdsReader(archive, formatter)
     found = groupby(reader.read(archive, CONTENT), lambda one: one[0])
-    sheets = (Sheet(head.name, head.is_visible, (row for _, row in rows)) for head, rows in found)
+    sheets = (
+        Worksheet(head.name, head.is_visible, (row for _, row in rows)) for head, rows in found
+    )
     yield from chosen(sheets, wanted)
     if reader.styles.has_condition():
         talk.say(CONDITION, CONDITION_HINT)
 
 
-Line = str | list[tuple[str, str]]  # of a cell: a text, or texts each with the style of its letters
+CellLine = (
+    str | list[tuple[str, str]]
+)  # of a cell: a text, or texts each with the style of its letters
 
 
-class Head(NamedTuple):
+class OdsSheet(NamedTuple):
     """A sheet of a file: its place, its name, and whether it can be seen."""
 
     place: int
@@ -198,7 +234,7 @@ class Head(NamedTuple):
     is_visible: bool
 
 
-class RowReader(Reader[tuple[Head, Row]]):
+class OdsReader(Reader[tuple[OdsSheet, Row]]):
     """Finds the rows of a file, each with its sheet, and an empty row for each sheet.
 
     `columns` are the styles of the columns, and what follows is of the row and of the cell that are
@@ -210,7 +246,7 @@ class RowReader(Reader[tuple[Head, Row]]):
         self.formatter = formatter
         self.styles = styles_of(archive)
         self.path: list[str] = []  # around the rows
-        self.sheet = Head(-1, "", False)
+        self.sheet = OdsSheet(-1, "", False)
         self.columns: list[str] = []
         self.number = 1
         self.merges: list[Merge] = []
@@ -220,7 +256,7 @@ class RowReader(Reader[tuple[Head, Row]]):
         self.links: dict[int, str] = {}
         self.place = self.letters = 0
         self.cell: Attributes = {}
-        self.lines: list[Line] = []
+        self.lines: list[CellLine] = []
         self.line: list[tuple[str, str]] = []  # letters of the line that is read, and their style
         self.spans: list[str] = []  # styles of letters that are open
         self.addresses: set[str] = set()
@@ -271,7 +307,7 @@ class RowReader(Reader[tuple[Head, Row]]):
         """Begins a sheet."""
         place = self.sheet.place + 1
         is_visible = attributes.get("style-name") not in self.styles.hidden
-        self.sheet = Head(place, attributes.get("name", ""), is_visible)
+        self.sheet = OdsSheet(place, attributes.get("name", ""), is_visible)
         self.columns = []
         self.number = 1
         self.merges = []
@@ -314,7 +350,7 @@ class RowReader(Reader[tuple[Head, Row]]):
         if name == "a":
             self.addresses.add(attributes.get("href", ""))
         elif name in SIGNS:
-            count = whole(attributes.get("c", "1"))
+            count = whole_number(attributes.get("c", "1"))
             self.add_letters(count)
             self.line.append((SIGNS[name] * count, self.spans[-1]))
 
@@ -354,7 +390,7 @@ class RowReader(Reader[tuple[Head, Row]]):
                 made[style] = self.cell_by(style)
             if cell := made[style]:
                 self.add_letters(len(cell) if isinstance(cell, str) else 1)
-                filled(self.cells, place + at).append(cell)
+                with_empty_cells(self.cells, place + at).append(cell)
 
     def end_row(self) -> None:
         """Finds the row that is read, as often as it is repeated, but none that is empty and not
@@ -369,7 +405,7 @@ class RowReader(Reader[tuple[Head, Row]]):
             self.found += ((self.sheet, one) for one in rows)
         self.number += repeat
 
-    def line_text(self, line: Line, style: str, form: Form) -> str | Fault:
+    def line_text(self, line: CellLine, style: str, form: Lettering) -> str | Fault:
         """Returns the text of a line of a cell of a style."""
         if isinstance(line, str) and form.mark is Mark.NONE:
             text: str | Fault = line
@@ -398,8 +434,8 @@ class RowReader(Reader[tuple[Head, Row]]):
             if form.mark.moves:
                 return Fault(RAISED, AS_TEXT, value or text)
             exact = exact_of(value) if value else None
-            own = Kind.MOMENT if kind in ("date", "time") else Kind.NUMBER
-            return Number(value or text, text, exact, moment, self.formatter, own)
+            own = CellKind.MOMENT if kind in ("date", "time") else CellKind.NUMBER
+            return OdsNumber(value or text, text, exact, moment, self.formatter, own)
         if kind == "error":
             return Fault(no_value(text).what, value=text)
         if kind == "boolean":

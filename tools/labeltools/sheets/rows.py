@@ -2,9 +2,9 @@
 
 from typing import Mapping, NamedTuple, Sequence
 
-from labeltools.sheets.cells import Cell, Fault, seen
 from labeltools.common.messages import RowError
 from labeltools.common.text import Text
+from labeltools.sheets.cells import Cell, Fault, seen
 
 
 class Merge(NamedTuple):

@@ -15,10 +15,10 @@ from io import BytesIO
 from itertools import chain
 from typing import Generic, NamedTuple, TypeVar
 from xml.parsers.expat import ExpatError, ParserCreate
-from zipfile import ZIP_DEFLATED, ZIP_STORED, BadZipFile, ZipFile
+from zipfile import BadZipFile, ZIP_DEFLATED, ZIP_STORED, ZipFile
 
-from labeltools.common.text import Text, counted
-from labeltools.common.messages import BAD_ARGUMENTS, ToolError, quoted
+from labeltools.common.messages import BAD_ARGUMENTS, quoted, ToolError
+from labeltools.common.text import counted, Text
 from labeltools.sheets.cells import Cell
 from labeltools.sheets.rows import Merge, Row
 
@@ -59,7 +59,7 @@ Attributes = Mapping[str, str]
 Element = tuple[str, Attributes]  # its path below the outermost one
 
 
-class Sheet(NamedTuple):
+class Worksheet(NamedTuple):
     """A sheet: its name, whether it can be seen, and its rows, but maybe without the empty ones."""
 
     name: str
@@ -108,7 +108,7 @@ def is_ods(archive: ZipFile) -> bool:
         return b"opendocument.spreadsheet" in stream.read(LONGEST_KIND)
 
 
-def chosen(sheets: Iterable[Sheet], wanted: str | None) -> Iterator[Row]:
+def chosen(sheets: Iterable[Worksheet], wanted: str | None) -> Iterator[Row]:
     """Yields the rows of the sheet that is wanted, else of the only one that is visible and has
     data.
 
@@ -291,7 +291,7 @@ def merges_at(merges: list[Merge], number: int) -> list[Merge]:
     return [merge for merge in merges if merge.last_row >= number]
 
 
-def filled(cells: list[Cell], place: int) -> list[Cell]:
+def with_empty_cells(cells: list[Cell], place: int) -> list[Cell]:
     """Returns a row with empty cells up to a place."""
     if place > len(cells):
         cells += [""] * (min(place, MOST_COLUMNS) - len(cells))
@@ -316,10 +316,10 @@ def repeats(attributes: Mapping[str, str], name: str) -> int:
     ValueError.
     """
     value = attributes.get(name)
-    return 1 if value is None else whole(value, 1)
+    return 1 if value is None else whole_number(value, 1)
 
 
-def whole(value: str, least: int = 0) -> int:
+def whole_number(value: str, least: int = 0) -> int:
     """Returns a count or an index of a file; raises ValueError for one below the least, which
     Python would take.
     """
@@ -330,20 +330,20 @@ def whole(value: str, least: int = 0) -> int:
     return int(value)
 
 
-def corners_of(reference: str) -> list[tuple[int, int]]:
+def range_corners(reference: str) -> list[tuple[int, int]]:
     """Returns the rows, from 1, and the places, from 0, of a range of cells.
 
-    >>> corners_of("A2:B3"), corners_of("C1")
+    >>> range_corners("A2:B3"), range_corners("C1")
     ([(2, 0), (3, 1)], [(1, 2)])
     """
-    return [(int(row), place_of(letters)) for letters, row in REFERENCE.findall(reference)]
+    return [(int(row), column_index(letters)) for letters, row in REFERENCE.findall(reference)]
 
 
 @lru_cache(maxsize=MOST_COLUMNS)
-def place_of(letters: str) -> int:
+def column_index(letters: str) -> int:
     """Returns the place of a column, from 0.
 
-    >>> place_of("A"), place_of("AB")
+    >>> column_index("A"), column_index("AB")
     (0, 27)
     """
     return reduce(lambda place, letter: place * 26 + ord(letter) - 64, letters[:4], 0) - 1

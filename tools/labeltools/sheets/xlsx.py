@@ -2,23 +2,54 @@
 
 import posixpath
 import re
+from collections.abc import Iterator, Mapping, Sequence
 from dataclasses import dataclass, field
 from decimal import Decimal
-from collections.abc import Iterator, Mapping, Sequence
 from typing import NamedTuple
 from zipfile import ZipFile
 
-from labeltools.sheets import number_format
-from labeltools.common.text import Text
 from labeltools.common.messages import RowError, Talk, ToolError
+from labeltools.common.text import Text
+from labeltools.sheets import number_format
+from labeltools.sheets.cells import (
+    Cell,
+    CellKind,
+    CONDITION,
+    CONDITION_HINT,
+    Fault,
+    formed,
+    Lettering,
+    Mark,
+    NO_LETTERS,
+    no_value,
+    PLAIN,
+    Special,
+    text_of_runs,
+    Truth,
+)
 from labeltools.sheets.number_format import BUILT_IN, BUILT_IN_DATES, Formatter, LANGUAGE
-from labeltools.sheets.cells import Cell, Fault, Form, Kind, Mark, PLAIN, Special, Truth, no_value
-from labeltools.sheets.cells import CONDITION, CONDITION_HINT, NO_LETTERS, formed, text_of_runs
 from labeltools.sheets.rows import Merge, Row
-from labeltools.sheets.workbook import Attributes, F, LARGEST_TEXTS, NOT_SAVED, NOT_SAVED_HINT
-from labeltools.sheets.workbook import Reader, SAVE_AGAIN, Sheet, TOO_LARGE, TRUE
-from labeltools.sheets.workbook import chosen, corners_of, elements, exact_of, filled, merges_at
-from labeltools.sheets.workbook import place_of, rows_from, whole
+from labeltools.sheets.workbook import (
+    Attributes,
+    chosen,
+    column_index,
+    elements,
+    exact_of,
+    F,
+    LARGEST_TEXTS,
+    merges_at,
+    NOT_SAVED,
+    NOT_SAVED_HINT,
+    range_corners,
+    Reader,
+    rows_from,
+    SAVE_AGAIN,
+    TOO_LARGE,
+    TRUE,
+    whole_number,
+    with_empty_cells,
+    Worksheet,
+)
 
 ESCAPED = re.compile("_x([0-9A-Fa-f]{4})_")
 # an address and a text, as a formula has them
@@ -34,7 +65,9 @@ STALE_HINT = Text("if they may be old, open the table in the spreadsheet and sav
 
 
 Target = tuple[str, str]  # what a part refers to: its kind, and a part or an address outside
-Runs = Sequence[tuple[str, Form | None]]  # letters; those without a form have that of their cell
+XlsxRuns = Sequence[
+    tuple[str, Lettering | None]
+]  # letters; those without a form have that of their cell
 
 
 class Strings(Reader[F]):
@@ -42,8 +75,8 @@ class Strings(Reader[F]):
 
     def __init__(self) -> None:
         super().__init__()
-        self.runs: list[tuple[str, Form | None]] = []
-        self.form: Form | None = None
+        self.runs: list[tuple[str, Lettering | None]] = []
+        self.form: Lettering | None = None
         self.is_spoken = False  # how letters are spoken is beside the text
 
     def begun(self, name: str, attributes: Attributes) -> None:
@@ -58,13 +91,13 @@ class Strings(Reader[F]):
     def ended(self, name: str) -> None:
         """Takes what ends in a string."""
         if name == "t" and self.texts and not self.is_spoken:
-            self.runs.append((unescaped(self.text), self.form))
+            self.runs.append((without_escapes(self.text), self.form))
         elif name == "r":
             self.form = None
         elif name == "rPh":
             self.is_spoken = False
 
-    def string(self) -> str | Runs:
+    def string(self) -> str | XlsxRuns:
         """Returns the string that was read: a text, where all its letters have the form of the
         cell.
         """
@@ -73,7 +106,7 @@ class Strings(Reader[F]):
         return runs if is_rich else "".join(text for text, _ in runs)
 
 
-class SharedStrings(Strings[str | Runs]):
+class SharedStrings(Strings[str | XlsxRuns]):
     """Finds the shared strings of a file."""
 
     letters = 0
@@ -98,14 +131,14 @@ class Look(NamedTuple):
     """A style: its number format, and the form of its letters."""
 
     number_format: str
-    form: Form
+    form: Lettering
 
 
 class Looks(NamedTuple):
     """The styles of a file by their numbers, and the forms of letters that conditions give."""
 
     of_cells: Mapping[str, Look]
-    of_conditions: Sequence[Form]
+    of_conditions: Sequence[Lettering]
 
 
 @dataclass
@@ -117,7 +150,7 @@ class Book:
     that calculate nothing.
     """
 
-    strings: Mapping[str, str | Runs]
+    strings: Mapping[str, str | XlsxRuns]
     looks: Mapping[str, Look]
     formatter: Formatter
     is_from_1904: bool
@@ -137,7 +170,7 @@ class Book:
 
 
 @dataclass(slots=True)
-class Number(Special):
+class XlsxNumber(Special):
     """A cell with a number."""
 
     value: str
@@ -146,10 +179,10 @@ class Number(Special):
     book: Book
 
     @property
-    def kind(self) -> Kind:
+    def kind(self) -> CellKind:
         """What it is by its format; a number may be shown as a date or a time."""
         is_moment = number_format.is_of_time(self.number_format, self.exact)
-        return Kind.MOMENT if is_moment else Kind.NUMBER
+        return CellKind.MOMENT if is_moment else CellKind.NUMBER
 
     def number(self) -> Decimal | None:
         """Returns the number that it has."""
@@ -183,7 +216,7 @@ def rows_of_xlsx(
     return chosen(sheets_of(archive, path, formatter, talk), wanted)
 
 
-def sheets_of(archive: ZipFile, path: str, formatter: Formatter, talk: Talk) -> Iterator[Sheet]:
+def sheets_of(archive: ZipFile, path: str, formatter: Formatter, talk: Talk) -> Iterator[Worksheet]:
     """Yields the sheets of a workbook."""
     targets = relations(archive, path)
     parts = dict(targets.values())
@@ -205,10 +238,10 @@ def sheets_of(archive: ZipFile, path: str, formatter: Formatter, talk: Talk) -> 
         if kind == "worksheet":
             is_visible = sheet.get("state", "visible") == "visible"
             reader = SheetReader(book, beside_of(archive, part, looks.of_conditions))
-            yield Sheet(sheet["name"], is_visible, reader.read(archive, part))
+            yield Worksheet(sheet["name"], is_visible, reader.read(archive, part))
 
 
-def strings_of(archive: ZipFile, part: str) -> dict[str, str | Runs]:
+def strings_of(archive: ZipFile, part: str) -> dict[str, str | XlsxRuns]:
     """Returns the shared strings by their numbers."""
     strings = SharedStrings().read(archive, part) if part else ()
     return {str(number): string for number, string in enumerate(strings)}
@@ -217,9 +250,9 @@ def strings_of(archive: ZipFile, part: str) -> dict[str, str | Runs]:
 def looks_of(archive: ZipFile, part: str) -> Looks:
     """Returns the styles of a file."""
     looks: dict[str, Look] = {}
-    of_conditions: list[Form] = []
+    of_conditions: list[Lettering] = []
     by_number = {**BUILT_IN, **BUILT_IN_DATES}
-    fonts: list[Form] = []
+    fonts: list[Lettering] = []
     are_filled: list[bool] = []
     for path, found in elements(archive, part):
         outer, _, name = path.rpartition("/")
@@ -235,24 +268,28 @@ def looks_of(archive: ZipFile, part: str) -> Looks:
             are_filled.append(True)
         elif path == "cellXfs/xf":
             number_format = by_number.get(found.get("numFmtId", "0"), LANGUAGE)
-            looks[str(len(looks))] = Look(number_format, form_of(found, fonts, are_filled))
+            looks[str(len(looks))] = Look(
+                number_format, numbered_lettering(found, fonts, are_filled)
+            )
         elif path == "dxfs/dxf":
             of_conditions.append(PLAIN)
         elif outer == "dxfs/dxf/font":
             of_conditions[-1] = having(of_conditions[-1], name, found)
         elif outer == "dxfs/dxf/fill":
-            of_conditions[-1] = of_conditions[-1].within(Form(is_filled=True))
+            of_conditions[-1] = of_conditions[-1].within(Lettering(is_filled=True))
     return Looks(looks or {"0": Look("General", PLAIN)}, of_conditions)
 
 
-def form_of(found: Mapping[str, str], fonts: Sequence[Form], are_filled: Sequence[bool]) -> Form:
+def numbered_lettering(
+    found: Mapping[str, str], fonts: Sequence[Lettering], are_filled: Sequence[bool]
+) -> Lettering:
     """Returns the form of a style by the numbers of its font and its filling."""
-    form = fonts[whole(found.get("fontId", "0"))] if fonts else PLAIN
-    is_filled = bool(are_filled) and are_filled[whole(found.get("fillId", "0"))]
-    return form.within(Form(is_filled=is_filled))
+    form = fonts[whole_number(found.get("fontId", "0"))] if fonts else PLAIN
+    is_filled = bool(are_filled) and are_filled[whole_number(found.get("fillId", "0"))]
+    return form.within(Lettering(is_filled=is_filled))
 
 
-def having(form: Form, name: str, attributes: Mapping[str, str]) -> Form:
+def having(form: Lettering, name: str, attributes: Mapping[str, str]) -> Lettering:
     """Returns a form with a property of a font."""
     value = attributes.get("val", "")
     if name == "strike" and value not in FALSE:
@@ -296,22 +333,22 @@ class Beside:
     has_condition: bool = False
 
 
-def beside_of(archive: ZipFile, path: str, of_conditions: Sequence[Form]) -> Beside:
+def beside_of(archive: ZipFile, path: str, of_conditions: Sequence[Lettering]) -> Beside:
     """Returns what a sheet has beside its rows, most of which is below them."""
     beside = Beside()
     targets: dict[str, Target] = {}
     for name, found in elements(archive, path, ROWS):
         if name == "mergeCells/mergeCell":
-            first, *_, last = corners_of(found["ref"]) * 2
+            first, *_, last = range_corners(found["ref"]) * 2
             beside.merges.setdefault(first[0], []).append(Merge(*first, *last))
         elif name == "hyperlinks/hyperlink" and "id" in found:
             targets = targets or relations(archive, path)
-            row, place = corners_of(found["ref"])[0]
+            row, place = range_corners(found["ref"])[0]
             place_in_page = f"#{found['location']}" if found.get("location") else ""
             address = targets[found["id"]][1] + place_in_page
             beside.links.setdefault(row, {})[place] = address
         elif name == "conditionalFormatting/cfRule" and "dxfId" in found:
-            form = of_conditions[whole(found["dxfId"])]
+            form = of_conditions[whole_number(found["dxfId"])]
             beside.has_condition = beside.has_condition or form.mark in NO_LETTERS
     return beside
 
@@ -367,7 +404,9 @@ class SheetReader(Strings[Row]):
     def begin_row(self, attributes: Attributes) -> None:
         """Begins a row."""
         self.is_inside = True
-        before, self.number = self.number, whole(attributes.get("r", str(self.number + 1)), 1)
+        before, self.number = self.number, whole_number(
+            attributes.get("r", str(self.number + 1)), 1
+        )
         if self.number <= before:
             raise out_of_order(self.number)
         self.row, self.cells, self.letters = attributes, [], 0
@@ -376,12 +415,12 @@ class SheetReader(Strings[Row]):
     def end_cell(self) -> None:
         """Puts the cell that was read in its place."""
         cells, reference = self.cells, self.cell.get("r")
-        place = place_of(reference.rstrip("0123456789")) if reference else len(cells)
+        place = column_index(reference.rstrip("0123456789")) if reference else len(cells)
         if place < len(cells):
             raise out_of_order(self.number)
         look = self.book.looks[self.cell.get("s", "0")]
         cell = self.cell_by(look)
-        filled(cells, place).append(cell)
+        with_empty_cells(cells, place).append(cell)
         if isinstance(cell, str):
             self.letters += len(cell)
         if self.formula and (found := HYPERLINK.fullmatch(self.formula)):
@@ -399,9 +438,9 @@ class SheetReader(Strings[Row]):
         if kind == "s":
             return text_of(book.strings[value], look)
         if kind == "n":
-            return formed(Number(value, exact_of(value), look.number_format, book), look.form)
+            return formed(XlsxNumber(value, exact_of(value), look.number_format, book), look.form)
         if kind in ("str", "inlineStr"):
-            return text_of(unescaped(value) or self.string(), look)
+            return text_of(without_escapes(value) or self.string(), look)
         if kind == "e":
             return Fault(no_value(value).what, value=value)
         return formed(Truth({"1": "TRUE", "0": "FALSE"}.get(value, value)), look.form)
@@ -415,7 +454,7 @@ class SheetReader(Strings[Row]):
         self.found += rows_from(row, self.letters)
 
 
-def text_of(text: str | Runs, look: Look) -> Cell:
+def text_of(text: str | XlsxRuns, look: Look) -> Cell:
     """Returns a text; none where its format puts something around it, as `"SKU-"@` does."""
     style, form = look
     if isinstance(text, str):
@@ -441,7 +480,7 @@ def out_of_order(number: int) -> ToolError:
     return ToolError(Text("has row {} or a cell of it out of order", number), SAVE_AGAIN)
 
 
-def unescaped(text: str) -> str:
+def without_escapes(text: str) -> str:
     """Returns a text without escapes: `_x000D_` is a carriage return (ST_Xstring)."""
     if "_x" in text:
         text = ESCAPED.sub(lambda match: chr(int(match[1], 16)), text)

@@ -5,21 +5,21 @@ from dataclasses import dataclass
 from functools import cached_property
 from typing import NamedTuple, Sequence
 
-from labeltools.common.text import NOTHING, Text, counted, joined
-from labeltools.sheets.cells import IS_ROUNDED_DATA, PROGRAM_ERROR, ROUNDED, ROUNDED_HINT
-from labeltools.common.messages import RowError, named, quoted
-from labeltools.tables.money import NO_VALUES
+from labeltools.common.messages import named, quoted, RowError
+from labeltools.common.text import counted, joined, NOTHING, Text
 from labeltools.lines.symbologies import (
+    check_digit,
     CODE128,
     EAN13,
     EAN8,
+    is_right,
     NUMBERS,
     QR,
     SYMBOLOGIES,
     UPCA,
-    check_digit,
-    is_right,
 )
+from labeltools.sheets.cells import IS_ROUNDED_DATA, PROGRAM_ERROR, ROUNDED, ROUNDED_HINT
+from labeltools.tables.money import NO_VALUES
 
 AUTO = "auto"
 FREE = (CODE128.name, QR.name)

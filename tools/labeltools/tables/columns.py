@@ -7,15 +7,27 @@ from difflib import get_close_matches
 from itertools import islice
 from typing import Iterable, Sequence
 
+from labeltools.common.column_names import name_of, NUMBER, row_with_names
+from labeltools.common.messages import BAD_ARGUMENTS, quoted, RowError, ToolError
 from labeltools.common.text import Text
-from labeltools.sheets.cells import COPIES, DATA, DIGITS, Kind, MARK, PRICE, PRINTED, taken
-from labeltools.sheets.cells import UNSEEN_CODE, UNSEEN_PRICE, UNSEEN_TEXT, refuse_unseen
 from labeltools.lines.file import MOST_COPIES
-from labeltools.common.messages import BAD_ARGUMENTS, RowError, ToolError, quoted
-from labeltools.common.names import NUMBER, name_of, row_of_names
-from labeltools.sheets.rows import Row
 from labeltools.lines.symbologies import SYMBOLOGIES
-from labeltools.tables.options import Columns, TableOptions
+from labeltools.sheets.cells import (
+    CellKind,
+    COPIES,
+    DATA,
+    DIGITS,
+    MARK,
+    PRICE,
+    PRINTED,
+    refuse_unseen,
+    taken,
+    UNSEEN_CODE,
+    UNSEEN_PRICE,
+    UNSEEN_TEXT,
+)
+from labeltools.sheets.rows import Row
+from labeltools.tables.table_options import Columns, TableOptions
 
 ROWS_LOOKED_AT = 50  # for the row of names
 LISTED = 40  # columns that a message lists
@@ -105,7 +117,7 @@ class Column:
         if self.mark(row).casefold() == value.casefold():
             return True
         cell = row.cell(self.place)
-        if isinstance(cell, str) or cell.kind is not Kind.NUMBER or not NUMBER.fullmatch(value):
+        if isinstance(cell, str) or cell.kind is not CellKind.NUMBER or not NUMBER.fullmatch(value):
             return False
         return Decimal(value.replace(",", ".")) == cell.number()
 
@@ -145,7 +157,7 @@ def columns_of(head: Head, rows: Iterable[Row], options: TableOptions) -> Column
         return replace(found, where=tuple((one, name_of(value)) for one, value in found.where))
     except ToolError as error:
         texts = ((row.number, texts_of(row)) for row in islice(rows, ROWS_LOOKED_AT))
-        later = row_of_names(texts, asked.asked) if options.file.has_header is not False else 0
+        later = row_with_names(texts, asked.asked) if options.file.has_header is not False else 0
         if later:
             raise ToolError(
                 error.what, Text("the names are in row {}: give --header-row {}", later, later), 2
@@ -235,6 +247,6 @@ def check_code(column: Column, head: Head, options: TableOptions) -> None:
         raise ToolError(what, hint, BAD_ARGUMENTS)
 
 
-def names_of(row: Row) -> tuple[str, ...]:
+def column_names(row: Row) -> tuple[str, ...]:
     """Returns the names of columns that a row has."""
     return tuple(map(name_of, texts_of(row)))

@@ -5,19 +5,27 @@ from dataclasses import dataclass, replace
 from decimal import Decimal
 from typing import Iterator, NamedTuple, Sequence
 
+from labeltools.common.column_names import is_repeated, name_of
+from labeltools.common.messages import quoted, RowError
 from labeltools.common.text import Text
-from labeltools.tables.codes import Code, CodeRules, code_of, is_in_brackets
-from labeltools.tables.columns import Column, symbology_in
-from labeltools.tables.twice import twice_encoded
-from labeltools.common.messages import RowError, quoted
-from labeltools.tables.money import MOST_DECIMALS, Money, NotMoney, currency_of, parse
-from labeltools.tables.money import parse_unit_price, plain
-from labeltools.tables.prices import ARITHMETIC, MOST_LOST, nearest
-from labeltools.common.names import is_repeated, name_of
-from labeltools.tables.once import Once
+from labeltools.lines.file import Label
 from labeltools.lines.symbologies import SYMBOLOGIES
 from labeltools.sheets.rows import Row
-from labeltools.tables.options import Columns, TableOptions
+from labeltools.tables.codes import Code, code_of, CodeRules, is_in_brackets
+from labeltools.tables.columns import Column, symbology_in
+from labeltools.tables.money import (
+    currency_of,
+    Money,
+    MOST_DECIMALS,
+    NotMoney,
+    parse,
+    parse_unit_price,
+    plain_signs,
+)
+from labeltools.tables.once import Once
+from labeltools.tables.prices import ARITHMETIC, MOST_LOST, nearest
+from labeltools.tables.table_options import Columns, TableOptions
+from labeltools.tables.twice import twice_encoded
 
 HTML = re.compile("</?[a-z][^<>]*>|&(?:[a-z]{2,8}|#[0-9]{1,6});", re.IGNORECASE)
 OWN_TABLE = Text("make it a table of its own")
@@ -26,6 +34,7 @@ HALF = Decimal("0.5")
 KIND_OF_CODES = re.compile(
     r"(?:EAN|GTIN|UPC|ISBN|JAN)(?:[- ]?(?:[0-9]{1,2}|code|A|E))?", re.IGNORECASE
 )
+MONTH = re.compile(r"(?:[1-9]|1[0-2])\.(?:19|20)[0-9]{2}")  # 12.2026, of which Excel makes a date
 HAS_DIGIT = re.compile("[0-9]")
 SHOWN_DECIMALS = 6  # of the number of a cell, in a message
 PROGRAM_DECIMALS = 17  # of a number that a program has calculated
@@ -44,28 +53,17 @@ class Price(NamedTuple):
 
 
 class Draft(NamedTuple):
-    """A row with a right code, before its prices are written; those that it does not have are
-    None.
+    """A row with a right code: its label, before its prices are written; these are the price, the
+    price of a unit, and the old price, None if there is none.
     """
 
-    row: int
     code: Code
-    title: str
-    text: tuple[str, ...]
-    names: tuple[str, ...]  # of the columns of the texts
-    copies: int
-    price: Price | None
-    unit: Price | None
-    was: Price | None
-
-    @property
-    def prices(self) -> tuple[Price | None, ...]:
-        """The price, the price of a unit, and the old price."""
-        return self.price, self.unit, self.was
+    label: Label
+    prices: tuple[Price | None, Price | None, Price | None]
 
 
 @dataclass
-class RowReader:
+class DraftReader:
     """Reads rows that are not blank."""
 
     options: TableOptions
@@ -95,13 +93,13 @@ class RowReader:
         self.right_codes += 1
         title = "\n".join(self.texts(columns.title, row, code).values())
         texts = self.texts(columns.text, row, code)
-        text = tuple(texts.values())
         currency = self.currency(row)
         copies = columns.copies.copies(row) if columns.copies else 1
+        label = Label(row.number, title, (*texts.values(),), copies=copies, names=(*texts,))
         price = self.price(columns.price, row, currency)
         unit = self.price(columns.unit_price, row, currency) if columns.unit_price else None
         was = self.price(columns.old_price, row, currency) if columns.old_price else None
-        return Draft(row.number, code, title, text, tuple(texts), copies, price, unit, was)
+        return Draft(code, label, (price, unit, was))
 
     def refuse_names(self, row: Row) -> None:
         """Raises `RowError` for a row that has the names of the columns again, and for one that
@@ -232,7 +230,7 @@ class RowReader:
         found = column.mark(row)
         if any(letter.isdigit() for letter in found):
             raise column.error(RowError(Text("has {}, which is not a currency", quoted(found))))
-        is_known = currency_of(plain(found), self.options.prices.currency_name) is not None
+        is_known = currency_of(plain_signs(found), self.options.prices.currency_name) is not None
         if found and not is_known:
             said = Text("row {} has the currency {}, which is not known", row.number, quoted(found))
             self.once.see("currency", said, Text("if it is right, give it with --currency-name"))
@@ -246,15 +244,18 @@ class RowReader:
         if not text:
             return None
         cell = row.cells[column.place]
+        number = None if isinstance(cell, str) else cell.number()
+        rules = self.options.prices
         try:
+            if number is None and MONTH.fullmatch(text) and not (rules.is_text or rules.pattern):
+                raise NotMoney(Text("may be a month"), Text("give --price-as if it is none"))
             is_unit = column is self.columns.unit_price
-            money = self.money(text, is_unit, currency or self.options.prices.currency_name)
+            money = self.money(text, is_unit, currency or rules.currency_name)
         except NotMoney as problem:
             what = Text("has {}, which is not a price: it {}", quoted(text), problem.what)
             is_zero = not isinstance(cell, str) and cell.value and not cell.value.strip("0.")
             hint = ZERO_HINT if is_zero else problem.hint
             raise column.error(RowError(what, hint)) from None
-        number = None if isinstance(cell, str) else cell.number()
         if money is None or number is None:
             return Price(column, text, money, currency)
         found = Price(column, text, nearest(money, number), currency)

@@ -2,33 +2,26 @@
 was asked for.
 """
 
+import shlex
 from dataclasses import dataclass, field
-from typing import Mapping, NamedTuple
+from typing import Mapping
 
+from labeltools.common.messages import Origin, quoted, RowError, Talk, ToolError
 from labeltools.common.text import Text
+from labeltools.lines.file import first_remark, Label, label_lines, last_remark, LinesFile
+from labeltools.tables.codes import Code
 from labeltools.tables.drafts import Draft, HAS_DIGIT, Price
-from labeltools.lines.file import Label, LinesFile, first_remark, label_lines, last_remark
-from labeltools.common.messages import Place, RowError, Talk, ToolError, quoted
-from labeltools.tables.money import NotMoney
+from labeltools.tables.money import Money, NotMoney
 from labeltools.tables.once import Once
 from labeltools.tables.prices import PriceColumn, settled, with_currency
 from labeltools.tables.summary import Totals
-from labeltools.tables.options import TableOptions
+from labeltools.tables.table_options import TableOptions
 
 LARGEST_OUTPUT = 1 << 27  # bytes
 
 
-class Content(NamedTuple):
-    """What a label shows beside its code."""
-
-    title: str
-    text: tuple[str, ...]
-    price: str
-    unit: str
-    was: str
-
-
-Older = Mapping[tuple[str, str], set[Content]]
+# what labels show, by their symbologies and codes
+Older = Mapping[tuple[str, str], set[tuple[object, ...]]]
 
 
 @dataclass
@@ -68,13 +61,27 @@ class LineWriter:
         for price, column in zip(draft.prices, self.columns):
             if price and price.money:
                 column.add(price.money, price.currency or "")
-                if not price.money.value:
-                    said = Text("row {} has the price {}", draft.row, price.text)
-                    self.once.see(("zero", price.column), said)
+                self.see_price(draft.label.row, price, price.money)
+        now, _, was = draft.prices
+        if now and was and is_below(was.money, now.money):
+            row = draft.label.row
+            said = Text("row {} has the old price {}, below the price {}", row, was.text, now.text)
+            self.once.see("was", said)
         if self.options.prices.pattern:
             self.waiting.append(draft)
         else:
             self.add(draft)
+
+    def see_price(self, row: int, price: Price, money: Money) -> None:
+        """Looks at a price that is zero, or has as many decimals as a program's number has."""
+        if not money.value:
+            self.once.see(("zero", price.column), Text("row {} has the price {}", row, price.text))
+        is_shown = self.options.prices.pattern or money.unit or money.is_open
+        if not is_shown and money.decimals not in (0, 2, 3):
+            said = Text("row {} has {}, as programs write prices", row, price.text)
+            pattern = f"0{money.point}00 ¤" if money.currency else f"0{money.point}00"
+            hint = Text("give --price-as {} for two decimals", shlex.quote(pattern))
+            self.once.see(("decimals", price.column), said, hint)
 
     def finish(self) -> bytes:
         """Writes the drafts that wait, and the end; returns the whole file."""
@@ -89,23 +96,26 @@ class LineWriter:
 
     def add(self, draft: Draft) -> None:
         """Writes a draft, or leaves it out."""
+        row = draft.label.row
         try:
-            prices = [self.written(draft.row, *both) for both in zip(draft.prices, self.columns)]
+            price, unit, was = (
+                self.written(row, *both) for both in zip(draft.prices, self.columns)
+            )
         except RowError as problem:
-            texts = (one.text for one in draft.prices if one and one.column.place == problem.place)
-            self.leave_out(draft.row, next(texts, ""), problem)
+            texts = (one.text for one in draft.prices if one and one.column.place == problem.column)
+            self.leave_out(row, next(texts, ""), problem)
             return
-        content = Content(draft.title, draft.text, *prices)
-        self.compare(draft, content)
+        label = draft.label._replace(price=price, unit=unit, was=was)
+        self.compare(draft.code, label)
         key = (draft.code.symbology, draft.code.whole)
-        if self.older is not None and content in self.older.get(key, ()):
+        if self.older is not None and label.shown in self.older.get(key, ()):
             self.unchanged += 1
             return
-        self.write(draft, content)
+        self.write(draft, label)
 
     def leave_out(self, row: int, cell: str, problem: RowError) -> None:
         """Leaves out a row."""
-        self.talk.note(Place("", "row", row), cell, problem.what, problem.hint)
+        self.talk.note(Origin("", "row", row), cell, problem.what, problem.hint)
         self.left_out.append(row)
 
     def written(self, row: int, price: Price | None, column: PriceColumn) -> str:
@@ -130,27 +140,26 @@ class LineWriter:
             )
             raise price.column.error(RowError(what, problem.hint)) from None
 
-    def compare(self, draft: Draft, content: Content) -> None:
+    def compare(self, code: Code, label: Label) -> None:
         """Says once of each article that it is there twice with other texts or prices."""
-        article = draft.code.article
-        mark = hash(content) or 1
-        first, before = self.seen.setdefault(article, (draft.row, mark))
+        mark = hash(label.shown) or 1
+        first, before = self.seen.setdefault(code.article, (label.row, mark))
         if before not in (mark, 0):
-            self.seen[article] = first, 0
+            self.seen[code.article] = first, 0
             self.talk.say(
                 Text(
                     "rows {} and {} have the same code, {}, and another title, text or price",
                     first,
-                    draft.row,
-                    draft.code.data,
+                    label.row,
+                    code.data,
                 )
             )
 
-    def write(self, draft: Draft, content: Content) -> None:
+    def write(self, draft: Draft, label: Label) -> None:
         """Writes the lines of a label, and counts what the summary needs."""
+        code, price = draft.code, draft.prices[0]
         settings = f",{self.options.settings}" if self.options.settings else ""
-        line = f"{draft.code.symbology}{settings} {draft.code.data}"
-        label = Label(draft.row, *content, draft.copies, draft.names)
+        line = f"{code.symbology}{settings} {code.data}"
         self.output += label_lines(label, line, self.has_copies).encode()
         if len(self.output) > LARGEST_OUTPUT:
             raise ToolError(
@@ -158,24 +167,29 @@ class LineWriter:
                 Text("split it into several tables"),
             )
         self.count += 1
-        self.filled.update(draft.names)
-        self.totals.add(draft.code.symbology, draft.copies)
-        if draft.price and draft.price.money:
-            self.totals.add_price(draft.price.money.value, content.price)
-        if not HAS_DIGIT.search(draft.code.data):
-            self.words[draft.row] = draft.code.data
-        if not content.title:
-            self.empty["title"].append(draft.row)
-        if not content.price:
-            self.empty["price"].append(draft.row)
+        self.filled.update(label.names)
+        self.totals.add(code.symbology, label.copies)
+        if price and price.money:
+            self.totals.add_price(price.money.value, label.price)
+        if not HAS_DIGIT.search(code.data):
+            self.words[label.row] = code.data
+        if not label.title:
+            self.empty["title"].append(label.row)
+        if not label.price:
+            self.empty["price"].append(label.row)
 
 
-def contents_of(lines: LinesFile) -> Older:
-    """Returns the labels of an older file by their symbologies and codes."""
-    found: dict[tuple[str, str], set[Content]] = {}
+def is_below(one: Money | None, other: Money | None) -> bool:
+    """Returns whether a price is below another one, where both can be compared."""
+    if not one or not other or one.is_open or other.is_open:
+        return False
+    return one.value < other.value and one.currency == other.currency
+
+
+def shown_by(lines: LinesFile) -> Older:
+    """Returns what the labels of an older file show."""
+    found: dict[tuple[str, str], set[tuple[object, ...]]] = {}
     for record in lines.records:
-        label = record.label
         key = (record.symbology, record.data.decode("utf-8", "replace"))
-        content = Content(label.title, label.text, label.price, label.unit, label.was)
-        found.setdefault(key, set()).add(content)
+        found.setdefault(key, set()).add(record.label.shown)
     return found

@@ -11,9 +11,9 @@ from decimal import Decimal
 from functools import lru_cache
 from pathlib import Path
 
-from labeltools.common.lists import lists_of
-from labeltools.common.text import NOTHING, Text
 from labeltools.common.messages import RowError
+from labeltools.common.text import NOTHING, Text
+from labeltools.common.word_lists import lists_of
 
 PRICE_WORDS = Path(__file__).with_name("prices.list")
 MOST_LETTERS = 60
@@ -139,10 +139,10 @@ class Amount:
     is_bare: bool  # it has no sign but digits
 
 
-def plain(text: str) -> str:
+def plain_signs(text: str) -> str:
     """Returns a text with one sign for each that looks like it, and ASCII digits.
 
-    >>> plain("\\u200f٣٫٩٩ ر.س"), plain("￥１，０８０"), plain("3⁹⁹")
+    >>> plain_signs("\\u200f٣٫٩٩ ر.س"), plain_signs("￥１，０８０"), plain_signs("3⁹⁹")
     ('3,99 ر.س', '¥1,080', '3⁹⁹')
     """
     signs = (LOOKS.get(sign, sign) for sign in unicodedata.normalize("NFC", text))
@@ -210,7 +210,7 @@ def parse(text: str, own: str = "", most_decimals: int = MOST_DECIMALS) -> Money
         return Money(text, value, point, group, 2, "EUR" if euro else "")
     bare = with_usual_points(plain_price(text))
     unit, bare = unit_in(bare)
-    price = number_in(bare, plain(own), most_decimals)
+    price = number_in(bare, plain_signs(own), most_decimals)
     if unit and not is_priced(price, bare, unit):
         raise NotMoney(OTHER_WORDS, OTHER_WORDS_HINT)  # 1.0/AV
     return replace(price, text=text.strip(), unit=unit)
@@ -233,7 +233,7 @@ def plain_price(text: str) -> str:
     """Returns a cell made plain; raises `NotMoney` where it has no number, or is a percentage or
     long.
     """
-    bare = plain(text)
+    bare = plain_signs(text)
     if len(bare) > MOST_LETTERS or "\n" in bare or "\r" in bare:
         raise NotMoney(Text("has several lines or more than 60 letters"))
     if not re.search("[0-9]", bare):

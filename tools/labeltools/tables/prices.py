@@ -3,11 +3,21 @@
 import re
 from collections import Counter
 from dataclasses import dataclass, field, replace
-from decimal import ROUND_HALF_UP, Decimal
+from decimal import Decimal, ROUND_HALF_UP
 
 from labeltools.common.text import NOTHING, Text
-from labeltools.tables.money import LOOKS, Money, NotMoney, PER_UNIT, SPACES, WITH_THREE_DECIMALS
-from labeltools.tables.money import WORDS, currency_of, is_same, plain
+from labeltools.tables.money import (
+    currency_of,
+    is_same,
+    LOOKS,
+    Money,
+    NotMoney,
+    PER_UNIT,
+    plain_signs,
+    SPACES,
+    WITH_THREE_DECIMALS,
+    WORDS,
+)
 
 OF_MANY = re.compile(
     r"\b(?:tausend|tsd|thousands?|teur|t€|keur|k€)(?!\w)"
@@ -55,7 +65,11 @@ class PriceColumn:
                 self.points.add(price.point)
             if price.group:
                 self.groups.add(price.group)
-        own = currency_of(plain(currency), plain(currency)) if currency else price.currency
+        own = (
+            currency_of(plain_signs(currency), plain_signs(currency))
+            if currency
+            else price.currency
+        )
         if own and own != "cent":
             self.currencies.add(ONE_SIGN.get(own, own))
         self.has_cents = self.has_cents or price.currency == "cent"
@@ -182,7 +196,7 @@ class PricePattern:
         if group == " ":  # it may be a narrow one
             inside = text[len(front) : len(text) - len(end)]
             group = next(sign for sign in inside if LOOKS.get(sign, sign) == " ")
-        named = currency_of(plain(front.strip() or end.strip()))
+        named = currency_of(plain_signs(front.strip() or end.strip()))
         if found["point"] is None and group and named in WITH_THREE_DECIMALS:
             return cls(front, "", group, 3, "", end)
         return cls(front, group, found["point"] or "", behind.count("0"), dash, end)
@@ -255,7 +269,7 @@ class PricePattern:
         """
         own = self.currency
         found = currency_of_row(price, currency) or price.currency
-        wanted = currency_of(plain(own)) if own not in ("", "¤") else ""
+        wanted = currency_of(plain_signs(own)) if own not in ("", "¤") else ""
         has_one = found not in ("", "cent")
         if has_one and wanted and not is_same(found, wanted):
             raise NotMoney(Text("has {}, and the format of prices has {}", found, wanted))
@@ -269,7 +283,7 @@ def currency_of_row(price: Money, currency: str) -> str:
     """Returns the code of the currency of a row, which may be empty; raises `NotMoney` where the
     price has another one.
     """
-    row = currency_of(plain(currency), plain(currency)) or "" if currency else ""
+    row = currency_of(plain_signs(currency), plain_signs(currency)) or "" if currency else ""
     if currency and price.currency not in ("", "cent") and not is_same(price.currency, row):
         raise NotMoney(Text("has {}, and its row has {}", price.currency, currency))
     return row
@@ -301,7 +315,7 @@ def with_currency(price: Money, text: str, currency: str | None) -> str:
 def check_currencies(text: str, front: str, end: str) -> None:
     """Raises ValueError where a pattern has what is no currency, or two."""
     for one in (front.strip(), end.strip()):
-        if one not in ("", "¤") and currency_of(plain(one)) is None:
+        if one not in ("", "¤") and currency_of(plain_signs(one)) is None:
             raise ValueError(Text("{!r} in {!r} is not a currency", one, text))
     if front.strip() and end.strip():
         raise ValueError(Text("{!r} has two currencies", text))

@@ -6,7 +6,7 @@ from collections import Counter
 from dataclasses import dataclass, field
 from decimal import Decimal
 
-from labeltools.common.text import Text, counted, joined
+from labeltools.common.text import counted, joined, Text
 from labeltools.lines.symbologies import SYMBOLOGIES
 
 NUMBER = "0123456789.,'’- \u00a0\u202f–"  # what a price without a currency has

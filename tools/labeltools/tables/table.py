@@ -6,27 +6,27 @@ from functools import reduce
 from itertools import chain
 from typing import Iterator, NamedTuple
 
-from labeltools.common.text import NOTHING, Text, counted
-from labeltools.tables.columns import Column, Head, columns_of, names_of
-from labeltools.tables.codes import FREE, OTHER_CODES, OtherCode, WrongDigit
-from labeltools.sheets.csv_table import csv_table
-from labeltools.sheets.options import CsvOptions
-from labeltools.tables.drafts import RowReader
-from labeltools.tables.line_writer import LineWriter, contents_of
-from labeltools.common.messages import BAD_ARGUMENTS, RowError, Talk, ToolError, quoted
-from labeltools.tables.prices import CENTS, measure_of
-from labeltools.common.names import said_of_empty
+from labeltools.common.column_names import said_of_empty
+from labeltools.common.messages import BAD_ARGUMENTS, quoted, RowError, Talk, ToolError
 from labeltools.common.report import listed
+from labeltools.common.text import counted, NOTHING, Text
+from labeltools.lines.symbologies import SYMBOLOGIES
+from labeltools.sheets.cells import seen
+from labeltools.sheets.csv_table import csv_table
+from labeltools.sheets.file_options import CsvOptions
 from labeltools.sheets.number_format import Formatter, local_date, local_signs
 from labeltools.sheets.ods import rows_of_ods
-from labeltools.tables.once import Once
-from labeltools.sheets.cells import seen
 from labeltools.sheets.rows import Row
-from labeltools.lines.symbologies import SYMBOLOGIES
-from labeltools.tables.summary import summary
-from labeltools.tables.options import Columns, TableOptions
 from labeltools.sheets.workbook import is_ods, named_errors, opened
 from labeltools.sheets.xlsx import rows_of_xlsx
+from labeltools.tables.codes import FREE, OTHER_CODES, OtherCode, WrongDigit
+from labeltools.tables.columns import Column, column_names, columns_of, Head
+from labeltools.tables.drafts import DraftReader
+from labeltools.tables.line_writer import LineWriter, shown_by
+from labeltools.tables.once import Once
+from labeltools.tables.prices import CENTS, measure_of
+from labeltools.tables.summary import summary
+from labeltools.tables.table_options import Columns, TableOptions
 
 ZIP = (b"PK\x03\x04", b"PK\x05\x06")
 NO_TABLE = re.compile(rb"(?i)\xd0\xcf\x11\xe0|\s*<(?:\?xml|!doctype|html|table)")
@@ -91,7 +91,7 @@ def head_of(data: bytes, name: str, options: TableOptions, talk: Talk) -> Start:
     first rows.
     """
     formatter = Formatter(local_signs(options.file.decimal), options.file.date_as, local_date())
-    rows = rows_of(data, name, options, formatter, talk)
+    rows = table_rows(data, name, options, formatter, talk)
     wanted = options.file.header_row
     below = (row for row in rows if wanted or not row.is_blank())
     first = next((row for row in below if row.number >= (wanted or 0)), None)
@@ -107,10 +107,10 @@ def head_of(data: bytes, name: str, options: TableOptions, talk: Talk) -> Start:
         raise ToolError(Text("{}: row {}: {}", name, first.number, problem.what), problem.hint)
     if options.file.has_header is False:
         return Start(Head(first, ()), chain([first], rows), formatter)
-    return Start(Head(first, names_of(first)), rows, formatter)
+    return Start(Head(first, column_names(first)), rows, formatter)
 
 
-def rows_of(
+def table_rows(
     data: bytes, name: str, options: TableOptions, formatter: Formatter, talk: Talk
 ) -> Iterator[Row]:
     """Returns the rows of a table, whose kind its first bytes say; raises `ToolError` for another
@@ -161,7 +161,7 @@ class TableRun:
     start: Start
     talk: Talk
     once: Once = field(default_factory=Once)
-    reader: RowReader = field(init=False)
+    reader: DraftReader = field(init=False)
     writer: LineWriter = field(init=False)
     hidden: int = 0
     unmarked: int = 0
@@ -170,9 +170,9 @@ class TableRun:
     wrong_digits: int = 0
 
     def __post_init__(self) -> None:
-        older = contents_of(self.options.new_since) if self.options.new_since else None
+        older = shown_by(self.options.new_since) if self.options.new_since else None
         has_copies = self.columns.copies is not None
-        self.reader = RowReader(self.options, self.columns, self.start.head.names, self.once)
+        self.reader = DraftReader(self.options, self.columns, self.start.head.names, self.once)
         texts = tuple(column.name for column in self.columns.text)
         self.writer = LineWriter(self.options, self.talk, self.once, has_copies, older, texts)
 
@@ -193,7 +193,7 @@ class TableRun:
         try:
             draft = self.reader.draft(row)
         except RowError as problem:
-            place = self.columns.code.place if problem.place is None else problem.place
+            place = self.columns.code.place if problem.column is None else problem.column
             cell = seen(row.cells[place] if place < len(row.cells) else "")
             self.wrong_digits += isinstance(problem, WrongDigit)
             self.held.append((row.number, cell, problem))

@@ -5,11 +5,11 @@ from collections.abc import Sequence
 from pathlib import Path
 from typing import Any
 
-from labeltools.common.command_line import Parser
+from labeltools.common.arguments import Parser
+from labeltools.common.language import language
 from labeltools.common.messages import ToolError
 from labeltools.common.text import Text
-from labeltools.common.words import language
-from labeltools.window.gtk import GLib, Gio, Gtk, add_actions
+from labeltools.window.gtk import add_actions, Gio, GLib, Gtk
 from labeltools.window.window import Window
 
 ID = "org.labels.Window"

@@ -2,10 +2,12 @@
 is not there.
 """
 
-from collections.abc import Callable, Mapping
+from collections.abc import Callable, Iterator, Mapping
 from typing import Any
 
 import gi
+
+from labeltools.common.language import _
 
 try:
     gi.require_version("Gdk", "3.0")
@@ -14,7 +16,7 @@ try:
 except ValueError as error:  # there is no such version
     raise ImportError(str(error)) from error
 
-__all__ = ["Gdk", "Gio", "GLib", "Gtk", "Pango", "add_actions"]
+__all__ = ["Gdk", "Gio", "GLib", "Gtk", "Pango", "add_actions", "within"]
 LETTERS = 14  # that a choice shows at least
 
 
@@ -39,6 +41,30 @@ def shorten(choice: Any) -> None:
     """Lets a long row of a choice end with an ellipsis."""
     (letters,) = choice.get_cells()
     letters.set_properties(ellipsize=Pango.EllipsizeMode.END, width_chars=LETTERS)
+
+
+def within(widget: Any) -> Iterator[Any]:
+    """Yields a widget, and all that are in it, those of GTK's own too."""
+    yield widget
+    if isinstance(widget, Gtk.Container):
+        parts: list[Any] = []
+        widget.forall(parts.append)
+        for part in parts:
+            yield from within(part)
+
+
+class Report(Gtk.InfoBar):
+    """What is reported, until it is closed."""
+
+    __gtype_name__ = "LabelsReport"
+
+    def __init__(self, **properties: Any) -> None:
+        super().__init__(**properties)
+        self.set_show_close_button(True)
+        self.connect("response", lambda bar, _response: bar.hide())
+        for part in within(self):
+            if isinstance(part, Gtk.Button):
+                part.get_accessible().set_name(_("Close"))
 
 
 class Number(Gtk.SpinButton):

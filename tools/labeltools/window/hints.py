@@ -3,8 +3,8 @@
 import re
 from collections.abc import Mapping
 
+from labeltools.common.language import _
 from labeltools.common.text import NOTHING, Text, translated
-from labeltools.common.words import _
 from labeltools.drawing.forms import FORMS
 from labeltools.tables.codes import NAMES
 
@@ -31,8 +31,10 @@ INSTEAD: Mapping[str, Text] = {
         "choose below what reads well"
     ),
     "leave out --dpi, or give one of these": Text("choose one of these"),
-    "with --after {} the same command begins with it": Text(
-        "print again with --after {} to go on there"
+    "give --decimal comma or point": Text("answer the question above"),
+    "with --after {} the same command begins with it": Text("the button goes on there"),
+    "{} may be missing: look at the last one on paper, and print what follows it with --after N": (
+        Text("{} may be missing: look at the last one on paper")
     ),
 }
 

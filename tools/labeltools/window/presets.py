@@ -3,8 +3,8 @@
 from collections.abc import Iterable
 from typing import Any
 
-from labeltools.common.words import _
-from labeltools.window.gtk import GLib, Gio, add_actions
+from labeltools.common.language import _
+from labeltools.window.gtk import add_actions, Gio, GLib
 from labeltools.window.memory import PRESETS
 from labeltools.window.shop import PAPER
 from labeltools.window.ways import confirmed

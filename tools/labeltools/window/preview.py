@@ -6,12 +6,12 @@ from typing import Any
 
 import cairo
 
-from labeltools.drawing.forms import PBM, SVG
-from labeltools.drawing.dots import drawn_surface
-from labeltools.layout.letters import Letters
 from labeltools.common.messages import Silence
-from labeltools.drawing.pen import Page
-from labeltools.printing.press import Prepared, Press, pens_of
+from labeltools.drawing.dots import drawn_surface
+from labeltools.drawing.forms import PBM, SVG
+from labeltools.layout.layout import Page
+from labeltools.layout.letters import Letters
+from labeltools.printing.press import pens_of, Prepared, Press
 
 USED = (0.90, 0.91, 0.92)
 EDGE = (0.80, 0.83, 0.87)
@@ -51,7 +51,7 @@ class Preview:
     def page_of(self, row: str) -> int:
         """Returns the number of the page, from 1, that has the label of a row; 0 for none."""
         for number, item in enumerate(self.prints, 1):
-            if str(item.label.record.place.number) == row:
+            if str(item.label.record.origin.number) == row:
                 return self.press.job.pages_of(number)
         return 0
 

@@ -12,16 +12,17 @@ from pathlib import Path
 from typing import Any
 
 from labeltools.commands import label_print as print_command, label_table as table_command
-from labeltools.common.text import NOTHING, Text
-from labeltools.common.command_line import read_input, words_of
-from labeltools.lines.engine import option_words
-from labeltools.tables.guess import guess_of
-from labeltools.lines.file import LineRecord, first_remark, label_lines, last_remark, read_lines
-from labeltools.common.messages import Cancelled, Place, ToolError, quoted
-from labeltools.printing.job import planned
-from labeltools.printing.press import Prepared, labels_of
-from labeltools.printing.sending import labels_text
+from labeltools.common.arguments import words_of
+from labeltools.common.messages import Cancelled, Origin, quoted, ToolError
+from labeltools.common.process import read_input
 from labeltools.common.report import LeftOut
+from labeltools.common.text import NOTHING, Text
+from labeltools.lines.file import first_remark, label_lines, last_remark, LineRecord, read_lines
+from labeltools.printing.job import planned
+from labeltools.printing.press import labels_of, Prepared
+from labeltools.sending.cups import SentJob
+from labeltools.sending.sender import labels_text
+from labeltools.tables.guess import guess_of
 from labeltools.tables.money import NotMoney, parse
 from labeltools.tables.prices import PricePattern
 from labeltools.tables.table import Lines, lines_of_table
@@ -36,11 +37,12 @@ OF_KINDS = {
     "copies": Text("the number of labels"),
 }
 PAPER = ("sheet", "roll", "stock", "width", "height", "design", "to", "dpi", "address")
+WAITING = ".waiting"  # what a file of lines ends with whose job is not over
 PATTERNS = ("0,00 €", "€0.00", "£0.00", "$0.00", "CHF 0.00", "0,00 kr", "0,00 zł")  # of prices
 Choices = Mapping[str, Any]  # by the names of the options
 
 
-class Talk:
+class WindowTalk:
     """The talk of work beside the window: what it is told is kept. Work that is stopped ends the
     next time that it talks; a printer that takes labels one by one gets no more of them.
     """
@@ -58,9 +60,9 @@ class Talk:
         """Stops the work."""
         self.stops.append(None)
 
-    def note(self, place: Place | None, cell: str, reason: Text, hint: Text) -> None:
+    def note(self, origin: Origin | None, cell: str, reason: Text, hint: Text) -> None:
         """Keeps why a row is left out."""
-        self.notes.append(LeftOut(place, cell, reason, hint))
+        self.notes.append(LeftOut(origin, cell, reason, hint))
 
     def say(self, text: Text, hint: Text = NOTHING) -> None:
         """Keeps something about the whole."""
@@ -75,7 +77,7 @@ class Talk:
 
 
 @dataclass(frozen=True)
-class Made:
+class MadeLabels:
     """What was made of a table: its lines, the labels that can be printed, what there is to say
     about them, how many rows are left out, and the line that prints them in a shell.
     """
@@ -102,7 +104,7 @@ class Table:
     said: Sequence[LeftOut]  # about them
     words: Sequence[str] = ()
 
-    def __init__(self, path: Path, text: str | None, header: int | None, talk: Talk) -> None:
+    def __init__(self, path: Path, text: str | None, header: int | None, talk: WindowTalk) -> None:
         """Reads a table by further words of label-table, None for those that are kept; its names
         are in the row `header` (0: in none) where that is known. Raises `ToolError` and `OSError`.
         """
@@ -121,20 +123,21 @@ class Table:
                 self.read(kept, header, talk)
         last: Choices = next(reversed(TABLES.all().values()), {})
         self.paper = {name: value for name, value in last.items() if name in PAPER}
+        self.settle()
 
-    def read(self, text: str, header: int | None, talk: Talk) -> None:
+    def read(self, text: str, header: int | None, talk: WindowTalk) -> None:
         """Guesses the columns of the table as words read it, and finds what is kept for these."""
         head = words_of({"header-row": header, "no-header": header == 0})
         arguments = table_command.understood(
             ["--code", "1", "--price", "1", *head, *option_words(text)]
         )
-        options = table_command.options_of(arguments)
+        options = table_command.table_options(arguments)
         self.guess = guess_of(self.data, self.path.name, options, talk)
         self.text = text
         self.key = "\n".join(self.guess.names) if any(self.guess.names) else ""
         self.kept = TABLES.all().get(self.key, {}) if self.key else {}
 
-    def made(self, choices: Choices, talk: Talk) -> Made:
+    def made(self, choices: Choices, talk: WindowTalk) -> MadeLabels:
         """Returns what is made by choices; raises `ToolError` and `OSError`."""
         for kind, places in self.guess.doubts.items():
             if choices[kind] is None:
@@ -142,23 +145,23 @@ class Table:
                 hint = Text("choose its column")
                 raise ToolError(Text("{} may be in: {}", OF_KINDS[kind], named), hint)
         to_print = print_words(choices)
-        options = print_command.options_of(to_print)
+        options = print_command.print_options(to_print)
         job = planned(options)
         since = {"new-since": str(self.printed) if choices["new-only"] else ""}
         words = [*words_of(since), *table_words(choices)]
         to_read = [*words, "--", str(self.path)]
         if words != self.words:  # other paper needs no other lines
-            rules = table_command.options_of(table_command.understood(to_read))
+            rules = table_command.table_options(table_command.understood(to_read))
             self.lines = lines_of_table(self.data, self.path.name, rules, talk)
             self.said = tuple(talk.notes)
             self.words = words
         found = labels_of(job, self.path.name, self.lines.output, talk)
         rows = set(self.lines.left_out)
-        more = [one for one in found.left_out if one.place and one.place.number not in rows]
+        more = [one for one in found.left_out if one.origin and one.origin.number not in rows]
         commands = ["label-table", *to_read], ["label-print", *to_print]
         command = " | ".join(map(shlex.join, commands)) + f" > labels.{job.form.name}"
-        notes = sorted((*self.said, *more, *found.remarks), key=place_of)
-        return Made(self.lines, found, notes, len(rows) + len(more), command)
+        notes = sorted((*self.said, *more, *found.remarks), key=row_of_note)
+        return MadeLabels(self.lines, found, notes, len(rows) + len(more), command)
 
     @property
     def printed(self) -> Path:
@@ -172,21 +175,62 @@ class Table:
             return time.strftime("%x", time.localtime(self.printed.stat().st_mtime))
         return ""
 
-    def keep_printed(self, made: Made) -> None:
-        """Keeps the lines of the labels that went out, for the next `--new-since`, and those that
-        went out before, but for the same codes.
+    def keep_printed(self, made: MadeLabels) -> None:
+        """Keeps the lines of the labels that went out, for the next `--new-since`."""
+        self.keep_records(self.records_of(made))
+
+    def records_of(self, made: MadeLabels) -> tuple[LineRecord, ...]:
+        """Returns the lines of the labels that were made."""
+        rows = {item.label.record.label.row for item in made.labels.labels}
+        records = read_lines(made.lines.output, self.path.name).records
+        return tuple(record for record in records if record.label.row in rows)
+
+    def keep_records(self, new: Sequence[LineRecord]) -> None:
+        """Keeps lines of labels that went out, and those that went out before, but for the same
+        codes.
         """
         if not self.key:
             return
-        rows = {item.label.record.label.row for item in made.labels.labels}
-        records = read_lines(made.lines.output, self.path.name).records
-        new = tuple(record for record in records if record.label.row in rows)
         codes = {(record.symbology, record.data) for record in new}
         before = self.printed_records()
         old = (record for record in before if (record.symbology, record.data) not in codes)
         with suppress(OSError):
             self.printed.parent.mkdir(parents=True, exist_ok=True)
             self.printed.write_bytes(file_of([*old, *new]))
+
+    def keep_waiting(self, made: MadeLabels, job: SentJob) -> Path:
+        """Keeps the lines of the labels of a job until it is known whether they were printed, for a
+        later window too; returns their file.
+        """
+        path = self.printed.with_suffix(f".{job.number}.{job.queue}{WAITING}")
+        with suppress(OSError):
+            path.parent.mkdir(parents=True, exist_ok=True)
+            path.write_bytes(file_of(self.records_of(made)) if self.key else b"")
+        return path
+
+    def end_waiting(self, path: Path, is_printed: bool) -> None:
+        """Counts the labels of a job that waited as printed, or forgets them."""
+        with suppress(OSError, ToolError):
+            data = path.read_bytes()
+            if is_printed and data:
+                self.keep_records(read_lines(data, path.name).records)
+        path.unlink(missing_ok=True)
+
+    def waiting(self) -> dict[SentJob, Path]:
+        """Returns the jobs of which it is not known yet whether they were printed."""
+        found = {}
+        for path in sorted(memory.FOLDER.glob(f"{self.printed.stem}.*{WAITING}")):
+            _, number, queue = path.name.removesuffix(WAITING).split(".", 2)
+            found[SentJob(queue, int(number))] = path
+        return found
+
+    def settle(self) -> None:
+        """Asks CUPS what became of jobs that waited when a window was closed."""
+        for job, path in self.waiting().items() if self.key else ():
+            with suppress(ToolError):  # CUPS has forgotten it, or is not there: it is asked for
+                state = job.state()
+                if state.is_over:
+                    self.end_waiting(path, state.is_printed)
 
     def printed_records(self) -> tuple[LineRecord, ...]:
         """Returns the lines that went out before; none where they cannot be read."""
@@ -203,9 +247,9 @@ class Table:
         FILES.keep(self.path.name, choices["for-table"] or None)
 
 
-def place_of(note: LeftOut) -> int:
+def row_of_note(note: LeftOut) -> int:
     """Returns the number of the row that something is said of; 0 for the whole table."""
-    return note.place.number if note.place else 0
+    return note.origin.number if note.origin else 0
 
 
 def price_patterns(example: str) -> Iterator[tuple[str, str]]:
@@ -236,3 +280,11 @@ def print_words(choices: Choices) -> list[str]:
         options["paper"] = f"{choices['width']:g}x{choices['height']:g}"
         del options["stock"], options["first"]
     return [*words_of(options), *option_words(choices["for-print"])]
+
+
+def option_words(argument: str) -> tuple[str, ...]:
+    """Returns options that are given as one text, as a shell reads them; raises `ToolError`."""
+    try:
+        return tuple(shlex.split(argument))
+    except ValueError as error:
+        raise ToolError(Text("{}: {}", repr(argument), error)) from error

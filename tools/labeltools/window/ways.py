@@ -5,67 +5,121 @@ label is compared before, as label-print does.
 from collections.abc import Callable
 from concurrent.futures import Future
 from contextlib import suppress
+from dataclasses import replace
 from functools import partial
 from pathlib import Path
-from typing import Any, Optional
+from typing import Any
 
+from labeltools.common.language import _
 from labeltools.common.messages import ToolError
 from labeltools.common.text import Text, translated
-from labeltools.common.words import _
-from labeltools.printing.cups import NOTHING_CHOSEN, PAGES, JobState, Queue, SentJob
-from labeltools.printing.cups import queue_of, queues
-from labeltools.printing.network import SCHEME, address_of
-from labeltools.printing.outlets import is_direct
+from labeltools.printing.job import is_direct
 from labeltools.printing.press import Prepared
-from labeltools.printing.sending import labels_text, print_on, save_to, send_to
-from labeltools.window.dialog import Chosen, ask_printer
-from labeltools.window.gtk import GLib, Gdk, Gtk
-from labeltools.window.shop import Made, Table, Talk
+from labeltools.sending.cups import (
+    JobState,
+    NOTHING_CHOSEN,
+    PAGES,
+    Queue,
+    queue_of,
+    queues,
+    SentJob,
+)
+from labeltools.sending.network import address_of, SCHEME
+from labeltools.sending.sender import labels_text, print_on, save_to, send_to
+from labeltools.window.dialog import ask_printer, Chosen
+from labeltools.window.gtk import Gdk, GLib, Gtk
+from labeltools.window.memory import PRINTERS
+from labeltools.window.shop import MadeLabels, Table, WindowTalk
 
 USB = Path("/dev/usb")  # has the printers on USB
+QUEUE = "queue"  # the name by which the last one is kept
 MANY = 1000  # labels above it are asked for before they are printed
 WATCH = 2000  # milliseconds between two looks at a job of CUPS
-Sent = tuple[Optional[SentJob], Text]  # a job of CUPS, and what is reported of the labels
+Sent = tuple[SentJob | None, Text]  # a job of CUPS, and what is reported of the labels
 
 
-class Ways:
+class WaysOut:
     """The ways out of a window."""
 
     def __init__(self, window: Any) -> None:
         self.window = window
-        self.reports: dict[Optional[SentJob], str] = {}  # of the last job, and of those before it
-        self.over: list[Optional[SentJob]] = []  # jobs whose reports go when the next one is sent
+        self.reports: dict[SentJob | None, str] = {}  # of the last job, and of those before it
+        self.over: list[SentJob | None] = []  # jobs whose reports go when the next one is sent
+        self.wrong: set[SentJob | None] = set()  # jobs that are not printed as it is now
+        self.waiting: dict[SentJob, tuple[Table, Path]] = {}  # jobs whose labels may be printed
 
-    def send(self, way: Callable[[Prepared, Talk], Sent], is_all: bool = True) -> None:
-        """Sends labels by a way, all or those of chosen pages, and keeps what is chosen for the
-        next table like this.
+    def send(
+        self,
+        way: Callable[[Prepared, WindowTalk], Sent],
+        is_all: bool = True,
+        labels: Prepared | None = None,
+    ) -> None:
+        """Sends labels by a way, all or those of chosen pages or the rest of them, and keeps what
+        is chosen for the next table like this.
         """
         table, made = self.window.table, self.window.made
         table.keep(self.window.choices())
         then = partial(self.on_sent, table, made, is_all)
-        self.window.work.start(partial(way, made.labels), then, is_sending=True)
+        self.window.work.start(partial(way, labels or made.labels), then, is_sending=True)
 
-    def on_sent(self, table: Table, made: Made, is_all: bool, sent: Sent) -> None:
+    def on_sent(self, table: Table, made: MadeLabels, is_all: bool, sent: Sent) -> None:
         """Says which labels went out, and from then on what becomes of a job of CUPS. Keeps them,
-        unless pages were chosen: these may be a trial.
+        those of a job once it is printed; but not if pages were chosen: these may be a trial.
         """
         job, text = sent
-        if is_all:
+        if not is_all:
+            text = Text("{}; pages were chosen, so these labels do not count as printed", text)
+        elif job is None:
             table.keep_printed(made)
         else:
-            text = Text("{}; pages were chosen, so these labels do not count as printed", text)
+            self.waiting[job] = table, table.keep_waiting(made, job)
         while self.over:
-            self.reports.pop(self.over.pop(), None)
+            old = self.over.pop()
+            self.reports.pop(old, None)
+            self.wrong.discard(old)
         self.report(job, translated(text))
         if job is None:
             self.over.append(job)
         else:
+            PRINTERS.keep(QUEUE, job.queue)
             self.watch(job, translated(text), "")
 
-    def report(self, job: Optional[SentJob], text: str) -> None:
+    def look_back(self, table: Table) -> None:
+        """Says which jobs of a table are not over since a window was closed, and looks at them; of
+        one that CUPS has forgotten the keeper is asked whether it was printed.
+        """
+        for job, path in table.waiting().items():
+            if job in self.waiting:
+                continue
+            self.waiting[job] = table, path
+            sent = translated(Text("job {} of {}, which was sent before", job.number, job.queue))
+            future = self.window.work.thread.submit(job.state)
+            future.add_done_callback(partial(GLib.idle_add, self.look_again, job, sent))
+
+    def look_again(self, job: SentJob, sent: str, future: "Future[JobState]") -> None:
+        """Looks at a job that was sent before, or asks the keeper what became of it."""
+        if future.exception() is None:
+            self.report(job, sent)
+            self.show_state(job, sent, "", future)
+        elif self.window.get_visible():
+            what = Text("{}: CUPS does not know whether it was printed", sent)
+            answers = [
+                (_("It is on paper"), lambda: self.end(job, True)),
+                (_("It is not"), lambda: self.end(job, False)),
+            ]
+            self.window.show_problem(ToolError(what), answers)
+
+    def end(self, job: SentJob, is_printed: bool) -> None:
+        """Counts the labels of a job as printed, or forgets them."""
+        if job in self.waiting:
+            table, path = self.waiting.pop(job)
+            table.end_waiting(path, is_printed)
+
+    def report(self, job: SentJob | None, text: str, is_wrong: bool = False) -> None:
         """Keeps the report of a job, and shows all that are kept, that of the newest job first."""
         self.reports[job] = text
-        self.window.tell("\n".join([*self.reports.values()][::-1]))
+        (self.wrong.add if is_wrong else self.wrong.discard)(job)
+        self.window.tell("\n".join([*self.reports.values()][::-1]), bool(self.wrong))
 
     def watch(self, job: SentJob, sent: str, before: str) -> None:
         """Looks at a job, and shows what CUPS reports of it if that is other than before."""
@@ -77,11 +131,14 @@ class Ways:
         if future.exception() is not None or not self.window.get_visible():
             return
         state = future.result()
-        text = translated(state.trouble) or state.said
+        is_known = state.is_over or state.is_waiting
+        text = translated(state.told if is_known else state.trouble) or state.said
         if text != before:
-            self.report(job, "\n".join(filter(None, (sent, text))))
+            is_wrong = bool(is_known and not state.is_printed or state.trouble)
+            self.report(job, "\n".join(filter(None, (sent, text))), is_wrong)
         if state.is_over:
             self.over.append(job)
+            self.end(job, state.is_printed)
         else:
             GLib.timeout_add(WATCH, self.watch, job, sent, text)
 
@@ -101,7 +158,7 @@ class Ways:
     def save(self, path: Path) -> None:
         """Writes what label-print writes."""
 
-        def way(labels: Prepared, talk: Talk) -> Sent:
+        def way(labels: Prepared, talk: WindowTalk) -> Sent:
             save_to(labels, path, talk)
             return None, Text("{} saved as {}", labels_text(len(labels.prints)), path.name)
 
@@ -116,7 +173,8 @@ class Ways:
 
     def ask_queue(self, _names: Any) -> None:
         """Asks for a queue, and its options, by the dialog of the desktop."""
-        ask_printer(self.window, self.window.made.labels.job.plan.sheet.page, self.find_queue)
+        page = self.window.made.labels.job.plan.sheet.page
+        ask_printer(self.window, page, PRINTERS.all().get(QUEUE, ""), self.find_queue)
 
     def find_queue(self, name: str, chosen: Chosen = NOTHING_CHOSEN) -> None:
         """Prints on a queue, once it is known what it prints with the options that are chosen."""
@@ -148,15 +206,26 @@ class Ways:
         south = Gdk.Gravity.SOUTH_WEST
         menu.popup_at_widget(self.window.print_button, south, Gdk.Gravity.NORTH_WEST, None)
 
-    def send_to(self, printer: str) -> None:
-        """Sends what label-print sends to a printer."""
+    def go_on(self, printer: str, done: int) -> None:
+        """Sends the labels of a job to a printer that took some of them, behind these."""
+        labels = self.window.made.labels
+        options = labels.job.options
+        rest = replace(
+            labels,
+            job=replace(labels.job, options=replace(options, after=done)),
+            prints=labels.prints[done - options.after :],
+        )
+        self.send_to(printer, rest)
 
-        def way(labels: Prepared, talk: Talk) -> Sent:
+    def send_to(self, printer: str, labels: Prepared | None = None) -> None:
+        """Sends what label-print sends to a printer: all labels, or some."""
+
+        def way(labels: Prepared, talk: WindowTalk) -> Sent:
             talk.is_direct = True
             return None, send_to(labels, printer, talk, talk.stops)
 
         if is_direct(printer):
-            self.send(way)
+            self.send(way, labels=labels)
         else:
             self.find_queue(printer)
 
@@ -173,13 +242,14 @@ class Ways:
 
 
 def confirmed(dialog: Any) -> bool:
-    """Shows a dialog; returns whether it is confirmed."""
+    """Shows a dialog; returns whether it is confirmed, as by Enter."""
+    dialog.set_default_response(Gtk.ResponseType.OK)
     answer = dialog.run()
     dialog.hide()
     return bool(answer == Gtk.ResponseType.OK)
 
 
-def printers(is_roll: bool, _talk: Talk) -> list[str]:
+def printers(is_roll: bool, _talk: WindowTalk) -> list[str]:
     """Returns the printers that the system knows: for a printer's own language also those on USB.
     Raises `ToolError` if there is none, but that one may be in the network.
     """
@@ -190,5 +260,5 @@ def printers(is_roll: bool, _talk: Talk) -> list[str]:
         raise ToolError(Text("there is no printer"), hint)
     found = sorted(map(str, USB.glob("lp*")))
     with suppress(ToolError):  # CUPS is not there
-        return [*queues(), *found]
+        return [*(name for name in queues() if not queue_of(name).papers.is_office), *found]
     return found

@@ -3,25 +3,27 @@ printed, and the rows that are left out. Its widgets are those of window.ui.
 """
 
 import shlex
-from collections.abc import Iterator, Sequence
+from collections.abc import Callable, Iterator, Sequence
 from contextlib import contextmanager, suppress
 from functools import partial
 from pathlib import Path
-from typing import Any, Optional
+from typing import Any
 
-from labeltools.common.text import counted, translated
-from labeltools.paper.area import ARTICLE
+from labeltools.common.language import _
 from labeltools.common.messages import ToolError
+from labeltools.common.text import counted, Text, translated
+from labeltools.designs.svg_design import is_file
+from labeltools.paper.area import ARTICLE
+from labeltools.paper.stock import list_stock
+from labeltools.printing.press import check_count
+from labeltools.sending.sender import Unfinished
+from labeltools.tables.prices import DECIMAL_HINT
 from labeltools.window import hints
-from labeltools.window.gtk import GLib, Gdk, Gio, Gtk, add_actions
-from labeltools.designs.design import is_file
+from labeltools.window.gtk import add_actions, Gdk, Gio, GLib, Gtk
 from labeltools.window.presets import Presets
 from labeltools.window.preview import Preview
-from labeltools.printing.press import check_count
-from labeltools.window.shop import COLUMNS, Choices, Made, Table, price_patterns
-from labeltools.paper.stock import list_stock
-from labeltools.common.words import _
-from labeltools.window.ways import Ways
+from labeltools.window.shop import Choices, COLUMNS, MadeLabels, price_patterns, Table
+from labeltools.window.ways import WaysOut
 from labeltools.window.work import Work
 
 FILE = Path(__file__).with_name("window.ui")
@@ -33,6 +35,7 @@ CONTROLS = {
     **dict.fromkeys(("sheet", "roll", "new-only"), "active"),
 }
 RANGES = {"header-row": (0, 1000), "first": (1, 10_000), "width": (5, 500), "height": (5, 500)}
+Answers = Sequence[tuple[str, Callable[[], object]]]  # what buttons show, and do
 A_FILE = "file"  # the choice of a design in a file
 MOST_NOTES = 2000
 USUAL_DPI = {"zpl": "203", "escpos": "203"}  # of the printers of these languages
@@ -46,7 +49,7 @@ class Window(Gtk.ApplicationWindow):
     """
 
     __gtype_name__ = "LabelsWindow"
-    made: Made  # what was made last
+    made: MadeLabels  # what was made last
     shown: Preview
 
     def __init__(self, **properties: Any) -> None:
@@ -63,7 +66,7 @@ class Window(Gtk.ApplicationWindow):
         text = FILE.read_bytes()
         self.builder.extend_with_template(self, self.__gtype__, text.decode(), len(text))
         self.work = Work(self)
-        self.ways = Ways(self)
+        self.ways = WaysOut(self)
         self.presets = Presets(self)
         add_actions(
             self,
@@ -121,23 +124,48 @@ class Window(Gtk.ApplicationWindow):
             for line in sorted(lines, key=lambda line: not line.lower().startswith(typed)):
                 self.sheets.append([line.partition(": ")[0], line])
 
-    def show_problem(self, problem: ToolError) -> None:
-        """Says why something cannot be done, and offers choices that help, a button for each."""
+    def show_problem(self, problem: ToolError, answers: Answers = ()) -> None:
+        """Says why something cannot be done, and offers choices that help, a button for each: words
+        by which the table is read, such as its encoding, or what each of some answers does.
+        """
         self.problem.set_text(self.hints.text(problem.what, problem.hint))
         self.offers.foreach(Gtk.Widget.destroy)
-        for shown, words in problem.offers:
+        words = [(shown, partial(self.on_offer, shlex.join(one))) for shown, one in problem.offers]
+        for shown, act in (*words, *self.ways_on(problem), *answers):
             button = Gtk.Button(label=shown, visible=True)
-            button.connect("clicked", self.on_offer, shlex.join(words))
+            button.connect("clicked", self.on_answer, act)
             self.offers.add(button)
         self.info.show()
 
-    def on_offer(self, _button: Any, words: str) -> None:
+    def ways_on(self, problem: ToolError) -> Answers:
+        """Returns how labels go on that a printer took some of."""
+        if not isinstance(problem, Unfinished):
+            return []
+        next_ones = [problem.done, problem.done + 1] if problem.is_doubtful else [problem.done]
+        count = len(self.made.labels.prints) + self.made.labels.job.options.after
+        return [
+            (
+                _("Go on with label {number}").format(number=done + 1),
+                partial(self.ways.go_on, problem.printer, done),
+            )
+            for done in next_ones
+            if done < count
+        ]
+
+    def on_answer(self, _button: Any, act: Callable[[], object]) -> None:
+        """Does what is chosen, and hides the question."""
+        self.info.hide()
+        act()
+
+    def on_offer(self, words: str) -> None:
         """Reads the table by other words, such as its encoding."""
         self.for_table.set_text(words)
 
-    def tell(self, text: str) -> None:
+    def tell(self, text: str, is_wrong: bool = False) -> None:
         """Tells what became of labels."""
         self.said.set_text(text)
+        kind = Gtk.MessageType.WARNING if is_wrong else Gtk.MessageType.INFO
+        self.done.set_message_type(kind)
         self.done.show()
 
     def on_destroy(self, _window: Any) -> None:
@@ -235,7 +263,7 @@ class Window(Gtk.ApplicationWindow):
         """Returns what is chosen."""
         return {name: self.control(name).get_property(kind) for name, kind in CONTROLS.items()}
 
-    def make(self, _control: Any = None, problem: Optional[ToolError] = None) -> None:
+    def make(self, _control: Any = None, problem: ToolError | None = None) -> None:
         """Makes the labels that are chosen, and then says what problem they are made for."""
         if self.table is not None and not self.is_filling:
             self.has_labels = False
@@ -316,25 +344,42 @@ class Window(Gtk.ApplicationWindow):
             self.reason.set_property("wrap-width", width)
             GLib.idle_add(self.why.queue_resize)
 
-    def show_labels(self, problem: Optional[ToolError], made: Made) -> None:
+    def show_labels(self, problem: ToolError | None, made: MadeLabels) -> None:
         """Shows the labels that were made, and what there is to say about them."""
         self.made = made
         self.command.set_text(made.command)
         self.count.set_text(translated(made.summary))
         self.notes.clear()
         for note in made.notes[:MOST_NOTES]:
-            row = str(note.place.number) if note.place else ""
+            row = str(note.origin.number) if note.origin else ""
             self.notes.append([row, note.data, self.hints.text(note.reason, note.hint)])
         text = translated(counted("{} row is skipped", "{} rows are skipped", made.left_out))
         self.left_out.set_text(text if made.left_out else _("Please look at this"))
         self.below.set_visible(made.notes)
         self.show_view()
         self.result.show()
-        check_count(made.labels.job, made.labels.prints)
-        self.has_labels = True
-        self.let_out(True)
+        is_asked = any(note.hint == DECIMAL_HINT for note in made.notes)
+        if is_asked:
+            self.show_problem(ToolError(Text("what is 1,234 in the prices?")), self.signs())
+        if made.labels.prints or not is_asked:
+            check_count(made.labels.job, made.labels.prints)
+            self.has_labels = True
+            self.let_out(True)
         if problem is not None:
             self.show_problem(problem)
+        if self.table is not None:
+            self.ways.look_back(self.table)
+
+    def signs(self) -> Answers:
+        """Returns what the signs of prices may mean, of which only the keeper knows."""
+        typed = self.for_table.get_text()
+        return [
+            (shown, partial(self.for_table.set_text, f"{typed} --decimal {word}".strip()))
+            for shown, word in (
+                (_("One and something: the comma has the cents"), "comma"),
+                (_("A thousand and something: the point has the cents"), "point"),
+            )
+        ]
 
     def redraw(self, _number: Any) -> None:
         """Draws the view again."""

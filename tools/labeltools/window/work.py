@@ -8,10 +8,10 @@ from contextlib import suppress
 from functools import partial
 from typing import Any
 
-from labeltools.common.messages import Cancelled, ToolError, of_system
-from labeltools.common.words import _
+from labeltools.common.language import _
+from labeltools.common.messages import Cancelled, of_system, ToolError
 from labeltools.window.gtk import GLib
-from labeltools.window.shop import Talk
+from labeltools.window.shop import WindowTalk
 
 PATIENCE = 500  # milliseconds after which work is shown, and how far it is from then on
 
@@ -24,18 +24,18 @@ class Work:
     def __init__(self, window: Any) -> None:
         self.window = window
         self.thread = ThreadPoolExecutor(1)
-        self.talk = Talk()
+        self.talk = WindowTalk()
 
     def start(
         self,
-        work: Callable[[Talk], Any],
+        work: Callable[[WindowTalk], Any],
         then: Callable[[Any], object],
         doing: str = "",
         is_sending: bool = False,
     ) -> None:
         """Does work, and then something with what came of it; nothing goes out until then."""
         self.talk.stop()
-        self.talk = Talk(doing, is_sending)
+        self.talk = WindowTalk(doing, is_sending)
         self.window.info.hide()
         self.window.done.hide()
         self.window.working.hide()
@@ -44,7 +44,7 @@ class Work:
         future.add_done_callback(partial(GLib.idle_add, self.end, self.talk, then))
         GLib.timeout_add(PATIENCE, self.show_progress, self.talk)
 
-    def end(self, talk: Talk, then: Callable[[Any], object], future: "Future[Any]") -> None:
+    def end(self, talk: WindowTalk, then: Callable[[Any], object], future: "Future[Any]") -> None:
         """Shows what came of work, but of what nobody wants any more."""
         is_wanted = talk.is_sending or not talk.stops
         if not (is_wanted and self.window.get_visible()):
@@ -62,7 +62,7 @@ class Work:
 
     def leave(self) -> None:
         """Lets labels go out again where there are some: there is no work that anyone waits for."""
-        self.talk = Talk()
+        self.talk = WindowTalk()
         self.window.working.hide()
         self.window.let_out(self.window.has_labels)
 
@@ -78,9 +78,9 @@ class Work:
     def close(self) -> None:
         """Ends work, of which nobody is told."""
         self.talk.stop()
-        self.talk = Talk()
+        self.talk = WindowTalk()
 
-    def show_progress(self, talk: Talk) -> bool:
+    def show_progress(self, talk: WindowTalk) -> bool:
         """Shows how far work is; returns whether it goes on."""
         if talk is not self.talk:
             return False
@@ -93,7 +93,7 @@ class Work:
         return True
 
 
-def progress_text(talk: Talk) -> str:
+def progress_text(talk: WindowTalk) -> str:
     """Returns how much of the work is done, or else what is done, with a count if there is one."""
     if not talk.total:
         return f"{talk.doing} {talk.done:n}" if talk.done else talk.doing

@@ -19,12 +19,22 @@ import math
 from collections import Counter
 from dataclasses import dataclass, field
 from itertools import product
-from typing import Callable, Mapping, NamedTuple, Optional, Sequence
+from typing import Callable, Mapping, NamedTuple, Sequence
 
+from labeltools.layout.frame import (
+    common_value,
+    DIGITS_ROOM,
+    Frame,
+    HINTING,
+    LEAST_TEXT,
+    LINE,
+    LOWEST,
+    Need,
+    ninth_of_ten,
+)
 from labeltools.paper.area import Area, LARGEST_QR, MODULE
-from labeltools.lines.symbologies import SYMBOLOGIES, Symbology
+from labeltools.paper.box import Box
 
-LINE = 1.2  # the distance of two base lines in sizes of letters
 # as parts of a label's size: letters of texts, and white between two parts
 TEXT_PART = 1 / 18
 GAP_PART = 1 / 36
@@ -37,7 +47,6 @@ FEW = range(6, 10)  # labels of which one long title may be cut, so that the oth
 TEXT_OF_TITLE = 0.6  # texts below titles without a price, as a part of these
 # millimetres: the least gap, the smallest letters of texts, titles and prices
 LEAST_GAP = 0.6
-LEAST_TEXT = 1.8
 LEAST_TITLE = 2.1
 LEAST_PRICE = 2.1
 HIGHEST_PRICE = 0.45  # of the height of a label: the ink of its price
@@ -46,72 +55,11 @@ LEAST_LINE = 4  # the shortest line of a title beside a code, in letters
 SQUARE = 1.2  # labels up to this width in heights have more lines for titles
 FULL_LINE = 0.97  # of a line: a title of one line takes no more
 WRAPPED = 1.2  # by how much words leave lines of a title empty
-DIGITS_ROOM = 10  # modules: the room of digits below bars
 LOWEST_PART = 0.15  # of the width of a Code 128: its lowest height
-LOWEST = 5.0  # millimetres: the lowest bars
 FULL_BARS = 95  # modules of the bars of EAN-13 without quiet zones: wider ones need not be higher
 QR_SMALLEST = 0.25  # millimetres
 MOST_SIDE = 0.45  # of the width of a label: what QR takes beside words
-HINTING = 1.03  # by how much letters in dots may be larger than they are measured
-# sizes are equal for all if so many take part, or at the cost of no more than this
-MOST_OF = 0.9
-LEAST_SHARE = 0.75
 ARRANGEMENTS = ("foot", "split", "below", "beside")
-
-
-class Box(NamedTuple):
-    """A rectangle in which a part of a label may have ink."""
-
-    left: int
-    top: int
-    width: int
-    height: int
-
-    @property
-    def right(self) -> int:
-        """The column behind it."""
-        return self.left + self.width
-
-    @property
-    def bottom(self) -> int:
-        """The row below it."""
-        return self.top + self.height
-
-
-class Extent(NamedTuple):
-    """The width and height of the ink of a text, in sizes of its letters."""
-
-    width: float
-    height: float
-
-
-class Need(NamedTuple):
-    """What decides where the parts of a label are: the symbology, width and height of its code in
-    modules (bars without a height of their own have 1); the widths of the lines of its title, the
-    lines of its text and the width of the widest, the width and height of the ink of its price, the
-    widths of its old price and its unit price; 0 for what is not there.
-    """
-
-    symbology: str
-    width: int
-    height: int
-    title: tuple[float, ...]
-    lines: int
-    text: float
-    price: float
-    price_height: float
-    was: float
-    unit: float
-
-    @property
-    def kind(self) -> Symbology:
-        """The symbology."""
-        return SYMBOLOGIES[self.symbology]
-
-    @property
-    def is_bars(self) -> bool:
-        """Whether the code is bars."""
-        return self.kind.nominal > 0
 
 
 class Level(NamedTuple):
@@ -135,54 +83,6 @@ LEVELS = (
 
 
 WHOLE_TITLES = 2  # levels on which whole titles are looked for before titles are cut
-
-
-@dataclass(frozen=True)
-class Frame:
-    """Places for the parts of labels, from the left upper corner of the area: `code`, `title`,
-    `price`, `details`, and `text` where that is beside the code.
-
-    `sizes` are those of letters; `module` is that of bars, `bars` their height, `digits` the height
-    below them; `lines`, `text_lines` and `details_lines` are the most of each; `is_whole` is
-    whether most titles are.
-    """
-
-    kind: str
-    boxes: Mapping[str, Box]
-    sizes: Mapping[str, int]
-    module: int
-    bars: int
-    digits: int
-    lines: int
-    text_lines: int
-    details_lines: int
-    is_whole: bool
-    score: float
-
-
-def share(values: Mapping[float, int]) -> float:
-    """Returns what nine of ten values keep to, or the largest one where that is not much more.
-    Values are given with how often they come; 0 where there is none.
-
-    >>> share({1.0: 9, 1.2: 1}), share({1.0: 9, 3.0: 1}), share({1.0: 8, 3.0: 2})
-    (1.2, 1.0, 3.0)
-    """
-    if not values:
-        return 0.0
-    most = max(values)
-    usual = ninth_of_ten(values)
-    return most if usual >= LEAST_SHARE * most else usual
-
-
-def ninth_of_ten(values: Mapping[float, int]) -> float:
-    """Returns the smallest value that nine of ten do not exceed."""
-    wanted = math.ceil(MOST_OF * sum(values.values()))
-    seen = 0
-    for value in sorted(values):
-        seen += values[value]
-        if seen >= wanted:
-            return value
-    return max(values)
 
 
 class Rooms(NamedTuple):
@@ -211,7 +111,7 @@ class JointNeeds:
 
     def __post_init__(self) -> None:
         area = self.area
-        codes = {need[:3]: need for need in self.needs}
+        codes = {need.code: need for need in self.needs}
         self.bars = [need for need in codes.values() if need.is_bars]
         self.modules = [area.modules[need.symbology] for need in self.bars]
         self.squares = count(self.needs, "width", lambda need: not need.is_bars)
@@ -223,9 +123,9 @@ class JointNeeds:
             if need.title:
                 self.titles[need.title] += labels
         self.lines = max(need.lines for need in self.needs)
-        self.price = share(count(self.needs, "price", lambda need: need.price > 0))
+        self.price = common_value(count(self.needs, "price", lambda need: need.price > 0))
         self.price_height = max(need.price_height for need in self.needs)
-        self.text = share(count(self.needs, "text", lambda need: True))
+        self.text = common_value(count(self.needs, "text", lambda need: True))
         self.details = (
             max(need.was for need in self.needs),
             max(need.unit for need in self.needs),
@@ -258,7 +158,7 @@ class JointNeeds:
     def rooms(self, level: Level, kind: str, module: int) -> Rooms:
         """Returns the rooms for code and words."""
         area = self.area
-        part = min(level.bars, area.wishes.design.bars)
+        part = min(level.bars, area.wishes.purpose.bars)
         heights = (self.least_height(need, module, part) for need in self.bars)
         low = max(heights, default=0)
         bars = self.highest_bars(module, low)
@@ -315,10 +215,10 @@ class JointNeeds:
         if not self.squares:
             return 0
         area = self.area
-        grown = area.size * area.dot / area.wishes.design.full_qr
+        grown = area.size * area.dot / area.wishes.purpose.full_qr
         wished = min(LARGEST_QR, module * max(1.0, grown))
         least = max(self.squares) * area.dots(QR_SMALLEST)
-        return int(max(least, math.ceil(share(self.squares) * wished / area.dot)))
+        return int(max(least, math.ceil(common_value(self.squares) * wished / area.dot)))
 
     def largest_square(self) -> int:
         """Returns the most room that QR can use."""
@@ -369,7 +269,7 @@ def module_in(area: Area, need: Need, wished: int, room: int) -> int:
     return max((one for one in allowed if one <= wished and one * need.width <= room), default=0)
 
 
-def frame_of(area: Area, needs: Mapping[Need, int]) -> Optional[Frame]:
+def frame_of(area: Area, needs: Mapping[Need, int]) -> Frame | None:
     """Returns the frame of labels, or None where no one frame serves all of them."""
     demand = JointNeeds(area, needs)
     fits = (module_in(area, need, area.width, area.width) for need in demand.bars)
@@ -396,12 +296,12 @@ def rounds_of(demand: JointNeeds) -> list[list[int]]:
     least = max(min(allowed) for allowed in demand.modules)
     all_modules = {one for allowed in demand.modules for one in allowed}
     wishes = sorted({one for one in all_modules if least <= one <= first} or {least}, reverse=True)
-    if demand.area.wishes.design.name == "shelf":
+    if demand.area.wishes.purpose.name == "shelf":
         return [wishes]
     return [[one] for one in wishes]
 
 
-def best_frame(demand: JointNeeds, level: Level, wishes: Sequence[int]) -> Optional[Frame]:
+def best_frame(demand: JointNeeds, level: Level, wishes: Sequence[int]) -> Frame | None:
     """Returns the best frame on a level, of all arrangements, sizes of titles and modules: those
     that cannot be better than one that is found are not tried.
     """
@@ -424,7 +324,7 @@ def best_frame(demand: JointNeeds, level: Level, wishes: Sequence[int]) -> Optio
     return best
 
 
-class Heading(NamedTuple):
+class TitlePart(NamedTuple):
     """Title and text: the lines of titles, whether most are whole, the part that is; the letters
     and the height of texts, whether these are beside the code; the height above price and code.
     """
@@ -438,7 +338,7 @@ class Heading(NamedTuple):
     height: int
 
 
-class Line(NamedTuple):
+class PartSize(NamedTuple):
     """Letters of a part of a label: their size, their lines, the height of all."""
 
     size: int
@@ -459,7 +359,7 @@ class Attempt(NamedTuple):
     is_sparing: bool
     module: int
 
-    def frame(self, rooms: Rooms) -> Optional[Frame]:
+    def frame(self, rooms: Rooms) -> Frame | None:
         """Returns the frame, if all fits."""
         if not self.is_possible(rooms):
             return None
@@ -495,7 +395,7 @@ class Attempt(NamedTuple):
             return rooms.beside >= LEAST_LINE * self.title
         return bool(demand.price) and rooms.beside >= 1
 
-    def head(self, rooms: Rooms) -> Heading:
+    def head(self, rooms: Rooms) -> TitlePart:
         """Returns the title, and the text below it where that is not beside the code."""
         demand = self.demand
         area = demand.area
@@ -514,22 +414,22 @@ class Attempt(NamedTuple):
             text = small if is_foot_text else text
         text_height = math.ceil(demand.lines * LINE * text)
         height = math.ceil(lines * LINE * self.title) + (0 if is_foot_text else text_height)
-        return Heading(lines, wanted <= most, whole, text, text_height, is_foot_text, height)
+        return TitlePart(lines, wanted <= most, whole, text, text_height, is_foot_text, height)
 
-    def details(self, rooms: Rooms) -> Line:
+    def details(self, rooms: Rooms) -> PartSize:
         """Returns old price and unit price, on a line or on two."""
         was, unit = self.demand.details
         size = round(DETAILS_PART * self.demand.text_size)
         if not was and not unit:
-            return Line(size, 0, 0)
+            return PartSize(size, 0, 0)
         wide = was + unit + (2 if was and unit else 0)
         lines = 1
         if wide * size > rooms.price:
             lines = 2 if was and unit else 1
             size = min(size, math.floor(rooms.price / max(was, unit)))
-        return Line(size, lines, math.ceil(lines * LINE * size))
+        return PartSize(size, lines, math.ceil(lines * LINE * size))
 
-    def price(self, rooms: Rooms, head: Heading, details: Line, low: int) -> Optional[Line]:
+    def price(self, rooms: Rooms, head: TitlePart, details: PartSize, low: int) -> PartSize | None:
         """Returns the price, as large as the room allows; None where it and the code do not fit."""
         demand = self.demand
         area = demand.area
@@ -538,7 +438,7 @@ class Attempt(NamedTuple):
             return None
         if not demand.price:
             is_room = details.height + (low if self.is_stacked else 0) <= rest
-            return Line(0, 0, 0) if is_room else None
+            return PartSize(0, 0, 0) if is_room else None
         high = rest - low - demand.gap if self.is_stacked else rest
         if self.kind != "foot":
             high -= details.height
@@ -546,10 +446,15 @@ class Attempt(NamedTuple):
         size = demand.price_in(wide, high)
         if size < max(self.level.price * self.title, area.dots(LEAST_PRICE)):
             return None
-        return Line(size, 1, math.ceil(HINTING * size * demand.price_height))
+        return PartSize(size, 1, math.ceil(HINTING * size * demand.price_height))
 
     def framed(
-        self, rooms: Rooms, head: Heading, details: Line, price: Line, boxes: Mapping[str, Box]
+        self,
+        rooms: Rooms,
+        head: TitlePart,
+        details: PartSize,
+        price: PartSize,
+        boxes: Mapping[str, Box],
     ) -> Frame:
         """Returns the frame of boxes. A narrower module and cut titles have to be worth it."""
         demand = self.demand
@@ -575,7 +480,7 @@ class Attempt(NamedTuple):
         )
 
 
-def rest_below(area: Area, demand: JointNeeds, head: Heading) -> int:
+def rest_below(area: Area, demand: JointNeeds, head: TitlePart) -> int:
     """Returns the height below title and text."""
     return area.height - head.height - (demand.gap if head.height else 0)
 
@@ -586,9 +491,9 @@ class Arrangement:
 
     attempt: Attempt
     rooms: Rooms
-    head: Heading
-    details: Line
-    price: Line
+    head: TitlePart
+    details: PartSize
+    price: PartSize
     low: int
 
     def stacked(self) -> dict[str, Box]:

@@ -4,10 +4,10 @@ from collections.abc import Callable
 from dataclasses import dataclass, field, fields
 from typing import Any, Generic, TypeVar
 
-from labeltools.tables.codes import CodeRules
-from labeltools.sheets.options import FileOptions
 from labeltools.lines.file import LinesFile
 from labeltools.lines.symbologies import SYMBOLOGIES
+from labeltools.sheets.file_options import FileOptions
+from labeltools.tables.codes import CodeRules
 from labeltools.tables.prices import PricePattern
 
 C = TypeVar("C")

@@ -8,7 +8,7 @@ from xml.etree import ElementTree
 from xml.etree.ElementTree import Element
 
 from labeltools.checking.decode import NotDecoded
-from labeltools.checking.pdf import POINTS, sides_of
+from labeltools.checking.read_pdf import POINTS, sides_of
 from labeltools.common.text import Text
 from labeltools.paper.picture import Picture
 

@@ -1,8 +1,5 @@
-"""How a tool starts and ends: its arguments, standard input and output, signals, messages and
-statuses.
-"""
+"""How a tool starts and ends: standard input and output, signals, messages and statuses."""
 
-import argparse
 import os
 import signal
 import sys
@@ -11,63 +8,25 @@ from contextlib import contextmanager, suppress
 from importlib import import_module
 from io import RawIOBase, TextIOWrapper
 from pathlib import Path
-from typing import Any, BinaryIO, Callable, Iterator, Mapping, NoReturn, Optional
+from typing import Any, BinaryIO, Callable, Iterator, NoReturn
 
-from labeltools import RELEASE
-from labeltools.common.text import NOTHING, Text, translated
 from labeltools.common.messages import (
     BadArguments,
-    Place,
-    ToolError,
     of_system,
+    Origin,
     sentence,
+    ToolError,
+    visible,
     write_message,
 )
+from labeltools.common.text import NOTHING, Text, translated
 
 STANDARD_ERROR = 2
+SHOWN = 60  # letters of what is waited for
 QUIET, BETWEEN = 1.0, 0.3  # seconds before progress is shown, and until it is shown again
 DRAWING = ("python3-gi-cairo", "gir1.2-pango-1.0")  # the packages that draw labels
-AS_WRITTEN = argparse.RawDescriptionHelpFormatter  # what is around the options
 ENDING = (signal.SIGHUP, signal.SIGINT, signal.SIGTERM)
 HELD: list[list[int]] = []  # the signals that came while they are held back, where they are
-
-
-# what argparse says of bad arguments; it looks for them where words.py has the translations
-OF_ARGPARSE = (
-    Text("argument %(argument_name)s: %(message)s"),
-    Text("unrecognized arguments: %s"),
-    Text("not allowed with argument %s"),
-    Text("ignored explicit argument %r"),
-    Text("the following arguments are required: %s"),
-    Text("one of the arguments %s is required"),
-    Text("expected one argument"),
-    Text("expected at most one argument"),
-    Text("expected at least one argument"),
-    Text("invalid %(type)s value: %(value)r"),
-    Text("invalid choice: %(value)r (choose from %(choices)s)"),
-)
-
-
-class Parser(argparse.ArgumentParser):
-    """A parser of a tool, whose help ends with examples. Bad arguments are an error like others:
-    `main_of` writes it, a window shows it.
-    """
-
-    def __init__(self, tool: str, usage: str, about: str, examples: str = "") -> None:
-        super().__init__(
-            tool, usage, about, examples, formatter_class=AS_WRITTEN, allow_abbrev=False
-        )
-        version = f"{tool} {RELEASE}"
-        self.add_argument("--version", action="version", help="print the version", version=version)
-
-    def error(self, message: str) -> NoReturn:
-        """Raises `BadArguments`; a message of argparse is in the language of the user already."""
-        raise BadArguments(message if isinstance(message, Text) else Text("{}", message))
-
-
-def wrong_argument(what: Text) -> argparse.ArgumentTypeError:
-    """Returns the error of an argument, which argparse says behind its name."""
-    return argparse.ArgumentTypeError(translated(what))
 
 
 class CommandTalk:
@@ -77,9 +36,9 @@ class CommandTalk:
         self.tool = tool
         self.next_time = time.monotonic() + QUIET
 
-    def note(self, place: Place, cell: str, reason: Text, hint: Text) -> None:
+    def note(self, origin: Origin, cell: str, reason: Text, hint: Text) -> None:
         """Writes why a row or line is left out."""
-        write_message(self.tool, Text("{}: {}", place.text, sentence(reason, hint)))
+        write_message(self.tool, Text("{}: {}", origin.text, sentence(reason, hint)))
 
     def say(self, text: Text, hint: Text = NOTHING) -> None:
         """Writes something about the whole."""
@@ -94,24 +53,14 @@ class CommandTalk:
             count = f"{done} of {total} labels" if total else f"{done} rows"
             print(f"{self.tool}: {count}", end="\r", file=sys.stderr, flush=True)
 
-
-def words_of(options: Mapping[str, Any]) -> list[str]:
-    """Returns the words of a command for options by their names; those without a value are left
-    out.
-
-    >>> words_of({"code": "2", "title": "", "header-row": 3.0, "hidden": True})
-    ['--code', '2', '--header-row', '3', '--hidden']
-    """
-    found = []
-    for name, value in options.items():
-        if value is True:
-            found.append(f"--{name}")
-        elif value:
-            found += [f"--{name}", value if isinstance(value, str) else f"{value:g}"]
-    return found
+    def wait(self, what: Text) -> None:
+        """Shows on a terminal what is waited for, until another message takes its place."""
+        if sys.stderr.isatty():
+            shown = visible(translated(what)).ljust(SHOWN)[:SHOWN]
+            print(f"{self.tool}: {shown}", end="\r", file=sys.stderr, flush=True)
 
 
-def read_input(path: Optional[str]) -> tuple[str, bytes]:
+def read_input(path: str | None) -> tuple[str, bytes]:
     """Returns the name and bytes of a file, or of standard input where it is None or `-`.
 
     Raises `ToolError` if it is empty, and `OSError`.
@@ -140,19 +89,19 @@ def start(tool: str, module: str, *packages: str) -> NoReturn:
     names packages: those that are given, and those that draw labels.
     """
 
-    def run() -> Optional[int]:
+    def run() -> int | None:
         try:
             command = import_module(module)
         except (ImportError, ValueError) as missing:
             names = " ".join((*packages, *DRAWING))
             raise ToolError(Text("{}", missing), Text("apt-get install {}", names)) from missing
-        status: Optional[int] = command.run()
+        status: int | None = command.run()
         return status
 
     main_of(tool, run)
 
 
-def main_of(tool: str, function: Callable[[], Optional[int]]) -> NoReturn:
+def main_of(tool: str, function: Callable[[], int | None]) -> NoReturn:
     """Runs a tool and ends with its status (None is 0), or with a message and a status for
     ToolError and OSError.
     """
@@ -185,7 +134,7 @@ def make_streams_wait() -> None:
             os.set_blocking(stream.fileno(), True)
 
 
-def status_of(tool: str, function: Callable[[], Optional[int]]) -> int:
+def status_of(tool: str, function: Callable[[], int | None]) -> int:
     """Returns the status of a tool; its messages are written."""
     try:
         buffer_output()

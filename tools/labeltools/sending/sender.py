@@ -4,23 +4,41 @@ import shlex
 from contextlib import suppress
 from functools import partial
 from pathlib import Path
-from typing import Any, Callable, Iterable, Iterator, Mapping, Optional, Sequence, Sized
+from typing import Any, Callable, Iterable, Iterator, Mapping, Sequence, Sized
 
-from labeltools.common.command_line import standard_output
 from labeltools.common.files import save
-from labeltools.common.messages import Talk, ToolError, sentence
+from labeltools.common.messages import sentence, Talk, ToolError
+from labeltools.common.process import standard_output
 from labeltools.common.report import MOST_RANGES, places_text
-from labeltools.common.text import NOTHING, Text, counted, joined
+from labeltools.common.text import counted, joined, NOTHING, Text
 from labeltools.layout.layout import LaidOut
 from labeltools.lines.file import LineRecord
-from labeltools.printing.cups import NOTHING_CHOSEN, Queue, SentJob, print_by
 from labeltools.printing.job import Job
-from labeltools.printing.journal import Entry, Journal, SENDING, code_of
-from labeltools.printing.network import NetworkPrinter, SCHEME
-from labeltools.printing.outlets import Broken, Collected, Device, OUTPUT, Outlet, Untaken
-from labeltools.printing.outlets import has_reader
-from labeltools.printing.press import Part, Prepared, Press
+from labeltools.printing.press import Batch, Prepared, Press
 from labeltools.printing.selection import FILE, ranges_in
+from labeltools.sending.cups import NOTHING_CHOSEN, print_by, Queue, SentJob
+from labeltools.sending.journal import Entry, Journal, SENDING
+from labeltools.sending.network import NetworkPrinter, SCHEME
+from labeltools.sending.outlets import (
+    Broken,
+    Collected,
+    Device,
+    has_reader,
+    Outlet,
+    OUTPUT,
+    Untaken,
+)
+from labeltools.sending.papers import check_edges
+
+
+class Unfinished(ToolError):
+    """Why labels were not all sent, one by one to a printer: `done` of them are on paper, or may
+    be; the next one is in doubt if `is_doubtful`.
+    """
+
+    printer = ""
+    done = 0
+    is_doubtful = False
 
 
 class Sender:
@@ -31,8 +49,8 @@ class Sender:
     def __init__(
         self,
         outlet: Outlet,
-        journal: Optional[Journal] = None,
-        again: Optional[str] = None,
+        journal: Journal | None = None,
+        again: str | None = None,
         records: Sequence[LineRecord] = (),
     ) -> None:
         """Takes all lines of the input, too."""
@@ -54,6 +72,8 @@ class Sender:
         """
         press = found.press(talk)
         prints = found.prints
+        self.outlet.came = came
+        self.outlet.say = talk.say
         self.done = found.job.options.after
         for part in press.parts(prints):
             try:
@@ -81,14 +101,14 @@ class Sender:
             what = Text("{}: {}", error.what, self.so_far())
             raise ToolError(what, self.may_be_missing()) from error
 
-    def send(self, press: Press, part: Part, is_first: bool, is_last: bool = False) -> int:
+    def send(self, press: Press, part: Batch, is_first: bool, is_last: bool = False) -> int:
         """Sends what goes out as a whole, and returns how many bytes it has; 0 if the journal has
         its label. The way out ends after the last one, which is taken if that ends well.
         """
         record = part.items[0].label.record
         journal = self.journal
         if journal is not None and self.again is None and journal.entry(record) is not None:
-            self.known.add(code_of(record))  # as it was when the journal was last read
+            self.known.add(record.code)  # as it was when the journal was last read
             return 0
         document = press.document(part, is_first)
         way = self.before(self.outlet.open)
@@ -96,7 +116,7 @@ class Sender:
             self.way = way
             self.on_way.clear()
         if journal is not None and not journal.claim(record, self.again):
-            self.known.add(code_of(record))
+            self.known.add(record.code)
             return 0
         self.give(record, document, is_last)
         self.taken += part.count
@@ -131,7 +151,7 @@ class Sender:
 
     def named(self, items: Iterable[LaidOut]) -> Text:
         """Returns what messages call labels, with their tables if there are several."""
-        return places_text([item.label.record.place for item in items], self.has_tables)
+        return places_text([item.label.record.origin for item in items], self.has_tables)
 
     @property
     def is_lost(self) -> bool:
@@ -141,7 +161,7 @@ class Sender:
     @property
     def is_clear(self) -> bool:
         """Whether a number is that of one line: several tables have rows of the same numbers."""
-        return len({record.place.number for record in self.records}) == len(self.records)
+        return len({record.origin.number for record in self.records}) == len(self.records)
 
     def told(self, error: ToolError, place: Text) -> ToolError:
         """Returns an error at a label with what to do."""
@@ -160,7 +180,10 @@ class Sender:
         else:
             look = Text("{} may be on paper: look there", place)
             hints = [error.hint or self.may_be_missing(), look, self.way_on()]
-        return ToolError(what, joined("; ", filter(None, hints)), error.status)
+        told = Unfinished(what, joined("; ", filter(None, hints)), error.status)
+        told.printer, told.done = self.outlet.name, self.done
+        told.is_doubtful = isinstance(error, Broken)
+        return told
 
     def way_on(self) -> Text:
         """Returns how the rest is printed: the same command would print again what `again` has
@@ -196,8 +219,8 @@ class Sender:
         it is.
         """
         printer = self.sent_to(record)
-        if printer and code_of(record) in self.doubtful():
-            return may_be_on_paper(printer, by_code(code_of(record)))
+        if printer and record.code in self.doubtful():
+            return may_be_on_paper(printer, by_code(record.code))
         if printer := self.sent_to(record):  # it was not taken meanwhile
             what = Text("{} is sending it", printer)
             return sentence(what, Text("send the line again to see whether it was taken"))
@@ -220,7 +243,7 @@ class Sender:
         for code, entry in doubtful.items():
             printers.setdefault(entry.printer, []).append(code)
         records = reversed(self.records if printers else ())
-        places = {code_of(record): record.place for record in records}
+        places = {record.code: record.origin for record in records}
         for printer, codes in printers.items():
             there = sorted((places[code], code) for code in codes if code in places)
             for some in parts_of(there, MOST_RANGES if self.is_clear else 1):
@@ -269,6 +292,8 @@ def print_on(
     """Prints labels on a queue of CUPS, with options that are chosen for it; returns the job, and
     what is reported of it.
     """
+    if not found.job.form.is_roll:
+        check_edges(queue.name, queue.paper(found.job), found)
     outlet = Collected(queue.name, partial(print_by, found.job, queue, chosen=chosen))
     sender = Sender(outlet)
     sender.send_all(found, talk)

@@ -25,7 +25,7 @@ UNLIKE = 16  # by how much a dot is lighter than the dark around it that is whit
 Ends = tuple[int, int, int, int]  # left, upper, right and lower ends of what is spared
 
 
-class Drawing:
+class BlackDots:
     """The dots of a drawing, of which the lightness of each one is given, a byte from 0 for black.
     In what is spared lines stay as thin as they are.
     """

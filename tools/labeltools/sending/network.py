@@ -16,13 +16,12 @@ from contextlib import suppress
 
 from labeltools.common.messages import BAD_ARGUMENTS, ToolError
 from labeltools.common.text import Text
-from labeltools.printing.outlets import Broken, Outlet, Unreachable, events_of
+from labeltools.sending.outlets import Broken, events_of, Outlet, Patience, STUCK, Unreachable
 
 SCHEME = "tcp://"
 NAME = re.compile(r"tcp://(\[[0-9A-Fa-f:.%]+\]|[^\s/:\[\]]+)(?::([0-9]{1,5}))?/?", re.ASCII)
 PORT = 9100
 CONNECT = 10.0  # seconds
-STUCK = 60.0  # seconds in which a printer takes nothing
 FAREWELL = 2.0  # seconds that a printer may take to end the connection after the last label
 FIRST = 0.005  # seconds in which it is seen that the printer ends it first
 REGRET = 0.05  # seconds in which a printer that did so may still break it off
@@ -83,10 +82,8 @@ class NetworkPrinter(Outlet):
             self.push(line, data)
         except OSError as error:
             self.drop()
-            what = Text("{}: the printer broke off", self.name)
-            if isinstance(error, TimeoutError):
-                seconds = f"{self.stuck:.0f}"
-                what = Text("{}: the printer has taken nothing for {} seconds", self.name, seconds)
+            told = error.args[0]
+            what = told if isinstance(told, Text) else Text("{}: the printer broke off", self.name)
             raise Broken(what) from error
 
     def push(self, line: socket.socket, data: bytes) -> None:
@@ -94,9 +91,8 @@ class NetworkPrinter(Outlet):
         says meanwhile is read: one that nobody hears may stop taking. Raises `OSError`.
         """
         rest = memoryview(data)
-        before = len(rest) + 1
+        patience = Patience(self, self.stuck)
         pause = SHORT
-        end = 0.0
         while True:
             with suppress(BlockingIOError):
                 line.recv(HEARD)
@@ -106,11 +102,7 @@ class NetworkPrinter(Outlet):
             left = len(rest) + waiting(line)
             if not left:
                 break
-            if left < before:
-                end = time.monotonic() + self.stuck
-            elif time.monotonic() > end:
-                raise TimeoutError
-            before = left
+            patience.look(left)
             if rest:
                 events_of(line.fileno(), select.POLLOUT, pause)
             else:

@@ -22,21 +22,21 @@ import sys
 from io import BufferedReader, RawIOBase
 from queue import Queue
 from threading import Thread
-from typing import Any, BinaryIO, Iterator, Optional, Sequence
+from typing import Any, BinaryIO, Iterator, Sequence
 
-from labeltools.common.command_line import ENDING, hold_signals, standard_output
-from labeltools.lines.engine import Engine, LABELS_FAILED
-from labeltools.layout.letters import Letters
-from labeltools.lines.file import LineRecord, OBJECT, drawn_lines
-from labeltools.common.messages import Silence, ToolError, sentence, visible, write_message
+from labeltools.common.messages import sentence, Silence, ToolError, visible, write_message
+from labeltools.common.process import ENDING, hold_signals, standard_output
 from labeltools.common.report import places_text
-from labeltools.printing.job import Job
-from labeltools.printing.journal import is_in_place
-from labeltools.printing.outlets import Broken, OUTPUT, has_reader
-from labeltools.printing.press import Prepared, Press, pens_of, prepared
-from labeltools.printing.remarks import SHORTENED
-from labeltools.printing.sending import Sender
 from labeltools.common.text import NOTHING, Text, translated
+from labeltools.layout.letters import Letters
+from labeltools.lines.engine import Engine, LABELS_FAILED
+from labeltools.lines.file import drawn_lines, LineRecord, OBJECT
+from labeltools.printing.job import Job
+from labeltools.printing.press import pens_of, Prepared, prepared, Press
+from labeltools.printing.remarks import SHORTENED
+from labeltools.sending.journal import is_in_place
+from labeltools.sending.outlets import Broken, has_reader, OUTPUT
+from labeltools.sending.sender import Sender
 
 SKIPPED = (b'#{"labels"', b'#{"end"')
 MOST_AHEAD = 1000  # lines of a FIFO that wait to be printed
@@ -46,7 +46,7 @@ TOOL = "label-print"  # begins what is a message and no answer
 NO_FIFO = Text("make the FIFO again with mkfifo, then give the same command again")
 
 
-class Refused(ToolError):
+class NoLabel(ToolError):
     """Why a line has no label."""
 
 
@@ -129,7 +129,7 @@ class Ahead:
 Source = BinaryIO | Ahead
 
 
-def source_of(path: Optional[str]) -> tuple[str, Source]:
+def source_of(path: str | None) -> tuple[str, Source]:
     """Returns what lines come from, with its name; raises `ToolError` and `OSError`."""
     if path is None or path == "-":
         if sys.stdin is None:
@@ -196,7 +196,7 @@ class Stream:
         except ToolError as error:
             if error.status == LABELS_FAILED:
                 self.status = error.status
-            word = {Refused: "refused", Broken: "doubtful"}.get(type(error), "unsent")
+            word = {NoLabel: "refused", Broken: "doubtful"}.get(type(error), "unsent")
             return word, sentence(error.what, error.hint)
         finally:
             self.sender.outlet.drop()  # it is left to others if nothing went out by it
@@ -214,7 +214,7 @@ class Stream:
         """
         self.require_reader()
         if not parts[-1][1].endswith(b"\n"):
-            raise Refused(CUT_OFF)
+            raise NoLabel(CUT_OFF)
         record, found = self.laid_out(parts)
         if self.options.is_each_once and record.key in self.seen:
             return 0
@@ -246,7 +246,7 @@ class Stream:
                 self.said.add(str(text))
                 yield text
         if any(map(press.pen.is_shortened, found.labels)):
-            place = found.records[0].place
+            place = found.records[0].origin
             yield Text("{}: {}", places_text([place], False), SHORTENED)
 
     def require_reader(self) -> None:
@@ -266,15 +266,15 @@ class Stream:
         except ToolError as error:
             if error.status == LABELS_FAILED:
                 raise
-            raise Refused(error.what, error.hint) from error
+            raise NoLabel(error.what, error.hint) from error
         if done.left_out:
-            raise Refused(done.left_out[0].reason)
+            raise NoLabel(done.left_out[0].reason)
         if not done.labels:
-            raise Refused(Text("none is printed: it has 0 copies"))
+            raise NoLabel(Text("none is printed: it has 0 copies"))
         return lines.records[0], done
 
 
-def run(job: Job, sender: Sender) -> int:
+def answer_lines(job: Job, sender: Sender) -> int:
     """Prints the lines that come in and answers each; returns 1 where one is not printed. It ends
     where nobody takes its labels, or reads its answers, any more: a line without an answer would be
     sent again, and its label be there twice. So a signal, too, waits for the answer, and it is
@@ -288,7 +288,8 @@ def run(job: Job, sender: Sender) -> int:
     for parts in jobs(source):
         if not has_reader(sys.stderr.fileno()):
             return 1
-        with hold_signals():
+        with hold_signals() as came:
+            sender.outlet.came = came
             word, text = stream.answer(parts)
             status = status if word == "taken" else 1
             said = visible(translated(text))

@@ -12,7 +12,7 @@ reads and writes. A lane that gives a label up leaves its number with it.
 
 A last line that was cut off is taken out: the label of `sending` was not sent, that of `taken` is
 in doubt. Only a line of `sending` that has all its fields stays: an editor may have left out its
-end, and its label is in doubt.
+end, and its label is in doubt; but where the input has a longer code in that place, it is cut.
 """
 
 import errno
@@ -23,12 +23,12 @@ import stat
 import time
 from contextlib import contextmanager, suppress
 from pathlib import Path
-from typing import Iterator, Mapping, NamedTuple, Optional
+from typing import Iterator, Mapping, NamedTuple, Sequence
 
-from labeltools.lines.file import LineRecord
 from labeltools.common.messages import ToolError
 from labeltools.common.report import few
 from labeltools.common.text import Text
+from labeltools.lines.file import LineRecord
 
 HEAD = b"#labels journal 1\n"
 UPCA = b"upca "
@@ -41,8 +41,6 @@ FAR = 1 << 62  # of a file: bytes that are locked and never written
 NO_JOURNAL = Text("give a file that label-print --journal has made, or a new name")
 NOT_WRITTEN = Text("make it writable")
 NO_LOCKS = Text("put the journal on a disk that locks files")
-STRANGE = re.compile(rb"[^ -\[\]-~]| (?= *\Z)")  # what is written as escapes: blanks at the end too
-ESCAPES = {bytes([byte]): b"\\x%02X" % byte for byte in range(256)} | {b"\\": b"\\\\"}
 LINE = re.compile(
     rb"\d{4}-\d\d-\d\dT[\d:]+Z\t(sending|taken)\tlane ([1-9][0-9]{0,8})\t([^\t]*)\t([^\t]*)\t"
     rb"([a-z0-9]+ (?:[ -\[\]-~]|\\\\|\\x[0-9A-F]{2})*)(?<! )"
@@ -61,9 +59,12 @@ class Entry(NamedTuple):
 class Journal:
     """An open journal, whose lines are those of a printer."""
 
-    def __init__(self, path: str, printer: str) -> None:
-        """Opens a journal, or makes it; raises `ToolError` where it is none, and `OSError`."""
+    def __init__(self, path: str, printer: str, records: Sequence[LineRecord] = ()) -> None:
+        """Opens a journal, or makes it; `records` are the lines of the input. Raises `ToolError`
+        where it is none, and `OSError`.
+        """
         self.path = path
+        self.records = records
         self.printer = printer.replace("\t", " ")
         flags = os.O_RDWR | os.O_CREAT | os.O_CLOEXEC | os.O_NONBLOCK  # it waits for no FIFO
         self.file = os.open(path, flags, 0o644)
@@ -79,12 +80,12 @@ class Journal:
             self.lane = self.free_lane()
         self.before = dict(self.entries)
 
-    def claim(self, record: LineRecord, again: Optional[str] = None) -> bool:
+    def claim(self, record: LineRecord, again: str | None = None) -> bool:
         """Writes that the label of a line is sent, and returns whether it is for this lane: False
         where the journal has its code. A code that was last sent to the printer `again` before this
         lane began is sent again. Raises `ToolError` where it cannot be written.
         """
-        code = code_of(record)
+        code = record.code
         with self.locked():
             self.read()
             found = self.entries.get(code)
@@ -113,9 +114,9 @@ class Journal:
             fcntl.lockf(self.file, fcntl.LOCK_UN, 1, FAR + self.lane)
             self.lane = self.free_lane()
 
-    def entry(self, record: LineRecord) -> Optional[Entry]:
+    def entry(self, record: LineRecord) -> Entry | None:
         """Returns the last that is known of the code of a line."""
-        return self.entries.get(code_of(record))
+        return self.entries.get(record.code)
 
     def doubtful(self) -> Mapping[bytes, Entry]:
         """Returns what was sent by lanes that ended before it was taken, by its code. A lane may
@@ -218,12 +219,17 @@ class Journal:
         mark of one that waits for it in a line before, since its code may be cut.
         """
         found = entry_in(line)
-        if found is None or found[1].event == TAKEN:
+        if found is None or found[1].event == TAKEN or self.is_cut(*found):
             os.ftruncate(self.file, self.end)
             return
         os.pwrite(self.file, b"\n", self.end + len(line))  # which takes nothing out where it fails
         self.end += len(line) + 1
         self.learn(line)
+
+    def is_cut(self, code: bytes, entry: Entry) -> bool:
+        """Returns whether a code is only the start of the one that the input has in its place."""
+        here = (one.code for one in self.records if str(one.origin) == entry.place)
+        return any(one != code and one.startswith(code) for one in here)
 
     def advice(self) -> Text:
         """Returns what to do where another program has taken its place: what the new file has not
@@ -260,8 +266,8 @@ class Journal:
     def write(self, event: bytes, record: LineRecord) -> None:
         """Writes a line."""
         now = time.strftime("%Y-%m-%dT%H:%M:%SZ", time.gmtime()).encode()
-        code = code_of(record)
-        entry = Entry(event, self.lane, self.printer, str(record.place))
+        code = record.code
+        entry = Entry(event, self.lane, self.printer, str(record.origin))
         texts = f"lane {entry.lane}\t{entry.printer}\t{entry.place}".encode("utf-8", "replace")
         self.append(b"\t".join((now, event, texts, code)) + b"\n")
         self.entries[code] = entry
@@ -299,7 +305,7 @@ def sync_folder(path: str) -> None:
             os.close(folder)
 
 
-def entry_in(line: bytes) -> Optional[tuple[bytes, Entry]]:
+def entry_in(line: bytes) -> tuple[bytes, Entry] | None:
     """Returns the code of a line of a journal, and what it says of it; None where it is no such
     line.
     """
@@ -311,19 +317,3 @@ def entry_in(line: bytes) -> Optional[tuple[bytes, Entry]]:
         code = b"ean13 0" + code.removeprefix(UPCA)
     texts = (text.decode("utf-8", "replace") for text in (printer, place))
     return code, Entry(event, int(lane), *texts)
-
-
-def code_of(record: LineRecord) -> bytes:
-    """Returns the code of a line as it stands in a journal."""
-    symbology, data = record.key
-    return symbology.encode("utf-8", "replace") + b" " + escaped(data)
-
-
-def escaped(data: bytes) -> bytes:
-    """Returns data on one line: with the escapes of labels(1) for what is no letter of ASCII, and
-    for a blank at its end.
-
-    >>> escaped(b"a\\\\b\\nc ")
-    b'a\\\\\\\\b\\\\x0Ac\\\\x20'
-    """
-    return STRANGE.sub(lambda byte: ESCAPES[byte[0]], data)

@@ -8,8 +8,8 @@ from functools import lru_cache
 from typing import Iterable, Iterator, NamedTuple, Sequence
 
 from labeltools.checking.decode import NotDecoded
-from labeltools.layout.frames import Box
 from labeltools.common.text import Text
+from labeltools.paper.box import Box
 
 POINTS = 72  # in an inch
 NEAR = 0.25  # of a dot, by which the place of a code may be off

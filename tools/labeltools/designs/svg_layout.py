@@ -9,59 +9,37 @@ from functools import cache, lru_cache
 from itertools import combinations, compress, repeat
 from typing import Iterator, Mapping, NamedTuple, Sequence
 
-from labeltools.paper.area import Area, LARGEST_MODULE, TINY
-from labeltools.lines.engine import Modules, drawn
-from labeltools.common.kept import Found
-from labeltools.layout.frames import Box, DIGITS_ROOM, Frame, LOWEST
+from labeltools.common.cache import Found
+from labeltools.common.messages import quoted, sentence, Talk, ToolError
+from labeltools.common.text import Text
+from labeltools.designs.design import PlacedSymbol
+from labeltools.designs.fit import ENLARGE, NoRoom, PlacedText, Room
+from labeltools.designs.places import key_of, PARTS, Place
+from labeltools.designs.svg_design import mixed_text, NEAR, SvgDesign, UNREAD
+from labeltools.layout.frame import DIGITS_ROOM, Frame, LOWEST
 from labeltools.layout.layout import ASKED, LaidOut, LaidOutFile, Layout, PrintLabel, short
 from labeltools.layout.letters import Letters
+from labeltools.lines.engine import drawn, Modules
 from labeltools.lines.file import symbology_and_data
-from labeltools.common.messages import Talk, ToolError, quoted, sentence
-from labeltools.designs.design import NEAR, OwnDesign, UNREAD, mixed_text
-from labeltools.designs.fit import ENLARGE, NoRoom, OwnText, Room
-from labeltools.designs.places import PARTS, Place, key_of
-from labeltools.paper.stock import size_text
 from labeltools.lines.symbologies import SYMBOLOGIES, Symbology
-from labeltools.common.text import Text
+from labeltools.paper.area import Area, LARGEST_MODULE, TINY
+from labeltools.paper.box import Box
+from labeltools.paper.stock import size_text
 
 FIELDS = ("title", "price", "unit", "was", "code")  # of each label
 KEPT = 16  # columns of labels
-CODE = Place("code")  # of a built-in design
 NO_FRAME = Frame("own", {}, {}, 0, 0, 0, 0, 0, 0, True, 0.0)
 
 
-class OwnSymbol(NamedTuple):
-    """A symbol in a place: its box, its data and modules, and where its bars and digits are in that
-    as it is read.
-    """
-
-    place: Place
-    box: Box
-    data: bytes
-    modules: Modules
-    symbology: Symbology
-    module: int
-    boxes: Mapping[str, Box]
-
-
 @dataclass(frozen=True, slots=True)
-class OwnLayout(Layout):
+class SvgLayout(Layout):
     """What is on a label beside the drawing, and the parts that it has not, whose groups are not
     drawn; as a layout it is that of its finest symbol of QR, or else of its finest one.
     """
 
-    texts: tuple[OwnText, ...]
-    symbols: tuple[OwnSymbol, ...]
+    texts: tuple[PlacedText, ...]
+    symbols: tuple[PlacedSymbol, ...]
     absent: frozenset[str]
-
-
-def symbols_of(item: LaidOut, area: Box = Box(0, 0, 0, 0)) -> Sequence[OwnSymbol]:
-    """Returns the symbols of a label of any design; a built-in one has one, in its whole area."""
-    layout = item.layout
-    if isinstance(layout, OwnLayout):
-        return layout.symbols
-    how = (item.label.record.data, item.label.modules, layout.symbology)
-    return [OwnSymbol(CODE, area, *how, layout.module, layout.boxes)]
 
 
 class Values(NamedTuple):
@@ -72,7 +50,7 @@ class Values(NamedTuple):
 
 
 # symbols by their places and texts: their modules and data, or why they are refused
-Made = dict[tuple[Place, str], tuple[Modules, bytes] | Text]
+SecondSymbols = dict[tuple[Place, str], tuple[Modules, bytes] | Text]
 
 
 def values_of(label: PrintLabel, note: str, own: frozenset[str]) -> Values:
@@ -80,7 +58,7 @@ def values_of(label: PrintLabel, note: str, own: frozenset[str]) -> Values:
     others together as its text.
     """
     whole = label.record.label
-    keys, names = columns_of(whole.names or ("",) * len(whole.text), bool(note), own)
+    keys, names = keys_of_columns(whole.names or ("",) * len(whole.text), bool(note), own)
     code = label.record.data.decode("utf-8", "surrogateescape")
     texts = dict(zip(FIELDS, (label.title, whole.price, whole.unit, whole.was, code)))
     rest = []
@@ -94,7 +72,7 @@ def values_of(label: PrintLabel, note: str, own: frozenset[str]) -> Values:
 
 
 @lru_cache(KEPT)
-def columns_of(
+def keys_of_columns(
     columns: tuple[str, ...], has_note: bool, own: frozenset[str]
 ) -> tuple[Sequence[str], Mapping[str, str]]:
     """Returns the keys of the texts of some columns, behind them that of a note, and the names of
@@ -117,10 +95,10 @@ def columns_of(
 
 
 @dataclass
-class OwnLayouts:
+class SvgLayouts:
     """Lays out labels in a design; `empty` are columns of which no label has a text."""
 
-    design: OwnDesign
+    design: SvgDesign
     area: Area
     letters: Letters
     note: str
@@ -168,7 +146,7 @@ class OwnLayouts:
                 self.left_out[label.record.number] = sentence(problem.what, problem.hint)
             else:
                 placed.append(LaidOut(label, layout))
-        said = ((labels[0].record.place, one) for one in self.said(labels, values, rows, rooms))
+        said = ((labels[0].record.origin, one) for one in self.said(labels, values, rows, rooms))
         return LaidOutFile(tuple(placed), self.area, self.left_out, tuple(said if labels else ()))
 
     def texts_in_places(self, labels: Sequence[PrintLabel]) -> Mapping[int, Sequence[str]]:
@@ -199,13 +177,13 @@ class OwnLayouts:
                 rooms[place] = Room(place, *how, counts)
         return rooms
 
-    def second_symbols(self, rows: Sequence[Sequence[str]], talk: Talk) -> Made:
+    def second_symbols(self, rows: Sequence[Sequence[str]], talk: Talk) -> SecondSymbols:
         """Returns the symbols that are made of texts, or why they are refused."""
         columns = [one for one in zip(self.places, zip(*rows)) if one[0].symbology]
         every = ((place, text) for place, texts in columns for text in texts if text)
         wanted = [*dict.fromkeys(every)]
         lines = [line_of(place, text) for place, text in wanted]
-        found: Made = {}
+        found: SecondSymbols = {}
         for key, line, one in zip(wanted, lines, drawn(lines, True, talk)):
             _, data = symbology_and_data(line, True)
             found[key] = one if isinstance(one, Text) else (one, data)
@@ -217,8 +195,8 @@ class OwnLayouts:
         row: Sequence[str],
         absent: frozenset[str],
         rooms: Mapping[Place, Room],
-        made: Made,
-    ) -> OwnLayout:
+        made: SecondSymbols,
+    ) -> SvgLayout:
         """Returns the layout of a label whose texts are those of a row; raises `NoRoom`."""
         texts = []
         symbols = []
@@ -239,10 +217,10 @@ class OwnLayouts:
                 symbology, (modules, data) = SYMBOLOGIES[place.symbology], second
             module, boxes = self.boxes_of(place, symbology.name, modules.width, modules.height)
             how = (data, modules, symbology, module, boxes)
-            symbols.append(OwnSymbol(place, self.boxes[place], *how))
+            symbols.append(PlacedSymbol(place, self.boxes[place], *how))
         finest = min(symbols, key=lambda one: (one.symbology.nominal > 0, one.module))
         found = (finest.symbology, finest.module, finest.boxes, False)
-        return OwnLayout(NO_FRAME, *found, tuple(texts), tuple(symbols), absent)
+        return SvgLayout(NO_FRAME, *found, tuple(texts), tuple(symbols), absent)
 
     def new_boxes(
         self, place: Place, name: str, width: int, height: int
@@ -337,3 +315,9 @@ def line_of(place: Place, text: str) -> bytes:
     escaped = text.replace("\\", "\\\\").replace("\n", "\\n")
     line = f"{','.join((place.symbology, *place.settings))} {escaped}"
     return line.encode("utf-8", "surrogateescape")
+
+
+def svg_layout(item: LaidOut) -> SvgLayout:
+    """Returns the layout of a label in a design."""
+    assert isinstance(item.layout, SvgLayout)
+    return item.layout

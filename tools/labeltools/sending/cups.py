@@ -1,20 +1,23 @@
 """Prints on queues of CUPS through its library (python3-cups): at which resolution a queue prints,
-and a job that it prints dot for dot.
+on which paper, a job that it prints dot for dot, and what becomes of that.
 """
 
 import os
 import re
-from collections.abc import Iterator, Mapping
+import time
+from collections.abc import Callable, Iterator, Mapping, Sized
 from contextlib import contextmanager
-from dataclasses import dataclass
+from dataclasses import dataclass, field
 from importlib import import_module
-from typing import IO, Any
+from pathlib import Path
+from typing import Any, IO
 
 from labeltools.common.messages import BAD_ARGUMENTS, ToolError
-from labeltools.common.text import NOTHING, Text
+from labeltools.common.text import joined, NOTHING, Text
 from labeltools.drawing.forms import PDF
 from labeltools.paper.stock import Size
 from labeltools.printing.job import DRAWING_DPI, Job
+from labeltools.sending.papers import Papers, papers_of_driver, papers_of_ipp, PrinterPaper
 
 # sizes of paper that CUPS has names of, in millimetres
 NAMED = {
@@ -32,8 +35,30 @@ SECTIONS = range(6)  # of that code
 RESOLUTION = "Resolution"  # the option of drivers
 RAW = {"raw": "true"}
 NOTHING_CHOSEN: Mapping[str, str] = {}
-PAPER = ("PageSize", "PageRegion")  # options of drivers that the paper of the labels decides
 PAGES = frozenset({"page-ranges", "page-set"})  # options that choose pages
+# what is said for each job, since a queue may have other defaults; of a job for the printer itself
+# only the first ones count
+ONCE = {"copies": "1", "job-sheets": "none,none"}
+PLAIN = {
+    **ONCE,
+    "page-set": "all",
+    "number-up": "1",
+    "sides": "one-sided",
+    "mirror": "false",
+    "booklet": "false",
+    "page-border": "none",
+    "orientation-requested": "3",
+    "landscape": "false",
+    "fit-to-page": "false",
+    "fitplot": "false",
+    "print-scaling": "none",
+}
+OF_A_JOB = {*PAGES, "copies"}  # of those, what may be chosen for a job
+# options of drivers that the labels decide: their paper, and what turns, doubles or moves a page,
+# with the choices of it that do nothing
+PAPER = ("PageSize", "PageRegion")
+CHANGES = re.compile(r"(EF|JCL|KD03)?Duplex|(Lex)?Mirror(Print)?|NupPages|NUp|(KC)?Booklet")
+NO_CHANGE = ("None", "False", "Off", "No", "1")
 NO_QUEUE = Text(
     "add it in the settings of printers; for one on USB give --print /dev/usb/lp0, for one in the "
     "network --print tcp://HOST"
@@ -47,18 +72,28 @@ REASONS = {
     "toner-empty": Text("it has no toner"),
     "offline": Text("it is off, or not connected"),
 }
-HELD, CANCELLED, ABORTED, COMPLETED = 4, 7, 8, 9  # states of a job in IPP
+PENDING, HELD, STOPPED, CANCELLED, ABORTED, COMPLETED = 3, 4, 6, 7, 8, 9  # of a job in IPP
+PRINTER_STOPPED = 5
+# what the backend of CUPS for IPP says of a printer that did not print a job which CUPS has passed
+REFUSED = ("cups-remote-aborted", "cups-remote-canceled")
+IDLE = 60.0  # seconds in which a job that is watched may show nothing new
+LOOKS = 0.1, 1.0  # seconds between two looks at it, at first and later
 
 
 @dataclass(frozen=True)
 class Queue:
     """A queue of CUPS: its name, the dots an inch that it prints if nothing is asked for (0: not
-    known), and the word of its driver for each resolution.
+    known), and the word of its driver for each resolution; the dots across and down, where these
+    are no multiple of each other; its papers; the options of its driver that leave pages as they
+    are.
     """
 
     name: str
     dpi: int
     words: Mapping[int, str]
+    uneven: tuple[int, int] = (0, 0)
+    papers: Papers = Papers()
+    plain: Mapping[str, str] = field(default_factory=dict)
 
     def dpi_for(self, is_sheet: bool) -> int:
         """Returns the dots an inch of labels that are printed here, 0 if they are not known. Sheets
@@ -72,25 +107,48 @@ class Queue:
 
     def options(self, job: Job) -> Mapping[str, str]:
         """Returns the options of CUPS by which a job is printed dot for dot; raises `ToolError` if
-        the queue does not have its resolution. Each dot may be several of the printer's.
+        the queue does not have its resolution or its paper. Each dot may be several of the
+        printer's.
         """
         dpi = job.plan.dpi
         if job.form.is_roll:
+            self.check_language(job)
             if self.dpi and dpi not in (self.dpi, *self.words):
                 raise self.refusal(dpi)
             return RAW
-        options = {"media": media_of(job.plan.sheet.page)}
+        paper = self.paper(job)
+        options = {"media": paper.name or media_of(job.plan.sheet.page)}
         if not self.dpi or self.dpi % dpi:
             words = [word for dots, word in sorted(self.words.items()) if dots % dpi == 0]
             if words:
                 options[RESOLUTION] = words[0]
-            elif self.dpi:
+            elif self.dpi or any(self.uneven):
                 raise self.refusal(dpi)
         return {**options, "print-scaling": "none"}
 
+    def paper(self, job: Job) -> PrinterPaper:
+        """Returns the paper of a job; raises `ToolError` if the queue has none."""
+        return self.papers.paper(self.name, job.plan.sheet.page)
+
+    def check_language(self, job: Job) -> None:
+        """Raises `ToolError` if a queue is that of an office printer, which would print the bytes
+        of a label printer as letters.
+        """
+        if self.papers.is_office:
+            what = Text(
+                "{} is an office printer: it does not understand {}", self.name, job.form.name
+            )
+            hint = Text("give --to pdf, or the printer of the labels")
+            raise ToolError(what, hint, BAD_ARGUMENTS)
+
     def refusal(self, dpi: int) -> ToolError:
         """Returns why labels cannot be printed here."""
-        found = " or ".join(map(str, sorted({self.dpi, *self.words})))
+        known = {self.dpi, *self.words} - {0}
+        if not known:
+            what = Text("the queue {} prints {} by {} dots an inch", self.name, *self.uneven)
+            hint = Text("bars need as many across as down: choose another printer")
+            return ToolError(what, hint, BAD_ARGUMENTS)
+        found = " or ".join(map(str, sorted(known)))
         what = Text("the queue {} prints at {} dpi, and the labels have {}", self.name, found, dpi)
         return ToolError(what, Text("leave out --dpi, or give one of these"), BAD_ARGUMENTS)
 
@@ -108,12 +166,26 @@ class Queue:
 @dataclass(frozen=True)
 class JobState:
     """What becomes of a job: what keeps it from paper, which may be nothing; what CUPS last said of
-    it, in its own words; and whether it is over.
+    it, in its own words; whether it is over, and was printed; whether it waits for somebody; and
+    what else shows that it goes on.
     """
 
     trouble: Text
     said: str
     is_over: bool
+    is_printed: bool = False
+    is_waiting: bool = False
+    marks: tuple[object, ...] = ()
+
+    @property
+    def told(self) -> Text:
+        """What a message says of it."""
+        if self.is_printed:
+            return Text("CUPS reports it as printed")
+        if self.is_over:
+            return Text("it was not printed: {}", self.trouble)
+        reasons = [*filter(None, (self.trouble, self.said))]
+        return joined(": ", (Text("it waits in the queue"), *reasons))
 
 
 @dataclass(frozen=True)
@@ -127,63 +199,122 @@ class SentJob:
         """Returns what CUPS reports of the job now; raises `ToolError`."""
         with refusals(self.queue) as cups:
             job = cups.getJobAttributes(self.number)
-            reasons = cups.getPrinterAttributes(self.queue)["printer-state-reasons"]
+            printer = cups.getPrinterAttributes(self.queue)
+        reasons = printer["printer-state-reasons"]
         state = job["job-state"]
         said = job.get("job-printer-state-message", "")
         if state == CANCELLED:
-            return JobState(Text("job {} was cancelled", self.number), said, True)
+            what = Text("job {} was cancelled", self.number)
+            return JobState(joined(": ", filter(None, (what, said))), said, True)
         if state == ABORTED:
             return JobState(Text("CUPS gave up job {}: {}", self.number, said), said, True)
         if state == COMPLETED:
-            return JobState(NOTHING, said, True)
+            if not any(reason.startswith(REFUSED) for reason in reasons):
+                return JobState(NOTHING, said, True, True)
+            what = Text("the printer refused job {}: {}", self.number, said)
+            return JobState(what, said, True)
         begins = ((reason, name) for reason in reasons for name in REASONS)
         found = [REASONS[name] for reason, name in begins if reason.startswith(name)]
         if state == HELD:
             found.append(Text("job {} is held: {}", self.number, said))
-        return JobState(Text("{}: {}", self.queue, found[0]) if found else NOTHING, said, False)
+        is_stopped = printer["printer-state"] == PRINTER_STOPPED
+        if is_stopped and not found:
+            found.append(Text("it has stopped"))
+        trouble = Text("{}: {}", self.queue, found[0]) if found else NOTHING
+        is_waiting = is_stopped or state in (HELD, STOPPED)
+        marks = (state, job.get("job-media-sheets-completed"), *sorted(reasons))
+        return JobState(trouble, said, False, is_waiting=is_waiting, marks=marks)
+
+    def follow(self, show: Callable[[Text], object], came: Sized = ()) -> JobState:
+        """Looks at the job until it is over, or waits for somebody, or has shown nothing new for a
+        minute, or something came; returns what it is then. What it does is shown. Raises
+        `ToolError`.
+        """
+        pause, longest = LOOKS
+        state = self.state()
+        end = time.monotonic() + IDLE
+        while not (state.is_over or state.is_waiting or came or time.monotonic() > end):
+            reason = state.trouble or state.said
+            show(joined(": ", filter(None, (Text("job {}", self.number), reason))))
+            time.sleep(pause)
+            pause = min(2 * pause, longest)
+            before, state = state, self.state()
+            if state != before:
+                end = time.monotonic() + IDLE
+        return state
 
 
 def queue_of(name: str, chosen: Mapping[str, str] = NOTHING_CHOSEN) -> Queue:
     """Returns what a queue says, with the options of its driver that are chosen for a job; raises
     `ToolError` if there is no such queue, or no CUPS.
     """
-    cups = library()
+    cups = cups_library()
     try:
         path = connection().getPPD(name)
     except cups.IPPError as error:  # it has no driver, or CUPS makes it for the first job
         names = queues()
         if name in names:
-            return Queue(name, 0, {})
+            attributes = connection().getPrinterAttributes(name)
+            return Queue(name, 0, {}, papers=papers_of_ipp(attributes))
         hint = Text("the queues are {}", ", ".join(names)) if names else NO_QUEUE
         raise ToolError(Text("there is no queue {}", name), hint) from error
     try:
         driver = cups.PPD(path)
+        papers = papers_of_driver(Path(path).read_text(encoding="latin-1"))
     finally:
         os.unlink(path)
     driver.markDefaults()
     for option, value in chosen.items():
         driver.markOption(option, value)
-    own = dpi_of(driver)
+    own = dots_of(driver)
     words = {}
     resolution = driver.findOption(RESOLUTION)
     for choice in reversed(resolution.choices if resolution else []):
         driver.markOption(RESOLUTION, choice["choice"])
-        words[dpi_of(driver)] = choice["choice"]
+        words[dpi_of(dots_of(driver))] = choice["choice"]
     words.pop(0, None)
-    return Queue(name, own, words)
+    dpi = dpi_of(own)
+    return Queue(name, dpi, words, (0, 0) if dpi else own, papers, plain_of(driver))
 
 
-def dpi_of(driver: Any) -> int:
-    """Returns the dots an inch that a driver prints with the options that are marked, the fewer of
-    those across and down; 0 if it does not say them, or if one is no multiple of the other.
+def plain_of(driver: Any) -> Mapping[str, str]:
+    """Returns the options of a driver that change where labels are, each with its choice that does
+    nothing.
+    """
+    options = [option for group in driver.optionGroups for option in group.options]
+    found = {}
+    for option in options:
+        choices = {choice["choice"] for choice in option.choices}
+        plain = [choice for choice in NO_CHANGE if choice in choices]
+        if CHANGES.fullmatch(option.keyword) and plain:
+            found[option.keyword] = plain[0]
+    return found
+
+
+def dpi_of(sides: tuple[int, int]) -> int:
+    """Returns the fewer dots of those across and down; 0 if they are not known, or if one is no
+    multiple of the other.
+
+    >>> dpi_of((720, 360)), dpi_of((120, 72))
+    (360, 0)
+    """
+    least, most = sorted(sides)
+    return 0 if least == 0 or most % least else least
+
+
+def dots_of(driver: Any) -> tuple[int, int]:
+    """Returns the dots an inch, across and down, that a driver prints with the options that are
+    marked; 0 if it does not say them.
 
     The code of the options counts more than their names: an option for the quality often has the
     last word, and names such as Gutenprint's 361x360dpi are not what is printed.
     """
     code = "".join(driver.emitString(section, 0) or "" for section in SECTIONS)
     found = TOLD.findall(code) or DPI.findall(resolution_of(driver))
-    sides = sorted(int(side) for side in found[-1] if side) if found else [0]
-    return 0 if sides[0] == 0 or sides[-1] % sides[0] else sides[0]
+    if not found:
+        return 0, 0
+    across, down = found[-1]
+    return int(across), int(down or across)
 
 
 def resolution_of(driver: Any) -> str:
@@ -234,10 +365,23 @@ def print_by(
     job of CUPS; raises `ToolError` if CUPS does not take it.
     """
     path = f"/proc/self/fd/{file.fileno()}"
-    others = {name: value for name, value in chosen.items() if name not in PAPER}
-    options = {**others, **queue.options(job)}
+    options = job_options(job, queue, chosen)
     with refusals(queue.name) as cups:
         return SentJob(queue.name, int(cups.printFile(queue.name, path, "labels", options)))
+
+
+def job_options(job: Job, queue: Queue, chosen: Mapping[str, str]) -> Mapping[str, str]:
+    """Returns the options of CUPS for a job: those that are chosen for it, but for what would
+    change the labels, and others in place of the queue's own; raises `ToolError` as the queue does.
+    """
+    own = queue.options(job)
+    plain = ONCE if own is RAW else PLAIN
+    others = {
+        name: value
+        for name, value in chosen.items()
+        if name in OF_A_JOB or name not in (*PAPER, *PLAIN, *queue.plain)
+    }
+    return {**plain, **({} if own is RAW else queue.plain), **others, **own}
 
 
 @contextmanager
@@ -245,14 +389,14 @@ def refusals(queue: str) -> Iterator[Any]:
     """Gives a connection to CUPS; raises `ToolError` if it refuses something for a queue."""
     try:
         yield connection()
-    except library().IPPError as error:
+    except cups_library().IPPError as error:
         raise ToolError(Text("CUPS refuses {}: {}", queue, error.args[1])) from error
 
 
 def connection() -> Any:
     """Returns a connection to CUPS; raises `ToolError` where it is not there."""
     try:
-        return library().Connection()
+        return cups_library().Connection()
     except RuntimeError as error:
         hint = Text(
             "install it (apt-get install cups) or start it, or ask who set up this computer"
@@ -260,7 +404,7 @@ def connection() -> Any:
         raise ToolError(Text("CUPS does not answer"), hint) from error
 
 
-def library() -> Any:
+def cups_library() -> Any:
     """Returns the library of CUPS; raises `ToolError` where it is not there."""
     try:
         return import_module("cups")

@@ -2,23 +2,29 @@
 collected in a temporary file until all of it is there.
 """
 
+import errno
 import os
 import re
 import select
 import stat
 import tempfile
-from collections.abc import Callable, Sequence
-from contextlib import nullcontext
+import time
+from collections.abc import Callable, Sequence, Sized
+from contextlib import nullcontext, suppress
 from io import BytesIO
 from pathlib import Path
-from typing import IO, Any, Optional
+from typing import Any, IO
 
-from labeltools.common.command_line import hold_signals, standard_output
-from labeltools.common.files import Unwritten, save, send, temporary
+from labeltools.common.files import save, temporary, Unwritten, write_whole
 from labeltools.common.messages import ToolError
+from labeltools.common.process import hold_signals, standard_output
 from labeltools.common.text import NOTHING, Text
 
 OUTPUT = "standard output"
+STUCK = 60.0  # seconds in which a printer takes nothing
+QUIET = 5.0  # seconds of these before it is said
+STOPPED = 2.0  # seconds of these if somebody has stopped the work
+LOOK = 0.1  # seconds between two looks at a file that takes nothing
 MOST_NAME = 100  # letters of the data in the name of a file
 NUMBERED = re.compile(r"%(0?\d?)d|%s")
 HINTS = {
@@ -39,15 +45,22 @@ class Broken(ToolError):
     """A way out that took a part of a label, or all of it without saying so."""
 
 
+def no_word(_what: Text, _hint: Text = NOTHING) -> None:
+    """Says nothing."""
+
+
 class Outlet:
     """Where labels go. `is_direct` is whether each is there for certain once it was sent, whatever
     comes after it; `is_kept` is whether what was sent is in a file on a disk. `open` is called
-    before a label is written into the journal.
+    before a label is written into the journal. `came` has something once somebody has stopped the
+    work, and `say` says that a printer is waited for.
     """
 
     name: str
     is_direct = False
     is_kept = False
+    came: Sized = ()
+    say: Callable[[Text, Text], object] = staticmethod(no_word)
 
     def open(self) -> Any:
         """Returns the way out, which is another one once it was made again after a good end; raises
@@ -68,6 +81,40 @@ class Outlet:
         """Ends the way out at once, if nothing was sent."""
 
 
+class Patience:
+    """The time of a printer that takes nothing of a label: a minute, but only moments if somebody
+    stops the work then. One that takes something, however slowly, has all the time.
+    """
+
+    def __init__(self, outlet: Outlet, seconds: float) -> None:
+        self.outlet = outlet
+        self.seconds = seconds
+        self.left = -1  # bytes, at the last look
+        self.since = 0.0
+        self.is_said = False
+
+    def look(self, left: int) -> None:
+        """Takes how many bytes are left; says once that it waits; raises `TimeoutError`, with what
+        is told of it, when its time is over.
+        """
+        now = time.monotonic()
+        if left != self.left:
+            self.left = left
+            self.since = now
+        waited = now - self.since
+        name = self.outlet.name
+        if self.outlet.came and waited > min(STOPPED, self.seconds):
+            raise TimeoutError(Text("{}: stopped while the printer took nothing", name))
+        if waited > self.seconds:
+            seconds = f"{self.seconds:.0f}"
+            what = Text("{}: the printer has taken nothing for {} seconds", name, seconds)
+            raise TimeoutError(what)
+        if waited > QUIET and not self.is_said:
+            self.is_said = True
+            what = Text("{}: the printer takes nothing: it is waited for", name)
+            self.outlet.say(what, Text("is it switched on, and has it paper?"))
+
+
 class OpenFile(Outlet):
     """What is written to an open file; each label of a file on a disk is there once it is sent."""
 
@@ -82,7 +129,7 @@ class OpenFile(Outlet):
         try:
             with hold_signals() if self.name == OUTPUT else nullcontext():  # not in a window
                 self.is_kept = stat.S_ISREG(os.fstat(file).st_mode)
-                send(data, file)
+                write_whole(data, file)
                 if self.is_synced and self.is_kept:
                     os.fdatasync(file)
         except OSError as error:
@@ -109,22 +156,56 @@ class StandardOutput(OpenFile):
 class Device(OpenFile):
     """A printer named by a path, such as /dev/usb/lp0, or a file that is there, to which labels are
     added. A label counts as taken once the system has all of its bytes; a printer without paper
-    takes none: the run waits for it.
+    takes none, and is waited for as one in the network is.
     """
 
-    def __init__(self, name: str) -> None:
+    def __init__(self, name: str, stuck: float = STUCK) -> None:
         self.name = name
-        self.file: Optional[int] = None
+        self.stuck = stuck
+        self.file: int | None = None
 
     def open(self) -> int:
         """Returns its number, and opens it if it is not open; raises `Unreachable`."""
         if self.file is None:
             try:
-                self.file = os.open(self.name, os.O_WRONLY | os.O_APPEND)
+                self.file = os.open(self.name, os.O_WRONLY | os.O_APPEND | os.O_NONBLOCK)
             except OSError as error:
                 what = Text("{}: {}", self.name, error.strerror)
+                if error.errno == errno.ENXIO:  # of a FIFO
+                    what = Text("{}: no program reads it", self.name)
                 raise Unreachable(what, HINTS.get(type(error), NOTHING)) from error
         return self.file
+
+    def send(self, data: bytes) -> None:
+        """Sends what is whole; raises `Broken`, and what `open` does."""
+        file = self.open()
+        if stat.S_ISREG(os.fstat(file).st_mode):
+            super().send(data)
+            return
+        try:
+            self.push(file, data)
+        except OSError as error:
+            self.drop()
+            told = error.args[0]
+            what = told if isinstance(told, Text) else Text("{}: {}", self.name, error.strerror)
+            raise Broken(what) from error
+
+    def push(self, file: int, data: bytes) -> None:
+        """Writes bytes until all have gone out, however slowly; raises `OSError`. The last ones of
+        a printer on USB have once it would take more.
+        """
+        rest = memoryview(data)
+        patience = Patience(self, self.stuck)
+        while True:
+            found = events_of(file, select.POLLOUT, LOOK)
+            if found and not rest:
+                if found != select.POLLOUT:
+                    raise BrokenPipeError(errno.EPIPE, os.strerror(errno.EPIPE))
+                return
+            if found:
+                with suppress(BlockingIOError):
+                    rest = rest[os.write(file, rest) :]
+            patience.look(len(rest))
 
     def close(self) -> None:
         """Closes it after what was sent; raises `Broken`."""
@@ -203,13 +284,6 @@ def has_reader(file: int) -> bool:
     connection or of a terminal has gone.
     """
     return not events_of(file, 0)
-
-
-def is_direct(printer: str) -> bool:
-    """Returns whether a printer takes labels one by one: tcp://HOST, or a path, which no queue of
-    CUPS is.
-    """
-    return "/" in printer
 
 
 def paths_of(name: str, data: Sequence[bytes], first: int) -> list[Path]:

@@ -3,24 +3,24 @@
 from typing import Callable, Generic, Hashable, TypeVar
 
 Key = TypeVar("Key", bound=Hashable)
-Made = TypeVar("Made")
+Value = TypeVar("Value")
 SEEN = 8192  # keys that are known to have come once
 
 
-class Kept(Generic[Key, Made]):
+class Kept(Generic[Key, Value]):
     """What was made for keys, from the second time on that a key comes."""
 
     def __init__(self, most: int) -> None:
         self.most = most
-        self.made: dict[Key, Made] = {}
+        self.made: dict[Key, Value] = {}
         self.seen: set[int] = set()
 
     def get(
         self,
         key: Key,
-        make: Callable[[Key], Made],
-        copy: Callable[[Made], Made] = lambda made: made,
-    ) -> Made:
+        make: Callable[[Key], Value],
+        copy: Callable[[Value], Value] = lambda made: made,
+    ) -> Value:
         """Returns what is kept for a key, or makes it; a copy of that is kept."""
         found = self.made.get(key)
         if found is not None:
@@ -38,13 +38,13 @@ class Kept(Generic[Key, Made]):
         return found
 
 
-class Found(dict[Key, Made], Generic[Key, Made]):
+class Found(dict[Key, Value], Generic[Key, Value]):
     """What is found for keys when they are first asked for."""
 
-    def __init__(self, find: Callable[[Key], Made]) -> None:
+    def __init__(self, find: Callable[[Key], Value]) -> None:
         super().__init__()
         self.find = find
 
-    def __missing__(self, key: Key) -> Made:
+    def __missing__(self, key: Key) -> Value:
         found = self[key] = self.find(key)
         return found

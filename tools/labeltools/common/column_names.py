@@ -6,7 +6,7 @@ from collections import Counter
 from typing import Iterable, Sequence
 
 from labeltools.common.report import listed
-from labeltools.common.text import Text, counted
+from labeltools.common.text import counted, Text
 
 NUMBER = re.compile("[0-9]{1,15}(?:[.,][0-9]{1,9})?")
 
@@ -34,12 +34,12 @@ def is_repeated(cells: Iterable[str], names: Sequence[str]) -> bool:
     return len(filled) > 1 and all(cell == name for cell, name in filled)
 
 
-def row_of_names(rows: Iterable[tuple[int, Sequence[str]]], asked: Sequence[str]) -> int:
+def row_with_names(rows: Iterable[tuple[int, Sequence[str]]], asked: Sequence[str]) -> int:
     """Returns the first row that has every name that was asked for, once; 0 where there is none.
 
-    >>> row_of_names([(1, ["Preisliste"]), (5, ["EAN", "Name"])], ["EAN", "Name"])
+    >>> row_with_names([(1, ["Preisliste"]), (5, ["EAN", "Name"])], ["EAN", "Name"])
     5
-    >>> row_of_names([(1, ["a"])], ["EAN"])
+    >>> row_with_names([(1, ["a"])], ["EAN"])
     0
     """
     wanted = [name_of(one) for one in asked if not one.isdecimal()]

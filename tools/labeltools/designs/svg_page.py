@@ -21,9 +21,9 @@ from xml.etree import ElementTree
 from xml.etree.ElementTree import Element
 
 from labeltools.common.messages import ToolError
-from labeltools.layout.pango import library
-from labeltools.paper.stock import Size
 from labeltools.common.text import Text
+from labeltools.layout.pango import gi_library
+from labeltools.paper.stock import Size
 
 SPACE = "{http://www.w3.org/2000/svg}"
 BEGIN = '<svg xmlns="http://www.w3.org/2000/svg"'
@@ -201,7 +201,7 @@ def is_left_out(element: Element) -> bool:
 def rsvg() -> Any:
     """Returns librsvg; raises `ToolError` where it is not there."""
     try:
-        return library("Rsvg", "2.0")
+        return gi_library("Rsvg", "2.0")
     except (ImportError, ValueError) as error:
         hint = Text("apt-get install gir1.2-rsvg-2.0")
         raise ToolError(Text("{}: a design of SVG needs it", error), hint) from error
@@ -211,12 +211,12 @@ def handle_of(file: str, data: bytes, sheet: str = "") -> Any:
     """Returns what draws SVG; without the name of a file it reads no other one. Raises
     `ToolError`.
     """
-    stream = library("Gio", "2.0").MemoryInputStream.new_from_data(data)
+    stream = gi_library("Gio", "2.0").MemoryInputStream.new_from_data(data)
     try:
         flags = rsvg().HandleFlags.FLAGS_NONE
         handle = rsvg().Handle.new_from_stream_sync(stream, None, flags, None)
         handle.set_dpi(DPI)
         handle.set_stylesheet(sheet.encode())
-    except library("GLib", "2.0").Error as error:
+    except gi_library("GLib", "2.0").Error as error:
         raise ToolError(Text("{} is not SVG: {}", file, error.message)) from error
     return handle

@@ -1,0 +1,108 @@
+"""What labels need, and the frame that they have: places for their parts, alike for all of them.
+Lengths are in dots, those of texts in sizes of their letters.
+"""
+
+import math
+from dataclasses import dataclass
+from typing import Mapping, NamedTuple
+
+from labeltools.lines.symbologies import SYMBOLOGIES, Symbology
+from labeltools.paper.box import Box
+
+LINE = 1.2  # the distance of two base lines in sizes of letters
+LEAST_TEXT = 1.8  # millimetres: the smallest letters of texts
+DIGITS_ROOM = 10  # modules: the room of digits below bars
+LOWEST = 5.0  # millimetres: the lowest bars
+HINTING = 1.03  # by how much letters in dots may be larger than they are measured
+# sizes are equal for all if so many take part, or at the cost of no more than this
+MOST_OF = 0.9
+LEAST_SHARE = 0.75
+
+
+class Extent(NamedTuple):
+    """The width and height of the ink of a text, in sizes of its letters."""
+
+    width: float
+    height: float
+
+
+class Need(NamedTuple):
+    """What decides where the parts of a label are: the symbology, width and height of its code in
+    modules (bars without a height of their own have 1); the widths of the lines of its title, the
+    lines of its text and the width of the widest, the width and height of the ink of its price, the
+    widths of its old price and its unit price; 0 for what is not there.
+    """
+
+    symbology: str
+    width: int
+    height: int
+    title: tuple[float, ...]
+    lines: int
+    text: float
+    price: float
+    price_height: float
+    was: float
+    unit: float
+
+    @property
+    def code(self) -> tuple[str, int, int]:
+        """What is of the code alone."""
+        return self.symbology, self.width, self.height
+
+    @property
+    def kind(self) -> Symbology:
+        """The symbology."""
+        return SYMBOLOGIES[self.symbology]
+
+    @property
+    def is_bars(self) -> bool:
+        """Whether the code is bars."""
+        return self.kind.nominal > 0
+
+
+@dataclass(frozen=True)
+class Frame:
+    """Places for the parts of labels, from the left upper corner of the area: `code`, `title`,
+    `price`, `details`, and `text` where that is beside the code.
+
+    `sizes` are those of letters; `module` is that of bars, `bars` their height, `digits` the height
+    below them; `lines`, `text_lines` and `details_lines` are the most of each; `is_whole` is
+    whether most titles are.
+    """
+
+    kind: str
+    boxes: Mapping[str, Box]
+    sizes: Mapping[str, int]
+    module: int
+    bars: int
+    digits: int
+    lines: int
+    text_lines: int
+    details_lines: int
+    is_whole: bool
+    score: float
+
+
+def common_value(values: Mapping[float, int]) -> float:
+    """Returns what nine of ten values keep to, or the largest one where that is not much more.
+    Values are given with how often they come; 0 where there is none.
+
+    >>> [common_value(one) for one in ({1.0: 9, 1.2: 1}, {1.0: 9, 3.0: 1}, {1.0: 8, 3.0: 2})]
+    [1.2, 1.0, 3.0]
+    """
+    if not values:
+        return 0.0
+    most = max(values)
+    usual = ninth_of_ten(values)
+    return most if usual >= LEAST_SHARE * most else usual
+
+
+def ninth_of_ten(values: Mapping[float, int]) -> float:
+    """Returns the smallest value that nine of ten do not exceed."""
+    wanted = math.ceil(MOST_OF * sum(values.values()))
+    seen = 0
+    for value in sorted(values):
+        seen += values[value]
+        if seen >= wanted:
+            return value
+    return max(values)

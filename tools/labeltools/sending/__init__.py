@@ -1,0 +1,1 @@
+"""Where labels go: printers, files, and the journal of what was printed."""

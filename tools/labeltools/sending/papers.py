@@ -1,0 +1,217 @@
+"""The papers of a printer, as the file of its driver (PPD) or IPP says them, and where labels would
+be cut on them. Lengths are in millimetres.
+"""
+
+import math
+import re
+from collections.abc import Iterable, Iterator, Mapping, Sequence
+from dataclasses import dataclass
+from itertools import cycle, islice
+from typing import NamedTuple
+
+from labeltools.checking.compare import turned
+from labeltools.common.messages import BAD_ARGUMENTS, ToolError
+from labeltools.common.text import counted, Text
+from labeltools.designs.svg_layout import SvgLayout
+from labeltools.layout.layout import LaidOut
+from labeltools.paper.area import Dots, Edges, MILLIMETRES, POINTS
+from labeltools.paper.box import Box
+from labeltools.paper.stock import Size, size_text
+from labeltools.printing.press import Prepared
+
+POINT = MILLIMETRES / POINTS
+NEAR = 0.5  # by which a page may differ from a paper: drivers round to points
+HIDDEN = 0.2  # of a label that may be on the white edge, for the same reason
+NO_EDGES: Edges = (0.0, 0.0, 0.0, 0.0)
+OFFICE = ((210.0, 297.0), (215.9, 279.4))  # A4 and Letter
+NARROW = 20.0  # narrower papers only label printers have
+NUMBER = r"\s*(-?[0-9.]+)"
+NAMED = r"^\*{}\s+([^/:\s]+)[^:\n]*:\s*\"" + NUMBER + r"{}\s*\""
+DIMENSION = re.compile(NAMED.format("PaperDimension", NUMBER), re.MULTILINE)
+PRINTED = re.compile(NAMED.format("ImageableArea", NUMBER * 3), re.MULTILINE)
+CUSTOM = re.compile(r"^\*CustomPageSize\s+True", re.MULTILINE)
+SIDE = re.compile(
+    r"^\*ParamCustomPageSize\s+(Width|Height)(?:/[^:\n]*)?:\s*\d+\s+points" + NUMBER * 2,
+    re.MULTILINE,
+)
+MARGINS = re.compile(r"^\*HWMargins:" + NUMBER * 4, re.MULTILINE)
+# a name of PWG 5101.1, such as na_letter_8.5x11in; custom_min_ and custom_max_ have the ends
+PWG = re.compile(r"(custom_min|custom_max|.*)_([0-9.]+)x([0-9.]+)(mm|in)", re.ASCII)
+UNITS = {"mm": 1.0, "in": MILLIMETRES}
+SIDES = ("left", "top", "right", "bottom")
+HUNDREDTHS = 100.0
+
+
+class PrinterPaper(NamedTuple):
+    """A paper: its name, its sides, and the edges on which nothing is printed."""
+
+    name: str
+    size: Size
+    white: Edges
+
+
+@dataclass(frozen=True)
+class Papers:
+    """The papers that a printer has by name; the least and the largest sides of others, where it
+    takes such, and the edges of these.
+    """
+
+    known: Sequence[PrinterPaper] = ()
+    least: Size = (0.0, 0.0)
+    most: Size = (0.0, 0.0)
+    white: Edges = NO_EDGES
+
+    @property
+    def is_office(self) -> bool:
+        """Whether a printer of these papers is one for letters, and not for labels."""
+        if any(min(paper.size) < NARROW for paper in self.known):
+            return False
+        return any(is_near(paper.size, page) for paper in self.known for page in OFFICE)
+
+    def find(self, page: Size) -> PrinterPaper | None:
+        """Returns the paper of a page, whose name is empty if it has none; None where there is no
+        such paper. Drivers that take any size take none that is wider than all that they name.
+        """
+        for paper in self.known:
+            if is_near(paper.size, page):
+                return paper
+        widest = max((side for paper in self.known for side in paper.size), default=math.inf)
+        ends = zip(self.least, page, (min(self.most[0], widest), self.most[1]))
+        if all(least - NEAR <= side <= most + NEAR for least, side, most in ends):
+            return PrinterPaper("", page, self.white)
+        return None
+
+    def paper(self, printer: str, page: Size) -> PrinterPaper:
+        """Returns the paper of a page; raises `ToolError` where a printer has none. One of which
+        nothing is known has each.
+        """
+        if not self.known:
+            return PrinterPaper("", page, NO_EDGES)
+        found = self.find(page)
+        if found is not None:
+            return found
+        what = Text("{} has no paper of {}", printer, size_text(page))
+        other = (page[1], page[0])
+        if self.find(other):
+            hint = Text("it has {}: give the sides in this order", size_text(other))
+        else:
+            near = min((paper.size for paper in self.known), key=lambda size: apart(size, page))
+            hint = Text(
+                "the nearest that it has is {}; for labels on sheets give --stock, or --cell with "
+                "--columns and --rows",
+                size_text(near),
+            )
+        raise ToolError(what, hint, BAD_ARGUMENTS)
+
+
+def is_near(one: Size, other: Size) -> bool:
+    """Returns whether two sizes are one paper."""
+    return max(abs(one[0] - other[0]), abs(one[1] - other[1])) <= NEAR
+
+
+def apart(one: Size, other: Size) -> float:
+    """Returns by how much two sizes differ."""
+    return abs(one[0] - other[0]) + abs(one[1] - other[1])
+
+
+def papers_of_driver(text: str) -> Papers:
+    """Returns the papers that the file of a driver names.
+
+    >>> text = '*PaperDimension A4/A4: "595 842"\\n*ImageableArea A4/A4: "18 36 577 806"\\n'
+    >>> [(paper.name, round(paper.white[3], 1)) for paper in papers_of_driver(text).known]
+    [('A4', 12.7)]
+    """
+    text = text.replace("\r\n", "\n").replace("\r", "\n")
+    printed = {found[1]: in_millimetres(found.groups()[1:]) for found in PRINTED.finditer(text)}
+    known = []
+    for found in DIMENSION.finditer(text):
+        width, height = in_millimetres(found.groups()[1:])
+        left, bottom, right, top = printed.get(found[1], [0.0, 0.0, width, height])
+        white = (left, height - top, width - right, bottom)
+        known.append(PrinterPaper(found[1], (width, height), at_least_none(white)))
+    sides = {found[1]: in_millimetres(found.groups()[1:]) for found in SIDE.finditer(text)}
+    if not CUSTOM.search(text) or len(sides) < len(("Width", "Height")):
+        return Papers(known)
+    ends = tuple(zip(sides["Width"], sides["Height"]))
+    margins = MARGINS.search(text)
+    left, bottom, right, top = in_millimetres(margins.groups()) if margins else NO_EDGES
+    return Papers(known, ends[0], ends[1], (left, top, right, bottom))
+
+
+def papers_of_ipp(attributes: Mapping[str, object]) -> Papers:
+    """Returns the papers that a printer names by IPP. Its edges are for all papers the least that
+    are some: of those without any it enlarges what it prints.
+    """
+    white = []
+    for side in SIDES:
+        found = ipp_values(attributes.get(f"media-{side}-margin-supported"))
+        numbers = (float(one) / HUNDREDTHS for one in found if isinstance(one, int) and one)
+        white.append(min(numbers, default=0.0))
+    edges = white[0], white[1], white[2], white[3]
+    known, least, most = [], (0.0, 0.0), (0.0, 0.0)
+    for name in ipp_values(attributes.get("media-supported")):
+        match = PWG.fullmatch(str(name))
+        if not match:
+            continue
+        size = float(match[2]) * UNITS[match[4]], float(match[3]) * UNITS[match[4]]
+        if match[1] == "custom_min":
+            least = size
+        elif match[1] == "custom_max":
+            most = size
+        else:
+            known.append(PrinterPaper(str(name), size, edges))
+    return Papers(known, least, most, edges)
+
+
+def ipp_values(value: object) -> Sequence[object]:
+    """Returns the values of an attribute of IPP."""
+    return value if isinstance(value, list) else [] if value is None else [value]
+
+
+def in_millimetres(numbers: Iterable[str]) -> list[float]:
+    """Returns points in millimetres."""
+    return [float(number) * POINT for number in numbers]
+
+
+def at_least_none(white: Edges) -> Edges:
+    """Returns edges of which none is beyond the paper."""
+    left, top, right, bottom = (max(0.0, side) for side in white)
+    return left, top, right, bottom
+
+
+def check_edges(printer: str, paper: PrinterPaper, found: Prepared) -> None:
+    """Raises `ToolError` where codes or letters are on the edges of a paper on which a printer
+    prints nothing.
+    """
+    plan, area = found.job.plan, found.laid_out.area
+    left, top = (round((side - HIDDEN) / plan.dot) for side in paper.white[:2])
+    right = plan.page[0] - round((paper.white[2] - HIDDEN) / plan.dot)
+    bottom = plan.page[1] - round((paper.white[3] - HIDDEN) / plan.dot)
+
+    def is_cut(box: Box, place: Dots) -> bool:
+        on_page = turned(box, (area.width, area.height), 1) if area.is_turned else box
+        across, down = place[0] + on_page.left, place[1] + on_page.top
+        is_in = left <= across and top <= down and across + on_page.width <= right
+        return not (is_in and down + on_page.height <= bottom)
+
+    whole = Box(0, 0, area.width, area.height)
+    near = {place for place in plan.places if is_cut(whole, place)}
+    places = cycle(plan.places)
+    used = zip(found.prints, islice(places, found.job.options.first - 1, None)) if near else ()
+    cut = sum(
+        place in near and any(is_cut(box, place) for box in boxes_of(item)) for item, place in used
+    )
+    if cut:
+        edges = ",".join(f"{math.ceil(10 * side) / 10:g}" for side in paper.white)
+        what = counted("{} label would be cut", "{} labels would be cut", cut)
+        where = Text("{} prints nothing on the edge of this paper", printer)
+        raise ToolError(Text("{}: {}", where, what), Text("give --edge {}", edges), BAD_ARGUMENTS)
+
+
+def boxes_of(item: LaidOut) -> Iterator[Box]:
+    """Yields where a label has codes and letters, in its area."""
+    if isinstance(item.layout, SvgLayout):
+        yield from (symbol.box for symbol in item.layout.symbols)
+        yield from (box for _, _, box, _ in item.layout.texts)
+    else:
+        yield from item.layout.boxes.values()
