@@ -11,8 +11,6 @@
 - Each crate has a page of at most 40 lines. Each line of a block of Rust in it, but for imports and comments, is a
   line of the function page_of_NAME in crates/tests/src/pages.rt, in the same order, white space apart; of the page of
   `command` it is one of the `main` in crates/labels/src/main.rt.
-- README.md has at most MOST_OF_README lines, and it and docs/*.md have at most MOST_BY_HAND lines by hand. All lines
-  count, blank ones too, but what scripts make or compare name by name: tables of MADE, and what is between marks.
 - Pages, manuals and messages together have at most MOST_ODD of the words of ODD, which natural English has not.
 - A number of a page that a step of the gate counts is the one in scripts/counts.txt.
 
@@ -30,9 +28,7 @@ from typing import Iterable, Iterator, Mapping
 from markdown_it import MarkdownIt
 from markdown_it.token import Token
 
-import believed
 import gate
-import instructions
 import sources
 
 # The pages whose commands run_recipes.py runs.
@@ -50,11 +46,6 @@ CODE = (
     *("crates/*/src/**/*.rt", "crates/*/specs/*.antt", "crates/*/proofs/**/*.antt"),
     *("lib/**/*.*", "lib/Makefile", "scripts/*.py"),
 )
-# What believed.py writes, and the first two cells of the heads of tables that it and instructions.py make or compare.
-MARKED = re.compile(f"^{believed.BEGIN}$.*?^{believed.END}\n", re.MULTILINE | re.DOTALL)
-MADE = (["Name", "What it means"], *instructions.HEADS)
-MOST_BY_HAND = 1650
-MOST_OF_README = 110
 WITHOUT_EXAMPLE = {"labels", "labels_c", "examples", "tests"}
 LONGEST = 40
 FILE = re.compile(r"\b(?:crates/[\w/]+\.rt|lib/[\w/]+\.\w+)\b")
@@ -192,39 +183,6 @@ def links_of(text: str) -> Iterator[tuple[int, str]]:
         yield from ((start + 1, link) for link in links if link and ":" not in link)
 
 
-def cells_of(line: str) -> list[str]:
-    """The cells of a line of a table, without the spaces around them."""
-    return [cell.strip() for cell in re.split(r"(?<!\\)\|", line.strip())[1:-1]]
-
-
-def made_lines(page: str) -> int:
-    """How many lines of a page scripts make: what is between believed.py's marks, and the tables of MADE."""
-    marked = [part[0] for part in MARKED.finditer(page)]
-    count, is_made, is_in_table = sum(part.count("\n") for part in marked), False, False
-    for line in MARKED.sub("", page).split("\n"):
-        if line.startswith("|") and not is_in_table:
-            is_made = cells_of(line)[:2] in MADE
-        is_in_table = line.startswith("|")
-        count += is_in_table and is_made
-    return count
-
-
-def lines_by_hand(pages: Mapping[str, str]) -> int:
-    """How many lines of README.md and docs/*.md no script makes."""
-    counted = [text for path, text in pages.items() if path == README or path.startswith("docs/")]
-    return sum(text.count("\n") - made_lines(text) for text in counted)
-
-
-def faults_of_length(pages: Mapping[str, str]) -> Iterator[str]:
-    """Which limits of lines the pages pass."""
-    for what, count, most in (
-        (README, pages[README].count("\n"), MOST_OF_README),
-        ("pages by hand", lines_by_hand(pages), MOST_BY_HAND),
-    ):
-        if count > most:
-            yield f"{what}: {count} lines, and at most {most} are wanted"
-
-
 def prose_of(path: str, text: str) -> str:
     """What a page or a manual says, without code, or the English texts of a file of messages; lines stay in place."""
     if path.endswith(".po"):
@@ -319,7 +277,7 @@ def main() -> int:
     sources.parser_of(__doc__).parse_args()
     os.chdir(sources.TOP)
     pages = texts()
-    faults = [*faults_of_length(pages), *faults_of_words(prose()), *faults_of_counts(pages)]
+    faults = [*faults_of_words(prose()), *faults_of_counts(pages)]
     count = links = 0
     names = sum(len([*names_in(pages[page])]) for page in NAMING)
     for page, text in pages.items():

@@ -63,7 +63,6 @@ MOVED = {
 }
 NOQA = f"# {'noqa'}"
 END, HANDLES = "\n## ", "Handles allowed: none."
-MANY = "\n" * 10
 # What is written in the place of a text, the first one in a file, for each step, and what that step says.
 CHANGED = {
     "lints.py": (
@@ -87,8 +86,6 @@ CHANGED = {
         ("docs/PROOF.md", "`Buffered::prove_reached`", "`Buffered::nought`", "no `Buffered::nought` in the code"),
         ("docs/PROOF.md", "believed definitions", "definitions", "docs/PROOF.md: no operator of"),
         ("scripts/counts.txt", "3715 changes", "3716 changes", "docs/PROOF.md: one at a time: 3,715"),
-        ("README.md", END, f"{2 * MANY}{END}", "README.md: 1"),
-        ("docs/DECISIONS.md", END, f"{MANY * 99}{END}", "pages by hand: "),
         (
             "README.md",
             "](docs/PROOF.md",

@@ -20,7 +20,6 @@ compare_symbols = module("compare_symbols")
 read_foreign = module("read_foreign")
 edits = module("edits")
 instructions = module("instructions")
-believed = module("believed")
 pages = module("pages")
 run_recipes = module("run_recipes")
 pictures = module("pictures")
@@ -456,15 +455,6 @@ class Judges(unittest.TestCase):
             ('"a, b" http://c', ' "a, b" http : / / c '),
         ):
             self.assertEqual(pages.words_of(code), words)
-
-    def test_lines_by_hand(self) -> None:
-        """Each line counts, but of the tables that scripts make, and only of README.md and docs/*.md."""
-        made = (
-            f"| Name | What it means |\n|---|---|\n| `Bool` | yes |\n\n{believed.BEGIN}\n\n| One |\n\n{believed.END}\n"
-        )
-        text = f"# A page\n\n{made}\n| Name | Use |\n|---|---|\n| `Bool` | a test |\n"
-        for path, count in (("README.md", 7), ("docs/A.md", 7), ("CONTRIBUTING.md", 0), ("crates/a/README.md", 0)):
-            self.assertEqual((path, pages.lines_by_hand({path: text})), (path, count))
 
     def test_odd_words(self) -> None:
         right = "Look where it is, by `where` or --where.\n```sh\nwhere alone\n```\n"
