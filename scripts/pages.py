@@ -3,9 +3,9 @@
 
 - Each block of code is closed, and its language is one that a script reads: text, one of those below, and sh, sh kit
   and console on the pages alone that run_recipes.py runs.
-- Code is quoted as it is: each block of a program's language in docs/LIBRARY.md and docs/PROOF.md, and each block of
-  text that begins with a clause (`ensures`), is in a file crates/*.rt or lib/* that the page names before it, line by
-  line, but for the spaces in front. A block below a line `Not checked:` is left out.
+- Code is quoted as it is: each block of a program's language in docs/LIBRARY.md and docs/PROOF-REFERENCE.md, and each
+  block of text that begins with a clause (`ensures`), is in a file crates/*.rt or lib/* that the page names before it,
+  line by line, but for the spaces in front. A block below a line `Not checked:` is left out.
 - Each link from one file of the repository to another leads to a file and a heading.
 - Each name between backticks in the pages of NAMING, such as `Filter::feed`, is of words that the code has.
 - Each crate has a page of at most 40 lines. Each line of a block of Rust in it, but for imports and comments, is a
@@ -39,9 +39,13 @@ COMMANDS = {"sh", "sh kit", "console"}
 LANGUAGES = {"text", *COMMANDS, *QUOTED}
 # What a command of a session is behind.
 PROMPT = "$ "
-QUOTING = ("docs/LIBRARY.md", "docs/PROOF.md")
+REFERENCE = "docs/PROOF-REFERENCE.md"
+QUOTING = ("docs/LIBRARY.md", REFERENCE)
 # The pages that name the code, and the files that have its words.
-NAMING = tuple(f"docs/{name}.md" for name in ("ARCHITECTURE", "DEFINITIONS", "LIBRARY", "PROOF", "SPECIFICATION"))
+NAMING = (
+    *(f"docs/{name}.md" for name in ("ARCHITECTURE", "DEFINITIONS", "LIBRARY", "SPECIFICATION")),
+    *("docs/PROOF.md", "docs/PROOF-READING.md", REFERENCE),
+)
 CODE = (
     *("crates/*/src/**/*.rt", "crates/*/specs/*.antt", "crates/*/proofs/**/*.antt"),
     *("lib/**/*.*", "lib/Makefile", "scripts/*.py"),
@@ -58,21 +62,16 @@ OF_COMMAND = "crates/labels/src/main.rt"
 NOT_CHECKED = "Not checked:"
 # What pages say, with the step whose line in scripts/counts.txt has the number, and how it is found there.
 IN_PAGES = (
-    ("docs/PROOF.md", r"read all ([\d,]+) labels\s+back", "compare_symbols.py", r"(\d+) read back"),
-    ("docs/PROOF.md", r"drew the same ([\d,]+) symbols", "compare_symbols.py", r"(\d+) of \1 as zint"),
-    ("docs/PROOF.md", r"each of ([\d,]+)\s+simulated\s+out-of-memory", "refuse_each_growth.py", r"^(\d+) growths"),
-    (
-        "docs/BENCHMARKS.md",
-        r"read all ([\d,]+) symbols of five programs",
-        "read_foreign.py",
-        r"(\d+) read as asked",
-    ),
-    ("docs/PROOF.md", r"operator of ([\d,]+) believed definitions", "believed_rows.py", r"of (\d+) definitions"),
-    ("docs/PROOF.md", r"one at a time: ([\d,]+)\s+changes", "believed_rows.py", r"^(\d+) changes"),
-    ("docs/PROOF.md", r"They are ([\d,]+) of", "believed_rows.py", r"(\d+) of \d+ behind the program"),
-    ("docs/PROOF.md", r"of ([\d,]+) behind the\s+program", "believed_rows.py", r"of (\d+) behind the program"),
-    ("docs/PROOF.md", r"and ([\d,]+) of\s+\d+\s+behind", "believed_rows.py", r"(\d+) of \d+ behind the library"),
-    ("docs/PROOF.md", r"of ([\d,]+) behind the\s+library", "believed_rows.py", r"of (\d+) behind the library"),
+    (REFERENCE, r"read\s+all\s+([\d,]+)\s+labels\s+back", "compare_symbols.py", r"(\d+) read back"),
+    (REFERENCE, r"drew\s+the\s+same\s+([\d,]+)\s+symbols", "compare_symbols.py", r"(\d+) of \1 as zint"),
+    (REFERENCE, r"of\s+([\d,]+)\s+simulated\s+out-of-memory", "refuse_each_growth.py", r"^(\d+) growths"),
+    (REFERENCE, r"read\s+all\s+([\d,]+)\s+symbols\s+of\s+five", "read_foreign.py", r"(\d+) read as asked"),
+    (REFERENCE, r"operator\s+of\s+([\d,]+)\s+believed\s+definitions", "believed_rows.py", r"of (\d+) definitions"),
+    (REFERENCE, r"one\s+at\s+a\s+time:\s+([\d,]+)\s+changes", "believed_rows.py", r"^(\d+) changes"),
+    (REFERENCE, r"contract\s+rests\s+on,\s+([\d,]+)", "believed_rows.py", r"(\d+) of \d+ behind the program"),
+    (REFERENCE, r"([\d,]+)\s+definitions\s+that\s+the", "believed_rows.py", r"of (\d+) behind the program"),
+    (REFERENCE, r"library's\s+[\d,]+,\s+([\d,]+)", "believed_rows.py", r"(\d+) of \d+ behind the library"),
+    (REFERENCE, r"of\s+the\s+library's\s+([\d,]+),", "believed_rows.py", r"of (\d+) behind the library"),
 )
 MARKDOWN = MarkdownIt().enable("table")
 # What is written as in a translation: "where" for if (a place has one of the words after it), "alone" for only, "is

@@ -62,6 +62,7 @@ MOVED = {
     "run_tests.py scripts/tests": (("scripts/tests", "scripts/t", "there is no folder scripts/tests"),),
 }
 NOQA = f"# {'noqa'}"
+REFERENCE = "docs/PROOF-REFERENCE.md"
 END, HANDLES = "\n## ", "Handles allowed: none."
 # What is written in the place of a text, the first one in a file, for each step, and what that step says.
 CHANGED = {
@@ -80,12 +81,12 @@ CHANGED = {
         ("docs/INPUT.md", "](PRINTING.md", "](PRINTIN.md", "a link to no file: PRINTIN.md"),
         ("docs/INPUT.md", END, f"\n~~~rust\nfn a() {{}}\n~~~\n{END}", "no script reads blocks of ~~~"),
         ("docs/INPUT.md", END, f"\n```\nlabels\n```\n{END}", "no script reads blocks of no language"),
-        ("docs/PROOF.md", "ensures whole {", "ensures half {", "this code is in no file"),
-        ("docs/PROOF.md", "src/streams.rt", "src/stream.rt", "this code is in no file"),
+        (REFERENCE, "ensures whole {", "ensures half {", "this code is in no file"),
+        (REFERENCE, "src/streams.rt", "src/stream.rt", "this code is in no file"),
         ("docs/INPUT.md", "```console\n$ ", "```console\n", "this session does not begin with a prompt"),
-        ("docs/PROOF.md", "`Buffered::prove_reached`", "`Buffered::nought`", "no `Buffered::nought` in the code"),
-        ("docs/PROOF.md", "believed definitions", "definitions", "docs/PROOF.md: no operator of"),
-        ("scripts/counts.txt", "3715 changes", "3716 changes", "docs/PROOF.md: one at a time: 3,715"),
+        (REFERENCE, "`Buffered::prove_reached`", "`Buffered::nought`", "no `Buffered::nought` in the code"),
+        (REFERENCE, "believed definitions", "definitions", f"{REFERENCE}: no operator"),
+        ("scripts/counts.txt", "3715 changes", "3716 changes", f"{REFERENCE}: one at a time: 3,715"),
         (
             "README.md",
             "](docs/PROOF.md",
