@@ -1,5 +1,5 @@
 #!/usr/bin/python3
-"""Checks the pages against the files that they speak of: *.md, docs/*.md and crates/*/README.md.
+"""Checks the pages against the files that they speak of: *.md, docs/*.md, designs/*.md and crates/*/README.md.
 
 - Each block of code is closed, and its language is one that a script reads: text, one of those below, and sh, sh kit
   and console on the pages alone that run_recipes.py runs.
@@ -11,10 +11,10 @@
 - Each crate has a page of at most 40 lines. Each line of a block of Rust in it, but for imports and comments, is a
   line of the function page_of_NAME in crates/tests/src/pages.rt, in the same order, white space apart; of the page of
   `command` it is one of the `main` in crates/labels/src/main.rt.
-- Pages, manuals and messages together have at most MOST_ODD of the words of ODD, which natural English has not.
 - A number of a page that a step of the gate counts is the one in scripts/counts.txt.
 
 The last line is `N pages, L links, B blocks, K names, F faults`. A fault is a line before it, and makes the status 1.
+A paragraph of more than MOST_WORDS words is a line before it too, but no fault: nobody reads such a paragraph once.
 """
 
 import functools
@@ -50,6 +50,7 @@ CODE = (
     *("crates/*/src/**/*.rt", "crates/*/specs/*.antt", "crates/*/proofs/**/*.antt"),
     *("lib/**/*.*", "lib/Makefile", "scripts/*.py"),
 )
+MOST_WORDS = 90
 WITHOUT_EXAMPLE = {"labels", "labels_c", "examples", "tests"}
 LONGEST = 40
 FILE = re.compile(r"\b(?:crates/[\w/]+\.rt|lib/[\w/]+\.\w+)\b")
@@ -74,15 +75,6 @@ IN_PAGES = (
     (REFERENCE, r"of\s+the\s+library's\s+([\d,]+),", "believed_rows.py", r"of (\d+) behind the library"),
 )
 MARKDOWN = MarkdownIt().enable("table")
-# What is written as in a translation: "where" for if (a place has one of the words after it), "alone" for only, "is
-# said" for is reported; and where that is looked for: pages and manuals, but for code, and messages of the tools.
-ODD = re.compile(
-    r"(?<!-)\b(?:where(?! (?:to|it is|it begins|they are)\b)|alone|(?:is|are) said|of one's own|anew|behind the)\b",
-    re.I,
-)
-MOST_ODD = 15
-PROSE = (README, "CONTRIBUTING.md", "docs/*.md", "designs/*.md", "man/*", "tools/po/de.po")
-CODE_IN_PROSE = re.compile(r"```.*?```|`[^`\n]*`", re.DOTALL)
 
 
 @dataclass(frozen=True)
@@ -102,7 +94,7 @@ class Block:
 def texts() -> dict[str, str]:
     """The text of each page, by its path."""
     crates = [f"crates/{name}/README.md" for name in sources.crates_of(sources.TOP)]
-    paths = [*sorted(glob.glob("*.md")), *sorted(glob.glob("docs/*.md")), *crates]
+    paths = [*(path for folder in ("", "docs/", "designs/") for path in sorted(glob.glob(f"{folder}*.md"))), *crates]
     missing = [path for path in dict.fromkeys((*paths, *RUN, *QUOTING, *NAMING)) if not os.path.isfile(path)]
     if missing:
         sys.exit("\n".join(f"there is no {path}" for path in missing))
@@ -182,29 +174,14 @@ def links_of(text: str) -> Iterator[tuple[int, str]]:
         yield from ((start + 1, link) for link in links if link and ":" not in link)
 
 
-def prose_of(path: str, text: str) -> str:
-    """What a page or a manual says, without code, or the English texts of a file of messages; lines stay in place."""
-    if path.endswith(".po"):
-        return re.sub("^(?!msgid).*", "", text, flags=re.MULTILINE)
-    return CODE_IN_PROSE.sub(lambda found: "\n" * found[0].count("\n"), text)
-
-
-def odd_words(path: str, text: str) -> Iterator[str]:
-    """The words of ODD in a file, each with its line."""
-    for number, line in enumerate(prose_of(path, text).split("\n"), 1):
-        yield from (f"{path}:{number}: {found[0]}: {line.strip()}" for found in ODD.finditer(line))
-
-
-def prose() -> dict[str, str]:
-    """The text of each file of PROSE, by its path."""
-    return {path: sources.read(path) for pattern in PROSE for path in sorted(glob.glob(pattern))}
-
-
-def faults_of_words(files: Mapping[str, str]) -> Iterator[str]:
-    """The words of ODD in some files, if there are too many."""
-    found = [odd for path, text in files.items() for odd in odd_words(path, text)]
-    if len(found) > MOST_ODD:
-        yield from (*found, f"{len(found)} odd words, and at most {MOST_ODD} are wanted")
+def long_paragraphs(text: str) -> Iterator[tuple[int, int]]:
+    """The paragraphs of a page that are too long, each with the number of its line, and how many words it has."""
+    tokens = parsed(text)
+    for before, token in zip(tokens, tokens[1:]):
+        count = len(token.content.split())
+        if before.type == "paragraph_open" and count > MOST_WORDS:
+            start, _ = token.map or (0, 0)
+            yield start + 1, count
 
 
 def names_in(text: str) -> Iterator[tuple[int, str]]:
@@ -276,13 +253,15 @@ def main() -> int:
     sources.parser_of(__doc__).parse_args()
     os.chdir(sources.TOP)
     pages = texts()
-    faults = [*faults_of_words(prose()), *faults_of_counts(pages)]
+    faults = [*faults_of_counts(pages)]
     count = links = 0
     names = sum(len([*names_in(pages[page])]) for page in NAMING)
     for page, text in pages.items():
         blocks = [*blocks_of(text)]
         count += len(blocks)
         links += len([*links_of(text)])
+        for line, words in long_paragraphs(text):
+            print(f"{page}:{line}: a paragraph of {words} words is long")
         found = [*faults_of_blocks(page, blocks)]
         found += [(line, fault) for line, link in links_of(text) if (fault := fault_of_link(page, link))]
         if page in NAMING:
