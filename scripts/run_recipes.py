@@ -14,9 +14,9 @@ a prompt has to end with status 0 and may print anything; it runs in labels.1 al
 name files of the reader.
 
 Besides, the pictures that draw_pictures.sh makes after the commands of designs/README.md must be those of
-docs/pictures but window.png, pixel for pixel. The last line is `N of N as printed`; where one is not, the status is 1.
-In each run this is shown wrong cases first, each of which it has to report: commands that print something else than
-the page says, if only in the last letter, one that fails, and pictures that are others, if only in one pixel.
+docs/pictures but those of the window, pixel for pixel. The last line is `N of N as printed`; where one is not, the
+status is 1. In each run this is shown wrong cases first, each of which it has to report: commands that print something
+else than the page says, if only in the last letter, one that fails, and other pictures, if only in one pixel.
 """
 
 import contextlib
@@ -36,8 +36,8 @@ import sources
 
 TOP = Path(sources.TOP)
 PICTURES = TOP / "docs/pictures"
-# A picture of the window: themes and fonts of a desktop make it another one, so it is drawn by hand.
-OF_A_SCREEN = "window.png"
+# Pictures of the window: themes and fonts of a desktop make them others, so they are drawn by hand.
+OF_A_SCREEN = ("window.png", "window-steps.png")
 PROGRAM = "crates/labels/out/labels"
 FOLDERS = ("man", "completions", "tools", "lib", "docs", "scripts", "designs", "examples")
 SECONDS = 3600
@@ -169,7 +169,7 @@ def faults_of(name: str, commands: Sequence[Commands], program: Path) -> Iterato
         if name == PICTURED:
             yield DRAWN.fault(work, environment)
             for picture in sorted(PICTURES.iterdir()):
-                if picture.name != OF_A_SCREEN:
+                if picture.name not in OF_A_SCREEN:
                     yield fault_of_picture(picture, work / picture.name)
 
 
