@@ -14,8 +14,8 @@
 - A number of a page that a step of the gate counts is the one in scripts/counts.txt.
 
 The last line is `N pages, L links, B blocks, K names, M numbers, F faults`. A fault is a line before it, and makes the
-status 1. A paragraph of more than MOST_WORDS words is a line before it too, but no fault: nobody reads such a paragraph
-once.
+status 1. A paragraph of more than MOST_WORDS words is a line before it too, but no fault: such a paragraph is read
+twice, or not at all.
 """
 
 import functools
