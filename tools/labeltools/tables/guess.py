@@ -8,11 +8,11 @@ some kind. Where two are named so, the keeper is asked.
 
 import re
 import unicodedata
-from collections.abc import Callable, Iterable, Mapping, Sequence
+from collections.abc import Callable, Iterator, Mapping, Sequence
 from contextlib import suppress
 from dataclasses import dataclass, field, replace
 from enum import IntEnum
-from functools import cached_property, partial
+from functools import cache, cached_property, partial
 from itertools import islice, takewhile, zip_longest
 from pathlib import Path
 from typing import NamedTuple
@@ -28,7 +28,7 @@ from labeltools.tables.money import parse
 from labeltools.tables.table import head_of
 from labeltools.tables.table_options import TableOptions
 
-COLUMN_WORDS = lists_of(Path(__file__).with_name("columns.list"))
+COLUMN_WORDS = Path(__file__).with_name("columns.list")
 # what may be the number of an article: three digits and more, but neither a date nor a count
 ARTICLE = re.compile(
     r"(?!\d{1,4}[./-]\d{1,2}[./-]\d{1,4}\Z)(?=(?:.*[0-9]){3})(?:(?=.*[A-Za-z])|(?=[^.]{5}))"
@@ -42,9 +42,10 @@ FIGURES = re.compile(r"[\W_]*[0-9][\W\d_]*")  # a date or an amount, which is no
 LETTERS = re.compile(r"(?:[^\W\d][\W\d]*){3}")  # those that a title has
 NO_BARS = re.compile(".*://.*|.{31,}")
 TAG = re.compile(r"\s*<[a-z][^<>]*>.*", re.DOTALL | re.IGNORECASE)  # what HTML begins with
-HUMP = re.compile("(?<=[a-z])(?=[A-Z])|(?<=[A-Z]{2})(?=[A-Z][a-z]{2})")  # as in `salePrice`
+HUMP = re.compile("(?<=[a-z]{2})(?=[A-Z])|(?<=[A-Z]{2})(?=[A-Z][a-z]{2})")  # as in `salePrice`
 # letters that Unicode does not take apart, and one that is a letter of its own
 FOLDED = str.maketrans({**dict(zip("łøđðı", "loddi")), "å": "aa", "%": " percent "})
+MOST_IN_ONE = 4  # words that count as one
 SAMPLE = 300  # rows that are looked at
 PAID = ("prices", "taxed", "paid", "beside-prices")  # the words of a plain price
 TITLES = ("titles", "parts", "articles", "descriptions")
@@ -70,21 +71,38 @@ def folded(text: str) -> str:
     return unicodedata.normalize("NFC", bare)
 
 
-def pattern_of(words: Iterable[str]) -> re.Pattern[str]:
-    """Returns what words match: `ab-` is how one begins, `-ab` how one ends."""
-    return re.compile("|".join(re.escape(folded(one)).replace("\\-", ".*") for one in words))
+class Words:
+    """Words of the names of columns: `ab-` is how one begins, `-ab` how one ends."""
+
+    def __init__(self, words: Sequence[str]) -> None:
+        self.all = frozenset(map(folded, words))
+        self.starts = tuple(word[:-1] for word in self.all if word[-1] == "-")
+        self.ends = tuple(word[1:] for word in self.all if word[0] == "-")
+
+    def has(self, word: str) -> bool:
+        """Returns whether a word is one of them."""
+        return word in self.all or word.startswith(self.starts) or word.endswith(self.ends)
 
 
-WORDS = {kind: pattern_of(words) for kind, words in COLUMN_WORDS.items()}
-# words that count as one, the longest first
-SEVERAL = re.compile(
-    r"\b(?:%s)\b"
-    % "|".join(
-        folded(one).replace("_", " ")
-        for one in sorted({*sum(COLUMN_WORDS.values(), [])}, key=len, reverse=True)
-        if "_" in one
-    )
-)
+@cache
+def column_words() -> Mapping[str, Words]:
+    """Returns the words by their kinds, and those that are several in one by no kind."""
+    lists = lists_of(COLUMN_WORDS)
+    several = [word for words in lists.values() for word in words if "_" in word]
+    return {"": Words(several), **{kind: Words(words) for kind, words in lists.items()}}
+
+
+def words_in(name: str) -> Iterator[str]:
+    """Yields the words of the name of a column; some that stand together are one.
+
+    >>> [*words_in("Prix de réf. (inkl. MwSt)")]
+    ['prix', 'de', 'ref', 'inkl_mwst']
+    """
+    words = re.findall(r"[^\W\d_]+", folded(HUMP.sub(" ", name)))
+    while words:
+        both = ("_".join(words[:count]) for count in range(MOST_IN_ONE, 1, -1))
+        yield (found := next(filter(column_words()[""].has, both), words[0]))
+        del words[: found.count("_") + 1]
 
 
 class Plainness(IntEnum):
@@ -111,23 +129,12 @@ class ColumnSample:
 
     @cached_property
     def words(self) -> frozenset[str]:
-        """The words of its name, in small letters without accents; some that stand together are
-        one.
-
-        >>> sorted(ColumnSample("Prix de réf. (inkl. MwSt)", ()).words)
-        ['de', 'inkl_mwst', 'prix', 'ref']
-        """
-        letters = " ".join(re.findall(r"[^\W\d_]+", folded(HUMP.sub(" ", self.name))))
-        return frozenset(SEVERAL.sub(lambda it: it[0].replace(" ", "_"), letters).split())
+        """The words of its name, in small letters without accents."""
+        return frozenset(words_in(self.name))
 
     def has(self, test: Callable[[str], object]) -> bool:
         """Returns whether most of its texts pass a test; those that it refuses do not."""
         return bool(self.texts) and passing_share(self.texts, test) >= LEAST
-
-    @property
-    def is_of_each(self) -> bool:
-        """Whether most rows have a text in it, each another one."""
-        return self.differing == 1 and self.filled >= LEAST
 
     @cached_property
     def differing(self) -> float:
@@ -140,8 +147,8 @@ class ColumnSample:
         >>> sorted(ColumnSample("EK netto, Einkaufspreis, VK, Aktion", ()).says("cost", "net"))
         ['einkaufspreis', 'ek', 'netto']
         """
-        lists = [WORDS[kind] for kind in kinds]
-        return frozenset(word for word in self.words if any(one.fullmatch(word) for one in lists))
+        lists = [column_words()[kind] for kind in kinds]
+        return frozenset(word for word in self.words if any(one.has(word) for one in lists))
 
     def plainness(self, *kinds: str) -> Plainness:
         """Returns how plainly its name says what it is by words of these kinds."""
@@ -165,6 +172,13 @@ class ColumnSample:
         if self.says("articles", "descriptions"):
             return 3 if is_plain else 4, plainness
         return 5, Plainness.OF_SOME_KIND
+
+    @property
+    def code_rank(self) -> Plainness:
+        """How plainly its name says that it has codes, or numbers of single things."""
+        is_named = self.says("codes", "own-numbers")
+        rank = self.plainness("codes", "own-numbers", "beside-codes")
+        return rank if is_named else Plainness.OF_SOME_KIND
 
     @property
     def price_rank(self) -> Plainness:
@@ -277,7 +291,7 @@ def with_shared_words(columns: Sequence[ColumnSample]) -> list[ColumnSample]:
     """
     beside = []
     for one in columns:
-        known = one.says(*WORDS)
+        known = one.says(*column_words())
         is_price = one.says("prices", "priced", "sale", "cost", "net")
         beside.append(one.words - known if known and not is_price else frozenset())
     return [
@@ -304,13 +318,16 @@ def code_columns(columns: Sequence[ColumnSample]) -> Places:
     named so, else those with another number in each row. Of several the plain name is meant.
     """
     sure: dict[tuple[str, ...], int] = {}
+    own = []  # numbers of another kind, which are named as codes
     for at, one in enumerate(columns):
         is_constant = len(one.texts) > 1 == len(set(one.texts))  # as the number of one supplier
         if (one.has(is_code) or has_lost_zeros(one)) and not is_constant:
-            bare = ("".join(filter(str.isalnum, text)).lstrip("0") for text in one.texts)
-            sure.setdefault(tuple(bare), at)  # a UPC-A may be there as an EAN-13, too
+            bare = tuple("".join(filter(str.isalnum, it)).lstrip("0") for it in one.texts)
+            both = sure.get(bare, at), at  # a UPC-A may be there as an EAN-13, too
+            sure[bare] = min(both, key=lambda it: columns[it].code_rank)
+        elif one.code_rank is Plainness.PLAIN and one.differing == 1 and one.filled >= LEAST:
+            own.append(at)
     named = [at for at, one in enumerate(columns) if one.texts and one.says("codes", "own-numbers")]
-    ranks = {at: columns[at].plainness("codes", "own-numbers", "beside-codes") for at in named}
     numbers = [
         at
         for at, one in enumerate(columns)
@@ -319,16 +336,14 @@ def code_columns(columns: Sequence[ColumnSample]) -> Places:
     ]
     numbers = [at for at in numbers if not columns[at].says("others")] or numbers
     short = [at for at, one in enumerate(columns) if one.differing == 1 and one.says("numbers")]
-    plain = [at for at in named if ranks[at] is Plainness.PLAIN and columns[at].is_of_each]
-    both = sorted({*sure.values(), *plain}) if sure else named
-    first = min((ranks.get(at, Plainness.OF_SOME_KIND) for at in both), default=0)
-    best = [at for at in both if ranks.get(at, Plainness.OF_SOME_KIND) == first]
-    best = best or numbers or short
+    found = sorted([*sure.values(), *own]) if sure else named
+    first = min((columns[at].code_rank for at in found), default=0)
+    best = [at for at in found if columns[at].code_rank == first] or numbers or short
     if len(best) != 1:
         return Places(best)
     one = columns[best[0]]
-    is_sure = both or one.says("numbers") or not one.words
-    return Places(both or best, best[0] if is_sure else None)
+    is_sure = found or one.says("numbers") or not one.words
+    return Places(found or best, best[0] if is_sure else None)
 
 
 def has_lost_zeros(column: ColumnSample) -> bool:
