@@ -112,6 +112,8 @@ def add_column_options(group: Any) -> None:
     value(group, "--currency", "COLUMN", str, "the column of the currency of the prices")
     copies = "the column of the number of labels, 0 to 9999"
     value(group, "--copies", "COLUMN", str, copies)
+    variants = "rows with the same value there have the title of the first one"
+    value(group, "--variants-of", "COLUMN", str, variants)
 
 
 def add_row_options(group: Any) -> None:
@@ -272,6 +274,8 @@ def check(parser: Parser, arguments: argparse.Namespace) -> None:
                 " together"
             )
         )
+    if arguments.variants_of and not arguments.title:
+        parser.error(Text("--variants-of needs --title"))
     if arguments.price_text and arguments.price_as:
         parser.error(Text("--price-text and --price-as do not go together"))
     is_priced = arguments.price or arguments.unit_price or arguments.old_price
@@ -339,6 +343,8 @@ def command_for(
         for option in ("code", "title", "price", "copies")
         if option in columns and not getattr(arguments, option)
     }
+    if guess.variants_of is not None and not arguments.title:
+        options["variants-of"] = column_word(guess.names, guess.variants_of)
     options["symbology"] = rules.symbology if rules.is_free else ""
     options["fill-zeros"] = rules.fill_zeros
     options["without-check-digit"] = rules.without_check_digit

@@ -26,6 +26,7 @@ from labeltools.tables.once import Once
 from labeltools.tables.prices import ARITHMETIC, MOST_LOST, nearest
 from labeltools.tables.table_options import Columns, TableOptions
 from labeltools.tables.twice import twice_encoded
+from labeltools.tables.variants import Variants
 
 HTML = re.compile("</?[a-z][^<>]*>|&(?:[a-z]{2,8}|#[0-9]{1,6});", re.IGNORECASE)
 OWN_TABLE = Text("make it a table of its own")
@@ -74,6 +75,7 @@ class DraftReader:
     other_names: int = 0  # the row that names other columns, or the same in other places
 
     def __post_init__(self) -> None:
+        self.variants = Variants(self.columns, self.once)
         place = self.columns.code.place
         self.code_name = self.names[place] if place < len(self.names) else ""
 
@@ -86,12 +88,14 @@ class DraftReader:
         typed = cell if isinstance(cell, str) else cell.value
         if not typed.isdigit() or typed == self.code_name or self.other_names:  # but most rows
             self.refuse_names(row)
+        self.variants.see(row)
         if not all(column.has(row, value) for column, value in self.columns.where):
             return None
         columns = self.columns
         code = self.code(row)
         self.right_codes += 1
         title = "\n".join(self.texts(columns.title, row, code).values())
+        title = title or self.variants.title(row)
         texts = self.texts(columns.text, row, code)
         currency = self.currency(row)
         copies = columns.copies.copies(row) if columns.copies else 1
