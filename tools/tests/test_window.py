@@ -942,11 +942,11 @@ class WindowTest(Keeper):
 
     def test_what_helps_is_a_button(self) -> None:
         """What it gives is what the command gives with the option; no option is named."""
-        gum = "EAN;N;P\n96385074;Gum;1,00\n"
+        gum = "EAN;Name;Price\n96385074;Gum;1,00\n"
         for text, button, words in (
             (gum + "36000291452;Tea;2,00\n", "Put lost zeros back in front", "--fill-zeros"),
             (gum + "4006350000000;Tea;2,00\n", "Codes may end with zeros", "--allow-zeros"),
-            (gum + "3;Tea;on request\n", "The codes are Code 128", ""),
+            (gum + "3;Tea;3,00\n", "The codes are Code 128", ""),
             (gum + "4006381333931;Tea;soon\n", "Prices may be any text", "--price-text"),
             (gum + "4006381333931;Tea;2,0000\n", "Print two decimals", "--price-as 0,00"),
             ("EAN;N\n4006381333930;Gum\n036000291450;Tea\n", "The codes are Code 128", ""),
