@@ -13,7 +13,7 @@ from labeltools.common.language import _
 from labeltools.common.messages import ToolError
 from labeltools.common.text import counted, Text, translated
 from labeltools.designs.svg_design import is_file
-from labeltools.paper.area import ARTICLE
+from labeltools.layout.area import ARTICLE
 from labeltools.paper.stock import list_stock
 from labeltools.printing.press import check_count
 from labeltools.sending.sender import Unfinished
