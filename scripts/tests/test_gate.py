@@ -68,6 +68,7 @@ CHANGED = {
     "lints.py": (
         ("HANDLES", HANDLES, "Handles allowed: Net.", f"HANDLES is not: {HANDLES}"),
         ("crates/device/src/lib.rt", "#![tactic(auto)]", "", "crates/device: no line #![tactic(auto)]"),
+        ("tools/labeltools/paper/box.py", "class Box(", "class Area(", "layout/area.py, too"),
     ),
     "unused.py": (("crates.txt", "gf256:", "# gf256:", "differ in: gf256"),),
     "believed_rows.py": (("crates/labelcore/specs/HeldLine.antt", "1100", "1101", "labelcore/HeldLine"),),
