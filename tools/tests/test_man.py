@@ -8,9 +8,8 @@ import support
 from labeltools.commands import label_print, label_table
 from labeltools.common import report
 from labeltools.designs import svg_page
-from labeltools.layout import frame
+from labeltools.layout import area, frame
 from labeltools.lines import file
-from labeltools.paper import area
 from labeltools.printing import job
 from labeltools.sending import network, outlets, stream
 from labeltools.sheets import csv_table, workbook

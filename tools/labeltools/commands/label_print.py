@@ -23,8 +23,8 @@ from labeltools.common.report import places_text, Ranges, report
 from labeltools.common.text import counted, joined, Text
 from labeltools.designs.svg_design import is_file
 from labeltools.drawing.forms import FORMS
+from labeltools.layout.area import PURPOSES
 from labeltools.lines.file import LineRecord
-from labeltools.paper.area import DESIGNS
 from labeltools.paper.stock import forget, list_stock
 from labeltools.printing.job import DRAWING_DPI, form_of, Job, planned, PrintOptions, refuse
 from labeltools.printing.press import check_count, labels_of, Prepared
@@ -80,10 +80,10 @@ def design_of(argument: str) -> str:
     """Returns the name of a design, or the file of a user's own, which may be one of those that are
     installed with this package.
     """
-    if argument in DESIGNS or is_file(argument) and "/" in argument:
+    if argument in PURPOSES or is_file(argument) and "/" in argument:
         return argument
     if not is_file(argument):
-        known = ", ".join(DESIGNS)
+        known = ", ".join(PURPOSES)
         what = Text("{!r} is neither one of {} nor a file such as rack.svg", argument, known)
         raise wrong_argument(what)
     share = Path(__file__).resolve().parents[3]  # of a checkout, or PREFIX/share
@@ -121,7 +121,7 @@ POINT = reads("7x15")
 COUNT = reads("3", 1, int)
 
 
-def new_parser() -> Parser:
+def print_parser() -> Parser:
     """Returns the arguments; their names are those of `PrintOptions`, which has their defaults."""
     parser = Parser(TOOL, USAGE, ABOUT, EXAMPLES)
     add_sheet_options(parser.add_argument_group("the paper"))
@@ -210,7 +210,7 @@ def print_options(words: Sequence[str] | None = None) -> PrintOptions:
     """Returns what words ask for, or else the arguments of this program; raises `ToolError` and
     `OSError`.
     """
-    given = vars(new_parser().parse_args(words))
+    given = vars(print_parser().parse_args(words))
     given["only"] = selection_of(given.pop("rows_only") or (), given.pop("codes"))
     return PrintOptions(**given)
 
