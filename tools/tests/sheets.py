@@ -85,8 +85,8 @@ class Sheet:
     lines: Sequence[Any]
     name: str = "Tabelle1"
     hidden: Collection[int] = ()
-    hidden_columns: Collection[int] = ()
     is_visible: bool = True
+    hidden_columns: Collection[int] = ()
 
     @property
     def cells(self) -> list[list[Cell]]:

@@ -351,8 +351,8 @@ def beside_of(archive: ZipFile, path: str, of_conditions: Sequence[Lettering]) -
             address = targets[found["id"]][1] + place_in_page
             beside.links.setdefault(row, {})[place] = address
         elif name == "cols/col" and found.get("hidden") in TRUE:
-            last = min(whole_number(found["max"]), MOST_COLUMNS)
-            beside.hidden_places.update(range(whole_number(found["min"], 1) - 1, last))
+            ends = whole_number(found["min"], 1) - 1, whole_number(found["max"])
+            beside.hidden_places.update(range(ends[0], min(ends[1], MOST_COLUMNS)))
         elif name == "conditionalFormatting/cfRule" and "dxfId" in found:
             form = of_conditions[whole_number(found["dxfId"])]
             beside.has_condition = beside.has_condition or form.mark in NO_LETTERS

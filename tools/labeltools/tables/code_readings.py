@@ -28,6 +28,11 @@ class CodeReading:
     rules: Sequence[CodeRules] = (CodeRules(),)
     problem: Text = NOTHING
 
+    @property
+    def are_sure(self) -> bool:
+        """Whether they are EAN or UPC."""
+        return not self.problem and not self.rules[0].is_free
+
 
 def reading_of(texts: Sequence[str], is_named: bool) -> CodeReading:
     """Returns how the codes of a column may be read; `is_named` is whether its name says that they

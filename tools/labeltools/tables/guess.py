@@ -12,7 +12,7 @@ from collections.abc import Callable, Container, Iterator, Mapping, Sequence
 from contextlib import suppress
 from dataclasses import dataclass, field, replace
 from enum import IntEnum
-from functools import cache, cached_property, partial
+from functools import cache, cached_property
 from itertools import islice, takewhile, zip_longest
 from pathlib import Path
 from typing import NamedTuple
@@ -31,6 +31,7 @@ from labeltools.tables.code_readings import (
 from labeltools.tables.codes import AUTO
 from labeltools.tables.columns import column_names, NAME_WITH_DIGITS, texts_of
 from labeltools.tables.money import parse
+from labeltools.tables.prices import are_currencies, pattern_for
 from labeltools.tables.table import head_of
 from labeltools.tables.table_options import TableOptions
 from labeltools.tables.variants import variants_in
@@ -198,8 +199,8 @@ class Guess:
     """The names of the columns; their places, from 0, by the options of label-table; how each
     column may be read that may have the codes; the row of the names, 0 where there is none; a text
     of each column; by the same options the columns of which only the keeper knows the right one,
-    and those that may be meant beside one that was found; the column of what rows are variants of
-    that have no title of their own.
+    and those that may be meant beside one that was found; the columns that others need, such as
+    that of the currency; how prices have to be written that are as programs write numbers.
     """
 
     names: Sequence[str]
@@ -209,7 +210,8 @@ class Guess:
     examples: Sequence[str] = ()
     doubts: Mapping[str, Sequence[int]] = field(default_factory=dict)
     others: Mapping[str, Sequence[int]] = field(default_factory=dict)
-    variants_of: int | None = None
+    beside: Mapping[str, int] = field(default_factory=dict)
+    price_as: str = ""
 
     @property
     def symbology(self) -> str:
@@ -285,8 +287,11 @@ def guess(
     meant = [found["code"]] if "code" in found else codes.may_be
     ways = {at: reading_of(filled[at].texts, bool(filled[at].says("codes"))) for at in meant}
     examples = [next(filter(None, map(str.strip, cells)), "") for _, *cells in columns]
-    group = titles.variants_of
-    return Guess(names, found, ways, header, examples, doubts, more, group)
+    beside = {} if titles.variants_of is None else {"variants-of": titles.variants_of}
+    beside |= {"currency": at for at, one in others.items() if are_currencies(one.cells)}
+    price = filled[found["price"]] if "price" in found else ColumnSample("")
+    price_as = pattern_for(price.texts, price.name, "currency" in beside)
+    return Guess(names, found, ways, header, examples, doubts, more, beside, price_as)
 
 
 def with_shared_words(columns: Sequence[ColumnSample]) -> list[ColumnSample]:
@@ -386,9 +391,7 @@ def may_be_price(column: ColumnSample) -> bool:
     return has_one and column.has(is_money) and not column.says("others", "stock")
 
 
-def title_columns(
-    columns: Mapping[int, ColumnSample], cells: Sequence[Sequence[str]]
-) -> Places:
+def title_columns(columns: Mapping[int, ColumnSample], cells: Sequence[Sequence[str]]) -> Places:
     """Returns the columns that may have the title: those that are named so, and those with another
     text in most rows. Those that say it most plainly are meant, and those that have it in far more
     rows, but for variants; of a short and a long text the short one is sure. `cells` are those of
