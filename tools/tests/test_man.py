@@ -93,11 +93,14 @@ class Pages(unittest.TestCase):
             "--decimal": "LC_NUMERIC",
             "--symbology": "auto",
         }
-        for module, least in ((label_print, 6), (label_table, 2)):
-            options = module.new_parser()._actions
-            options = [it for it in options if it.option_strings and it.default]
+        parsers = (
+            (label_print.TOOL, label_print.print_parser(), 6),
+            (label_table.TOOL, label_table.table_parser(), 2),
+        )
+        for tool, parser, least in parsers:
+            options = [it for it in parser._actions if it.option_strings and it.default]
             named |= {it.option_strings[0]: it.default for it in options}
-            found = defaults_of(f"{module.TOOL}.1")
+            found = defaults_of(f"{tool}.1")
             self.assertGreaterEqual(len(found), least)
             self.assertEqual(found, {it: typed(named[it]) for it in found})
             for option in options:
