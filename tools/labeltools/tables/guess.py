@@ -167,18 +167,18 @@ class ColumnSample:
 
     @property
     def title_rank(self) -> tuple[int, Plainness]:
-        """How plainly its name says that it has titles: a name, a part of one, one of some kind,
-        an article or a description, one of some kind, or nothing.
+        """How plainly its name says that it has titles: a name, a part of one, an article or a
+        description or a name of some kind, one of these of some kind, or nothing.
         """
         plainness = self.plainness(*TITLES, "beside-titles")
         is_plain = plainness is not Plainness.OF_SOME_KIND
         if self.says("titles"):
-            return 0 if is_plain else 2, plainness
+            return (0, plainness) if is_plain else (2, Plainness.PLAIN)
         if self.says("parts"):
             return 1, Plainness.PLAIN
         if self.says("articles", "descriptions"):
-            return 3 if is_plain else 4, plainness
-        return 5, Plainness.OF_SOME_KIND
+            return 2 if is_plain else 3, plainness
+        return 4, Plainness.OF_SOME_KIND
 
     @property
     def code_rank(self) -> Plainness:
@@ -418,7 +418,7 @@ def may_be_title(column: ColumnSample) -> bool:
     if column.has(TAG.fullmatch):
         return False
     differs = column.differing >= LEAST and column.has(LETTERS.search)
-    return column.has(has_letters) and (differs or column.title_rank[0] in (0, 3))
+    return column.has(has_letters) and (differs or column.title_rank[0] in (0, 2))
 
 
 def has_letters(text: str) -> bool:
