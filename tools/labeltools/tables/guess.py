@@ -1,9 +1,8 @@
 """Guesses what the columns of a table are for, by their names and by what is in their cells. A
 window shows the guess, label-table proposes it, and the keeper of the shop decides.
 
-The plain name wins: a column that is named by nothing but a word for the thing, and has cells of
-that kind, is meant; what has another word beside it, which may be any one, is a price or a title of
-some kind. Where two are named so, the keeper is asked.
+The plain name wins: what has any other word beside that for the thing is a price or a title of some
+kind. Where two names are plain, the keeper is asked.
 """
 
 import re
@@ -84,23 +83,31 @@ class Words:
 
 @cache
 def column_words() -> Mapping[str, Words]:
-    """Returns the words by their kinds, and those that are several in one by no kind."""
-    lists = lists_of(COLUMN_WORDS)
-    several = [word for words in lists.values() for word in words if "_" in word]
-    return {"": Words(several), **{kind: Words(words) for kind, words in lists.items()}}
+    """Returns the words by their kinds."""
+    return {kind: Words(words) for kind, words in lists_of(COLUMN_WORDS).items()}
+
+
+@cache
+def joined_words() -> Mapping[str, str]:
+    """Returns the words that are several in one, by their letters."""
+    several = (word for kind in column_words().values() for word in kind.all if "_" in word)
+    return {word.replace("_", ""): word for word in several}
 
 
 def words_in(name: str) -> Iterator[str]:
     """Yields the words of the name of a column; some that stand together are one.
 
-    >>> [*words_in("Prix de réf. (inkl. MwSt)")]
-    ['prix', 'de', 'ref', 'inkl_mwst']
+    >>> [*words_in("Prix de réf. (inkl. MwSt)")], [*words_in("Code à barres")]
+    (['prix', 'de', 'ref', 'inkl_mwst'], ['code_a_barres'])
     """
     words = re.findall(r"[^\W\d_]+", folded(HUMP.sub(" ", name)))
     while words:
-        both = ("_".join(words[:count]) for count in range(MOST_IN_ONE, 1, -1))
-        yield (found := next(filter(column_words()[""].has, both), words[0]))
-        del words[: found.count("_") + 1]
+        count = MOST_IN_ONE
+        while count > 1 and "".join(words[:count]) not in joined_words():
+            count -= 1
+        letters = "".join(words[:count])
+        yield joined_words().get(letters, letters)
+        del words[:count]
 
 
 class Plainness(IntEnum):
@@ -167,18 +174,22 @@ class ColumnSample:
 
     @property
     def title_rank(self) -> tuple[int, Plainness]:
-        """How plainly its name says that it has titles: a name, a part of one, an article or a
-        description or a name of some kind, one of these of some kind, or nothing.
+        """How plainly its name says that it has titles: a name, a part of one, a name of some kind
+        or a description, the article's own before others; one of some kind; or nothing.
         """
         plainness = self.plainness(*TITLES, "beside-titles")
         is_plain = plainness is not Plainness.OF_SOME_KIND
-        if self.says("titles"):
-            return (0, plainness) if is_plain else (2, Plainness.PLAIN)
         if self.says("parts"):
             return 1, Plainness.PLAIN
-        if self.says("articles", "descriptions"):
-            return 2 if is_plain else 3, plainness
-        return 4, Plainness.OF_SOME_KIND
+        if self.says("titles") and is_plain:
+            return 0, plainness
+        if self.says("articles") and self.says("titles", "descriptions"):
+            return 2, Plainness.PLAIN
+        if self.says("titles"):
+            return 3, Plainness.PLAIN
+        if self.says(*TITLES):
+            return 3 if is_plain else 4, plainness
+        return 5, Plainness.OF_SOME_KIND
 
     @property
     def code_rank(self) -> Plainness:
@@ -301,12 +312,10 @@ def with_shared_words(columns: Sequence[ColumnSample]) -> list[ColumnSample]:
     beside = []
     for one in columns:
         known = one.says(*column_words())
-        is_price = one.says("prices", "priced", "sale", "cost", "net")
-        beside.append(one.words - known if known and not is_price else frozenset())
-    return [
-        replace(one, shared=frozenset().union(*beside[:at], *beside[at + 1 :]) & one.words)
-        for at, one in enumerate(columns)
-    ]
+        says_it = known and not one.says("prices", "priced", "sale", "cost", "net")
+        beside.append(one.words - known if says_it else frozenset())
+    others = [frozenset().union(*beside[:at], *beside[at + 1 :]) for at in range(len(columns))]
+    return [replace(one, shared=more & one.words) for one, more in zip(columns, others)]
 
 
 class Places(NamedTuple):
@@ -386,7 +395,7 @@ def may_be_price(column: ColumnSample) -> bool:
     """
     has_one = any(map(ABOVE_ZERO.search, column.texts))
     if column.says("prices", "priced"):
-        is_plain = column.price_rank is Plainness.PLAIN and not column.says("sale")
+        is_plain = column.price_rank is Plainness.PLAIN and not column.says("sale", "advised")
         return is_plain or has_one and passing_share(column.texts, is_amount) > 0
     return has_one and column.has(is_money) and not column.says("others", "stock")
 
@@ -418,7 +427,7 @@ def may_be_title(column: ColumnSample) -> bool:
     if column.has(TAG.fullmatch):
         return False
     differs = column.differing >= LEAST and column.has(LETTERS.search)
-    return column.has(has_letters) and (differs or column.title_rank[0] in (0, 2))
+    return column.has(has_letters) and (differs or column.title_rank[0] in (0, 3))
 
 
 def has_letters(text: str) -> bool:
