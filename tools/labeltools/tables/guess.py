@@ -7,12 +7,13 @@ kind. Where two names are plain, the keeper is asked.
 
 import re
 import unicodedata
-from collections.abc import Callable, Container, Iterator, Mapping, Sequence
+from collections.abc import Callable, Container, Iterable, Iterator, Mapping, Sequence
 from contextlib import suppress
 from dataclasses import dataclass, field, replace
 from enum import IntEnum
 from functools import cache, cached_property
 from itertools import islice, takewhile, zip_longest
+from os.path import commonprefix
 from pathlib import Path
 from typing import NamedTuple
 
@@ -52,6 +53,8 @@ HUMP = re.compile("(?<=[a-z]{2})(?=[A-Z])|(?<=[A-Z]{2})(?=[A-Z][a-z]{2})")  # as
 # letters that Unicode does not take apart, and one that is a letter of its own
 FOLDED = str.maketrans({**dict(zip("łøđðı", "loddi")), "å": "aa", "%": " percent "})
 MOST_IN_ONE = 4  # words that count as one
+SHORT = 5  # letters of a word that is never written as several
+MANY = 6  # names that begin alike by no chance
 SAMPLE = 300  # rows that are looked at
 PAID = ("prices", "taxed", "paid", "beside-prices")  # the words of a plain price
 TITLES = ("titles", "parts", "articles", "descriptions")
@@ -89,9 +92,9 @@ def column_words() -> Mapping[str, Words]:
 
 @cache
 def joined_words() -> Mapping[str, str]:
-    """Returns the words that are several in one, by their letters."""
-    several = (word for kind in column_words().values() for word in kind.all if "_" in word)
-    return {word.replace("_", ""): word for word in several}
+    """Returns the words that may be written as several, by their letters."""
+    words = (word for kind in column_words().values() for word in kind.all if "-" not in word)
+    return {word.replace("_", ""): word for word in words if "_" in word or len(word) > SHORT}
 
 
 def words_in(name: str) -> Iterator[str]:
@@ -112,7 +115,7 @@ def words_in(name: str) -> Iterator[str]:
 
 class Plainness(IntEnum):
     """What the name of a column says beside the words for a thing: nothing, a number as `Price 2`,
-    words that names of other columns have, too, or that it is of some kind.
+    words that the name of the stock has, too, or that it is of some kind.
     """
 
     PLAIN = 0
@@ -123,9 +126,7 @@ class Plainness(IntEnum):
 
 @dataclass(frozen=True)
 class ColumnSample:
-    """A column: its name, its cells, and words of its name that say nothing, as they are in those
-    of others.
-    """
+    """A column: its name, its cells, and words of its name that are in that of the stock, too."""
 
     name: str
     cells: Sequence[str] = ()
@@ -278,11 +279,8 @@ def guess(
 ) -> Guess:
     """Returns a guess from columns, each with its name in front, which may be empty."""
     names = [name for name, *_ in columns]
-    filled = [
-        ColumnSample("") if at in hidden_places else ColumnSample(name, [*map(str.strip, cells)])
-        for at, (name, *cells) in enumerate(columns)
-    ]
-    filled = with_shared_words(filled)
+    seen = [("", *()) if at in hidden_places else one for at, one in enumerate(columns)]
+    filled = samples_of([name for name, *_ in seen], [[*map(str.strip, it)] for _, *it in seen])
     codes = code_columns(filled)
     prices = price_columns({at: one for at, one in enumerate(filled) if at not in codes.may_be})
     used = {*codes.may_be, *prices.may_be}
@@ -305,17 +303,17 @@ def guess(
     return Guess(names, found, ways, header, examples, doubts, more, beside, price_as)
 
 
-def with_shared_words(columns: Sequence[ColumnSample]) -> list[ColumnSample]:
-    """Returns columns that know which words of their names are in those of others, too: the shop in
-    `Price Main Street` and `Stock Main Street`. A word that only prices have says which one it is.
+def samples_of(names: Sequence[str], cells: Iterable[Sequence[str]]) -> list[ColumnSample]:
+    """Returns columns by what is said in their names alone: not where all begin alike, nor the shop
+    in `Price Main Street` and `Stock Main Street`.
     """
-    beside = []
-    for one in columns:
-        known = one.says(*column_words())
-        says_it = known and not one.says("prices", "priced", "sale", "cost", "net")
-        beside.append(one.words - known if says_it else frozenset())
-    others = [frozenset().union(*beside[:at], *beside[at + 1 :]) for at in range(len(columns))]
-    return [replace(one, shared=more & one.words) for one, more in zip(columns, others)]
+    start = commonprefix([one for one in names if one])
+    if len(names) < MANY and start[-1:].isalpha() or names.count("") == len(names) - 1:
+        start = ""
+    found = [ColumnSample(name[len(start) :], texts) for name, texts in zip(names, cells)]
+    stocks = (one for one in found if one.says("stock"))
+    shop = frozenset().union(*(one.words - one.says(*column_words()) for one in stocks))
+    return [replace(one, shared=shop & one.words) for one in found]
 
 
 class Places(NamedTuple):
