@@ -57,6 +57,7 @@ SHORT = 5  # letters of a word that is never written as several
 MANY = 6  # names that begin alike by no chance
 SAMPLE = 300  # rows that are looked at
 PAID = ("prices", "taxed", "paid", "beside-prices")  # the words of a plain price
+CODES = ("codes", "own-numbers")
 TITLES = ("titles", "parts", "articles", "descriptions")
 
 
@@ -193,11 +194,15 @@ class ColumnSample:
         return 5, Plainness.OF_SOME_KIND
 
     @property
+    def is_named_code(self) -> bool:
+        """Whether its name says that it has codes, and not that these are of something else."""
+        return bool(self.says(*CODES)) and not self.says("others")
+
+    @property
     def code_rank(self) -> Plainness:
         """How plainly its name says that it has codes, or numbers of single things."""
-        is_named = self.says("codes", "own-numbers")
-        rank = self.plainness("codes", "own-numbers", "beside-codes")
-        return rank if is_named else Plainness.OF_SOME_KIND
+        is_named = self.is_named_code
+        return self.plainness(*CODES, "beside-codes") if is_named else Plainness.OF_SOME_KIND
 
     @property
     def price_rank(self) -> Plainness:
@@ -210,9 +215,8 @@ class ColumnSample:
 class Guess:
     """The names of the columns; their places, from 0, by the options of label-table; how each
     column may be read that may have the codes; the row of the names, 0 where there is none; a text
-    of each column; by the same options the columns of which only the keeper knows the right one,
-    and those that may be meant beside one that was found; the columns that others need, such as
-    that of the currency; how prices have to be written that are as programs write numbers.
+    of each column; the `doubts` that only the keeper can settle, and the `others` that may be meant
+    beside what was found; columns that belong to these; the format that the prices need, if any.
     """
 
     names: Sequence[str]
@@ -227,9 +231,7 @@ class Guess:
 
     @property
     def symbology(self) -> str:
-        """The symbology of the codes, or of the first column that may have them, as far as it is
-        sure.
-        """
+        """The symbology of the codes that may be meant first, as far as it is sure."""
         ways = next(iter(self.codes.values()), CodeReading())
         return AUTO if ways.problem else ways.rules[0].symbology
 
@@ -274,20 +276,18 @@ def guessed_header(rows: Sequence[Row]) -> Row:
     return next(names, wide[0][0])
 
 
-def guess(
-    columns: Sequence[Sequence[str]], header: int, hidden_places: Container[int] = ()
-) -> Guess:
+def guess(columns: Sequence[Sequence[str]], header: int, hidden: Container[int] = ()) -> Guess:
     """Returns a guess from columns, each with its name in front, which may be empty."""
     names = [name for name, *_ in columns]
-    seen = [("", *()) if at in hidden_places else one for at, one in enumerate(columns)]
+    seen = [("", *()) if at in hidden else one for at, one in enumerate(columns)]
     filled = samples_of([name for name, *_ in seen], [[*map(str.strip, it)] for _, *it in seen])
     codes = code_columns(filled)
     prices = price_columns({at: one for at, one in enumerate(filled) if at not in codes.may_be})
     used = {*codes.may_be, *prices.may_be}
     others = {at: one for at, one in enumerate(filled) if at not in used}
     titles = title_columns(others, [one.cells for one in filled])
-    counts = {at for at, one in others.items() if passing_share(one.texts, COUNT.fullmatch) == 1}
-    of_copies = [at for at in sorted(counts) if others[at].says("copies")]
+    counts = [at for at, one in others.items() if passing_share(one.texts, COUNT.fullmatch) == 1]
+    of_copies = [at for at in counts if others[at].says("copies")]
     copies = Places(of_copies, of_copies[0] if len(of_copies) == 1 else None)
     kinds = {"code": codes, "title": titles, "price": prices, "copies": copies}
     found = {kind: one.surely for kind, one in kinds.items() if one.surely is not None}
@@ -344,7 +344,7 @@ def code_columns(columns: Sequence[ColumnSample]) -> Places:
             sure[bare] = min(both, key=lambda it: columns[it].code_rank)
         elif one.code_rank is Plainness.PLAIN and one.differing == 1 and one.filled >= LEAST:
             own.append(at)
-    named = [at for at, one in enumerate(columns) if one.texts and one.says("codes", "own-numbers")]
+    named = [at for at, one in enumerate(columns) if one.texts and one.is_named_code]
     articles = [[*filter(ARTICLE.fullmatch, one.texts)] for one in columns]
     numbers = [
         at
@@ -367,24 +367,23 @@ def price_columns(columns: Mapping[int, ColumnSample]) -> Places:
     """Returns the columns that may have the price that customers pay: those that are named so, and
     those with amounts of money that are not named as something else. The one of the plainest name
     is sure if most rows have an amount in it, and none is for sale. Prices with tax are meant where
-    others do not say it; what is advised yields to another one with the same amounts.
+    others do not say it. What is advised yields to the same amounts, and is sure only alone.
     """
     may_be = {at: one for at, one in columns.items() if may_be_price(one)}
     paid = {at: one for at, one in may_be.items() if not one.says("cost", "net")}
     if not paid:
         return Places([*may_be], is_none=not any(one.says("net") for one in may_be.values()))
+    own = [one.texts for one in paid.values() if not one.says("advised")]
+    paid = {at: one for at, one in paid.items() if not (one.says("advised") and one.texts in own)}
     first = min(one.price_rank for one in paid.values())
     left = {at: one for at, one in paid.items() if one.price_rank is first or one.says("sale")}
-    own = [one.texts for one in left.values() if not one.says("advised")]
-    left = {at: one for at, one in left.items() if not (one.says("advised") and one.texts in own)}
     taxed = [at for at, one in left.items() if one.says("taxed") and not one.says("sale")]
     if taxed:
         left = {at: one for at, one in left.items() if at in taxed or one.says("sale", "advised")}
-    if len(left) != 1:
-        return Places([*may_be])
     at, one = next(iter(left.items()))
-    is_sure = first is not Plainness.OF_SOME_KIND and one.filled >= LEAST and one.has(is_amount)
-    return Places([*may_be], at if is_sure else None)
+    is_alone = len(left) == 1 and not (one.says("advised") and len(paid) > 1)
+    is_named = first is not Plainness.OF_SOME_KIND and one.filled >= LEAST and one.has(is_amount)
+    return Places([*may_be], at if is_alone and is_named else None)
 
 
 def may_be_price(column: ColumnSample) -> bool:
@@ -401,8 +400,7 @@ def may_be_price(column: ColumnSample) -> bool:
 def title_columns(columns: Mapping[int, ColumnSample], cells: Sequence[Sequence[str]]) -> Places:
     """Returns the columns that may have the title: those that are named so, and those with another
     text in most rows. Those that say it most plainly are meant, and those that have it in far more
-    rows, but for variants; of a short and a long text the short one is sure. `cells` are those of
-    all columns.
+    rows, but for variants, as the cells of all columns say; of a short and a long text the first.
     """
     texts = {at: one for at, one in columns.items() if may_be_title(one)}
     first = min((one.title_rank for one in texts.values()), default=())
