@@ -23,7 +23,7 @@ COMPLETED := $(filter-out label-window,$(TOOLS))
 MODULES := $(shell cd tools && find labeltools -name '*.py' -o -name '*.ui' -o -name '*.list')
 LANGUAGES := $(patsubst tools/po/%.po,%,$(wildcard tools/po/*.po))
 WINDOW = org.labels.Window
-# The pages, the programs that they call, and the definitions that docs/PROOF.md has read.
+# The pages, the programs that they call, and the definitions that docs/PROOF-READING.md has read.
 DOCUMENTS := README.md $(wildcard docs/*.md docs/pictures/* designs/* examples/* crates/*/specs/*.antt) \
     crates/command/src/entry.rt lib/examples/read.py tools/tests/printers.py
 PYTHON = /usr/bin/python3

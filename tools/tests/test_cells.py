@@ -175,13 +175,13 @@ class Sheets(CellTest):
             self.assertEqual(self.found(kind(Sheet([[None]]), new)), small)
             self.assertEqual(self.found(kind(first, old)), pencil)  # in .xlsx, veryHidden
             data = kind(first, empty, old, new)
-            named = 'has 2 visible sheets with data: give --sheet with one of "Tabelle1", "Preise"'
+            named = "has 2 visible sheets with data: give --sheet Tabelle1 or Preise"
             self.refused(data, named, status=2)
             self.assertEqual(self.found(data, "--sheet", "Preise"), small)
-            names = '"Tabelle1", "leer", "alt", "Preise"'
-            problem = f'has no sheet "preise" with data: give --sheet with one of {names}'
+            names = "Tabelle1 or leer or alt or Preise"
+            problem = f'has no sheet "preise" with data: give --sheet {names}'
             self.refused(data, problem, "--sheet", "preise", status=2)
-            problem = 'has 0 visible sheets with data: give --sheet with one of "Tabelle1", "leer"'
+            problem = "has 0 visible sheets with data: give --sheet Tabelle1 or leer"
             self.refused(kind(Sheet([]), empty), problem, status=2)
 
 

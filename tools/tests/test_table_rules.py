@@ -113,11 +113,12 @@ class Prices(RulesTest):
         no_number = "has no number; give --price-text if it is right"
         self.assertEqual(self.price("verzinkt"), no_number)
         self.assertEqual(self.price("auf Anfrage ab 5"), WORDS)
-        hint = "if this is a currency, give it with --currency-name"
+        hint = "if this is a currency, give --currency-name"
         self.assertEqual(
-            self.price("Zz12.50"), f"has letters before its digits, as a code has; {hint}"
+            self.price("Zz12.50"), f"has letters before its digits, as a code has; {hint} Zz"
         )
         self.assertEqual(self.price("Zz12.50", "--currency-name", "Zz"), "Zz12.50")
+        hint = f"{hint} R"
         self.assertEqual(self.price("R12"), f"has letters before its digits, as a code has; {hint}")
         self.assertEqual(self.price("R12", "--currency-name", "R"), "R12")
 
@@ -253,8 +254,8 @@ class Prices(RulesTest):
             'row 4: column 4 ("Währung") has "7", which is not a currency',
             f'row 5: column 2 ("Preis") has "1.00", {cannot} no currency, and its row has none',
             f'row 6: column 2 ("Preis") has "1.00 €", {cannot} EUR, and its row has USD',
-            'row 3 has the currency "Soap", which is not known: if it is right, give it with '
-            "--currency-name",
+            'row 3 has the currency "Soap", which is not known: if it is right, give '
+            "--currency-name Soap",
         ):
             self.assertIn(message, messages)
         labels = self.said(text, *arguments, "--price-as", "0,00 €")[2]

@@ -9,7 +9,7 @@ from typing import Iterable, Sequence
 
 from labeltools.common.column_names import name_of, NUMBER, row_with_names
 from labeltools.common.messages import BAD_ARGUMENTS, quoted, RowError, ToolError
-from labeltools.common.text import Text
+from labeltools.common.text import give, NOTHING, Remedy, Text
 from labeltools.lines.file import MOST_COPIES
 from labeltools.lines.symbologies import SYMBOLOGIES
 from labeltools.sheets.cells import (
@@ -159,9 +159,9 @@ def columns_of(head: Head, rows: Iterable[Row], options: TableOptions) -> Column
         texts = ((row.number, texts_of(row)) for row in islice(rows, ROWS_LOOKED_AT))
         later = row_with_names(texts, asked.asked) if options.file.has_header is not False else 0
         if later:
-            raise ToolError(
-                error.what, Text("the names are in row {}: give --header-row {}", later, later), 2
-            ) from None
+            remedy = Remedy("header-row", str(later), Text("The names are in row {}", later))
+            hint = Text("the names are in row {}: {}", later, give(remedy)).in_window(NOTHING)
+            raise ToolError(error.what, hint, BAD_ARGUMENTS) from None
         raise
 
 
@@ -243,7 +243,11 @@ def check_code(column: Column, head: Head, options: TableOptions) -> None:
     may_be_code = may_be_code or options.codes.is_free and cell != ""
     if options.columns.code.isdecimal() and may_be_code and not is_said:
         what = Text("row {} has {} in column {}", head.row.number, quoted(cell), column.place + 1)
-        hint = Text("give --no-header if that is a code, --header if it is a name")
+        hint = Text(
+            "give {} if that is a code, {} if it is a name",
+            Remedy("no-header", says=Text("It is a code")),
+            Remedy("header", says=Text("It is a name")),
+        ).in_window(NOTHING)
         raise ToolError(what, hint, BAD_ARGUMENTS)
 
 

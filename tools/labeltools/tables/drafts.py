@@ -7,7 +7,7 @@ from typing import Iterator, NamedTuple, Sequence
 
 from labeltools.common.column_names import is_repeated, name_of
 from labeltools.common.messages import quoted, RowError
-from labeltools.common.text import Text
+from labeltools.common.text import NOTHING, Remedy, Text
 from labeltools.lines.file import Label
 from labeltools.lines.symbologies import SYMBOLOGIES
 from labeltools.sheets.rows import Row
@@ -15,6 +15,7 @@ from labeltools.tables.codes import Code, code_of, CodeRules, is_in_brackets
 from labeltools.tables.columns import Column, symbology_in
 from labeltools.tables.money import (
     currency_of,
+    currency_remedy,
     Money,
     MOST_DECIMALS,
     NotMoney,
@@ -35,6 +36,9 @@ KIND_OF_CODES = re.compile(
     r"(?:EAN|GTIN|UPC|ISBN|JAN)(?:[- ]?(?:[0-9]{1,2}|code|A|E))?", re.IGNORECASE
 )
 MONTH = re.compile(r"(?:[1-9]|1[0-2])\.(?:19|20)[0-9]{2}")  # 12.2026, of which Excel makes a date
+MONTH_HINT = Text("give {} if it is none", Remedy("price-as")).in_window(
+    Text("if it is none, choose how prices are printed")
+)
 HAS_DIGIT = re.compile("[0-9]")
 SHOWN_DECIMALS = 6  # of the number of a cell, in a message
 PROGRAM_DECIMALS = 17  # of a number that a program has calculated
@@ -157,7 +161,9 @@ class DraftReader:
             return link
         if link != text:
             said = Text("the code of row {} is a text that leads to an address", row.number)
-            self.once.see("link", said, Text("give --links to draw the address"))
+            remedy = Remedy("links", says=Text("Draw the address"))
+            hint = Text("give {} to draw the address", remedy).in_window(NOTHING)
+            self.once.see("link", said, hint)
         return text
 
     def rules(self, row: Row) -> CodeRules:
@@ -233,7 +239,8 @@ class DraftReader:
         is_known = currency_of(plain_signs(found), self.options.prices.currency_name) is not None
         if found and not is_known:
             said = Text("row {} has the currency {}, which is not known", row.number, quoted(found))
-            self.once.see("currency", said, Text("if it is right, give it with --currency-name"))
+            hint = Text("if it is right, give {}", currency_remedy(found)).in_window(NOTHING)
+            self.once.see("currency", said, hint)
         return found
 
     def price(self, column: Column | None, row: Row, currency: str | None) -> Price | None:
@@ -248,7 +255,7 @@ class DraftReader:
         rules = self.options.prices
         try:
             if number is None and MONTH.fullmatch(text) and not (rules.is_text or rules.pattern):
-                raise NotMoney(Text("may be a month"), Text("give --price-as if it is none"))
+                raise NotMoney(Text("may be a month"), MONTH_HINT)
             is_unit = column is self.columns.unit_price
             money = self.money(text, is_unit, currency or rules.currency_name)
         except NotMoney as problem:

@@ -2,12 +2,11 @@
 was asked for.
 """
 
-import shlex
 from dataclasses import dataclass, field
 from typing import Mapping
 
 from labeltools.common.messages import Origin, quoted, RowError, Talk, ToolError
-from labeltools.common.text import Text
+from labeltools.common.text import NOTHING, Remedy, Text
 from labeltools.lines.file import first_remark, Label, label_lines, last_remark, LinesFile
 from labeltools.tables.codes import Code
 from labeltools.tables.drafts import Draft, HAS_DIGIT, Price
@@ -80,7 +79,8 @@ class LineWriter:
         if not is_shown and money.decimals not in (0, 2, 3):
             said = Text("row {} has {}, as programs write prices", row, price.text)
             pattern = f"0{money.point}00 ¤" if money.currency else f"0{money.point}00"
-            hint = Text("give --price-as {} for two decimals", shlex.quote(pattern))
+            remedy = Remedy("price-as", pattern, Text("Print two decimals"))
+            hint = Text("give {} for two decimals", remedy).in_window(NOTHING)
             self.once.see(("decimals", price.column), said, hint)
 
     def finish(self) -> bytes:

@@ -5,7 +5,7 @@ from collections import Counter
 from dataclasses import dataclass, field, replace
 from decimal import Decimal, ROUND_HALF_UP
 
-from labeltools.common.text import NOTHING, Text
+from labeltools.common.text import give, NOTHING, Remedy, Text
 from labeltools.tables.money import (
     currency_of,
     is_same,
@@ -29,7 +29,10 @@ CENTS = Text("cents")
 ARITHMETIC = Decimal("1e-9")  # what a program's arithmetic may leave
 MOST_LOST = Decimal("0.01")  # of a price that is rounded
 THOUSANDS_OR_DECIMALS = Text("may have thousands or decimals")
-DECIMAL_HINT = Text("give --decimal comma or point")
+DECIMAL_HINT = give(
+    Remedy("decimal", "comma", Text("The comma, as in 1,50")),
+    Remedy("decimal", "point", Text("The point, as in 1.50")),
+)
 SIGN_OF = {"crown": "kr", "EUR": "€", "GBP": "£"}
 ONE_SIGN = {"JPY": "¥", "CNY": "¥"}
 PATTERN = re.compile(
