@@ -20,7 +20,6 @@ compare_symbols = module("compare_symbols")
 read_foreign = module("read_foreign")
 edits = module("edits")
 instructions = module("instructions")
-believed = module("believed")
 pages = module("pages")
 run_recipes = module("run_recipes")
 pictures = module("pictures")
@@ -470,29 +469,12 @@ class Judges(unittest.TestCase):
         ):
             self.assertEqual(pages.words_of(code), words)
 
-    def test_lines_by_hand(self) -> None:
-        """Each line counts, but of the tables that scripts make, and only of README.md and docs/*.md."""
-        made = (
-            f"| Name | What it means |\n|---|---|\n| `Bool` | yes |\n\n{believed.BEGIN}\n\n| One |\n\n{believed.END}\n"
-        )
-        text = f"# A page\n\n{made}\n| Name | Use |\n|---|---|\n| `Bool` | a test |\n"
-        for path, count in (("README.md", 7), ("docs/A.md", 7), ("CONTRIBUTING.md", 0), ("crates/a/README.md", 0)):
-            self.assertEqual((path, pages.lines_by_hand({path: text})), (path, count))
-
-    def test_odd_words(self) -> None:
-        right = "Look where it is, by `where` or --where.\n```sh\nwhere alone\n```\n"
-        wrong = "Where a row has no code,\nit alone is said anew behind the names of one's own.\n"
-        odd = ["Where", "alone", "is said", "anew", "behind the", "of one's own"]
-        for path, text, found in (
-            ("a.md", right, []),
-            ("a.md", right + wrong, odd),
-            ("a.1", wrong, odd),
-            ("a.po", 'msgid "he alone"\nmsgstr "where"\n', ["alone"]),
-        ):
-            self.assertEqual([one.split(": ")[1] for one in pages.odd_words(path, text)], found)
-        most = "alone " * pages.MOST_ODD
-        self.assertEqual([*pages.faults_of_words({"a.md": most})], [])
-        self.assertNotEqual([*pages.faults_of_words({"a.md": most, "b.md": "anew"})], [])
+    def test_long_paragraphs(self) -> None:
+        """Those of lists count too; tables and code do not."""
+        most, more = ("word " * count for count in (pages.MOST_WORDS, pages.MOST_WORDS + 1))
+        code, table = f"```text\n{more}\n```", f"| One |\n|---|\n| {more} |"
+        found = [*pages.long_paragraphs(f"{most}\n\n{more}\n\n- {more}\n\n{code}\n\n{table}\n")]
+        self.assertEqual(found, [(3, pages.MOST_WORDS + 1), (5, pages.MOST_WORDS + 1)])
 
 
 # What stands in for the programs that debian/tests calls, as they are and as they must not be. That of the library

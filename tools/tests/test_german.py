@@ -264,7 +264,7 @@ class German(unittest.TestCase):
                 ),
                 (
                     "fr",
-                    "ligne 2 : 4006381333932 : le chiffre de contrôle est 2, devrait être 1",
+                    "ligne 2 : 4006381333932 : le chiffre de contrôle est 2 au lieu de 1",
                     'ligne 3 : colonne 3 ("Preis") a "1E3", qui n\'est pas un prix',
                     "1 étiquette de 1 ligne : 1 EAN-13; prix 2,50; 1 prix sans devise; "
                     "2 lignes ignorées",

@@ -8,9 +8,8 @@ import support
 from labeltools.commands import label_print, label_table
 from labeltools.common import report
 from labeltools.designs import svg_page
-from labeltools.layout import frame
+from labeltools.layout import area, frame
 from labeltools.lines import file
-from labeltools.paper import area
 from labeltools.printing import job
 from labeltools.sending import network, outlets, stream
 from labeltools.sheets import csv_table, workbook
@@ -94,8 +93,9 @@ class Pages(unittest.TestCase):
             "--decimal": "LC_NUMERIC",
             "--symbology": "auto",
         }
-        for module, least in ((label_print, 6), (label_table, 2)):
-            options = module.new_parser()._actions
+        parsers = {label_print: label_print.print_parser(), label_table: label_table.table_parser()}
+        for (module, parser), least in zip(parsers.items(), (6, 2)):
+            options = parser._actions
             options = [it for it in options if it.option_strings and it.default]
             named |= {it.option_strings[0]: it.default for it in options}
             found = defaults_of(f"{module.TOOL}.1")

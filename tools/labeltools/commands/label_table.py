@@ -48,6 +48,8 @@ DELIMITER = re.compile('[^"\r\n\0 \x80-\U0010ffff]|tab|none')
 ROW_NUMBER = re.compile("[1-9][0-9]{0,6}")
 SIGNS = {"comma": ",", "point": ".", ",": ",", ".": "."}
 MOST_PROPOSED = 3  # commands
+MOST_NAMED = 8  # columns of which one is meant
+OF_KINDS = {"code": Text("the code"), "title": Text("the title"), "price": Text("the price")}
 MOST_ALIKE = 50  # messages about rows that differ in their cells alone
 Read = TypeVar("Read")
 
@@ -78,7 +80,7 @@ class TableTalk(CommandTalk):
                 write_message(TOOL, what)
 
 
-def new_parser() -> Parser:
+def table_parser() -> Parser:
     """Returns the parser of the arguments; but for a few their names are those of fields of
     `TableOptions`, which have their defaults.
     """
@@ -250,7 +252,7 @@ def table_options(arguments: argparse.Namespace) -> TableOptions:
 
 def understood(words: Sequence[str]) -> argparse.Namespace:
     """Returns the arguments that words are; raises `BadArguments`."""
-    parser = new_parser()
+    parser = table_parser()
     arguments = parser.parse_args(words)
     if arguments.code is None:
         what = Text("the following arguments are required: --code")
@@ -297,6 +299,7 @@ def proposed(words: Sequence[str], arguments: argparse.Namespace) -> Text:
         for code, ways in guess.codes.items()
         for rules in ([CodeRules()] if is_given else ways.rules)
     ]
+    say_of_others(guess)
     said = []
     for at, ways in guess.codes.items():
         if ways.problem and not is_given:
@@ -304,10 +307,24 @@ def proposed(words: Sequence[str], arguments: argparse.Namespace) -> Text:
             said.append(Text("most codes in {} are not EAN or UPC: {}", name, ways.problem))
     for kind, places in guess.doubts.items():
         if len(places) > 1 or kind != "code":
-            names = ", ".join(shlex.quote(column_word(guess.names, at)) for at in places)
-            said.append(Text("--{} may be {}", kind, names))
+            said.append(Text("--{} may be {}", kind, words_for(guess, places)))
     tried = Text("try {}", joined(", ", commands[:MOST_PROPOSED]))
     return joined("; ", [*said, tried]) if commands else NOTHING
+
+
+def say_of_others(guess: Guess) -> None:
+    """Writes which column is proposed where others are named alike."""
+    for kind, name in OF_KINDS.items():
+        if guess.others.get(kind):
+            found = words_for(guess, [guess.columns[kind]])
+            others = words_for(guess, guess.others[kind])
+            write_message(TOOL, Text("{} is {}; others: {}", name, found, others))
+
+
+def words_for(guess: Guess, places: Sequence[int]) -> str:
+    """Returns the columns at some places as a command has them, the first ones of many."""
+    words = [shlex.quote(column_word(guess.names, at)) for at in places]
+    return ", ".join(words[:MOST_NAMED] + [".."] * (len(words) > MOST_NAMED))
 
 
 def command_for(

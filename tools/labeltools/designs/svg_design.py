@@ -27,7 +27,7 @@ from labeltools.common.text import Remedy, Text
 from labeltools.designs.places import key_of, part_of, PARTS, Place, place_of, title_of
 from labeltools.designs.svg_page import handle_of, HOLDERS, read_page, rsvg, SvgPage, tag_of
 from labeltools.layout.fitting import Colour
-from labeltools.paper.area import Edges
+from labeltools.paper.plan import Edges
 from labeltools.paper.stock import Size, size_text
 
 SUFFIXES = (".svg", ".svgz")

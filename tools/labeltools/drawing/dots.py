@@ -10,8 +10,8 @@ from labeltools.common.text import Remedy, Text
 from labeltools.drawing.pen import Pen, REVERSED
 from labeltools.layout.layout import Page
 from labeltools.lines.engine import bytes_a_row
-from labeltools.paper.area import Dots, MOST_DOTS
 from labeltools.paper.picture import Picture, rows_reader
+from labeltools.paper.plan import Dots, MOST_DOTS
 
 LIGHT = bytes(range(255, -1, -1))  # of PNG, in which 1 is light
 MOST_OF_PAGE = 400_000_000  # dots: an A4 page of 1,800 dots an inch has fewer

@@ -15,19 +15,10 @@ from labeltools.designs.framed import FramedDesign
 from labeltools.designs.svg_design import is_file, read_design, size_of_page
 from labeltools.designs.svg_labels import SvgLabels
 from labeltools.drawing.forms import ESCPOS, Form, FORMS, PDF
+from labeltools.layout.area import Area, ARTICLE, NO_PURPOSE, PURPOSES, Wishes
 from labeltools.layout.letters import FONT
 from labeltools.lines.file import UNPRINTABLE
-from labeltools.paper.area import (
-    ARTICLE,
-    DESIGNS,
-    Edges,
-    NO_PURPOSE,
-    Plan,
-    plan_of,
-    unprinted_edges,
-    whole_plan_of,
-    Wishes,
-)
+from labeltools.paper.plan import Edges, Plan, plan_of, unprinted_edges, whole_plan_of
 from labeltools.paper.stock import Grid, grid_sheet, Sheet, Size, stock_sheet
 from labeltools.printing.selection import Selection
 
@@ -109,10 +100,13 @@ class PrintOptions:
 
 @dataclass(frozen=True)
 class Job:
-    """How labels go out: what is asked for, on which sheet, in which form and design."""
+    """How labels go out: what is asked for, on which sheet, in which room for each, in which form
+    and design.
+    """
 
     options: PrintOptions
     plan: Plan
+    area: Area
     form: Form
     design: Design
 
@@ -142,16 +136,17 @@ def planned(options: PrintOptions) -> Job:
     if is_file(options.design):
         white = unprinted_edges(sheet, edges)
         design: Design = SvgLabels(read_design(options.design, sheet.cell, white, options.turn))
-        plan = whole_plan_of(sheet, dpi, Wishes(NO_PURPOSE, *wishes))
+        purpose, plan = NO_PURPOSE, whole_plan_of(sheet, dpi)
     else:
         design = FramedDesign()
-        plan = plan_of(sheet, dpi, edges, Wishes(DESIGNS[options.design], *wishes))
+        purpose, plan = PURPOSES[options.design], plan_of(sheet, dpi, edges)
+    area = Area(*plan.room, plan.dot, Wishes(purpose, *wishes))
     dots = options.dots or RECEIPT_DOTS
     wide = (plan.page[0], dots)
     too_wide = Text("a label is {} dots wide, and the printer has {} ({})", *wide, Remedy("dots"))
     too_wide = too_wide.in_window(Text("a label is {} dots wide, and the printer has {}", *wide))
     refuse(form == ESCPOS and plan.page[0] > dots, too_wide)
-    return Job(options, plan, form, design)
+    return Job(options, plan, area, form, design)
 
 
 def refuse(is_wrong: object, what: Text, hint: Text = NOTHING) -> None:

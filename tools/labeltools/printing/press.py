@@ -102,7 +102,7 @@ def prepared(
         if record.modules is not None and record.label.copies
     ]
     reasons = {record.number: record.refused for record in lines.records if record.refused}
-    on = Setting(job.plan.area, letters, options.note, lines.empty)
+    on = Setting(job.area, letters, options.note, lines.empty)
     reasons.update(without_letters(labels, job.design, on))
     if options.is_each_once:
         reasons.update(doubles(lines, reasons))

@@ -14,8 +14,8 @@ from labeltools.common.messages import BAD_ARGUMENTS, ToolError
 from labeltools.common.text import counted, give, Remedy, Text
 from labeltools.designs.svg_layout import SvgLayout
 from labeltools.layout.layout import LaidOut
-from labeltools.paper.area import Dots, Edges, MILLIMETRES, POINTS
 from labeltools.paper.box import Box
+from labeltools.paper.plan import Dots, Edges, MILLIMETRES, POINTS
 from labeltools.paper.stock import Size, size_text
 from labeltools.printing.press import Prepared
 

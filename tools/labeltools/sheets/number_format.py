@@ -70,6 +70,8 @@ LATER_IN_1904 = 1462  # days between the two beginnings
 DAY_ZERO = date(1899, 12, 30)
 SECONDS = 86400  # of a day
 SAME_SECOND = Decimal("0.01")
+MOST_LANGUAGES = 0xFFFF  # above it are other digits and other calendars
+OF_SYSTEM = (0xF800, 0xF400)  # its own formats of dates and times
 WHOLE_PATTERN = re.compile("[#?,]*[#?0]0?0?")  # with signs of thousands
 
 
@@ -257,10 +259,7 @@ def language_of(code: str | None, number_format: str) -> str:
     if not re.fullmatch("[0-9A-F]{1,8}", code, re.IGNORECASE):
         return code.replace("-", "_")
     number = int(code, 16)
-    if number > 0xFFFF or number in (
-        0xF800,
-        0xF400,
-    ):  # other digits, another calendar, the system's own format
+    if number > MOST_LANGUAGES or number in OF_SYSTEM:
         raise not_understood(number_format)
     return locale.windows_locale.get(number, "")
 

@@ -20,7 +20,7 @@ from labeltools.common.text import (
     windowed,
 )
 from labeltools.designs.svg_design import is_file
-from labeltools.paper.area import ARTICLE
+from labeltools.layout.area import ARTICLE
 from labeltools.paper.stock import list_stock
 from labeltools.printing.press import check_count
 from labeltools.sending.sender import Unfinished
