@@ -99,6 +99,10 @@ class Window(Gtk.ApplicationWindow):
         )
         self.builder.connect_signals(self)
         self.let_out(False)
+        self.set_up()
+
+    def set_up(self) -> None:
+        """Sets up what window.ui does not say."""
         for name, (lowest, highest) in RANGES.items():
             self.control(name).set_range(lowest, highest)
         for part in (self.head, self.get_child()):
