@@ -376,7 +376,7 @@ class Gate(InFolder):
             }
             for name, text in {**programs, **changed}.items():
                 write(self.path("bin", name), f"#!/bin/sh\n{text}\n", is_program=True)
-            for name in (".ci/run", "scripts/packages.txt"):
+            for name in (".ci/run", "scripts/packages.txt", "Makefile"):
                 write(self.path(name), read(os.path.join(TOP, name)))
             write(self.path("docs/PROOF.md"), "The kit: `kit-1 logic 1`.\n")
             write(self.path("scripts/gate.py"), "import sys\nprint('gate', *sys.argv[1:])\n")
@@ -384,10 +384,12 @@ class Gate(InFolder):
             with self.subTest(words=words, variables=variables):
                 found = run_command(["bash", self.path(".ci/run"), *words.split()], **given)
                 self.assertEqual((found[0], said in found[1]), (status, True), found[1])
-        os.rename(self.path("docs"), self.path("a b"))
-        write(self.path("a b/.ci/run"), read(self.path(".ci/run")))
-        found = run_command(["bash", self.path("a b/.ci/run")], **given)
-        self.assertEqual(found, (1, f"make cannot handle the space in the name of this folder: {self.path('a b')}\n"))
+        for name, sign in (("a b", "space"), ("a&b", "&")):
+            for file in (".ci/run", "scripts/packages.txt", "Makefile"):
+                write(self.path(name, file), read(os.path.join(TOP, file)))
+            found = run_command(["bash", self.path(name, ".ci/run")], **{**given, "MISSING": ""})
+            said = f"make cannot handle the {sign} in the name of this folder: {self.path(name)}"
+            self.assertEqual((found[0], said in found[1]), (1, True), found[1])
 
 
 class Packages(unittest.TestCase):

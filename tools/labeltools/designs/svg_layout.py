@@ -10,8 +10,8 @@ from itertools import combinations, compress, repeat
 from typing import Iterator, Mapping, NamedTuple, Sequence
 
 from labeltools.common.cache import Found
-from labeltools.common.messages import quoted, sentence, Talk, ToolError
-from labeltools.common.text import Text
+from labeltools.common.messages import sentence, Talk, ToolError
+from labeltools.common.text import Remedy, Text
 from labeltools.designs.design import PlacedSymbol
 from labeltools.designs.fit import ENLARGE, NoRoom, PlacedText, Room
 from labeltools.designs.places import key_of, PARTS, Place
@@ -305,9 +305,9 @@ class SvgLayouts:
         known = {*names, *self.asked}
         if empty := [one.title for one in self.places if not known & {one.key, one.part}]:
             hint = Text(
-                "give such a column with label-table --text {}, or remove the name",
-                quoted(empty[0]),
-            )
+                "give such a column with label-table {}, or remove the name",
+                Remedy("text", empty[0]),
+            ).in_window(Text("choose such a column as a text, or remove the name"))
             yield Text("{}: no label has anything for {}: {}", file, ", ".join(empty), hint)
 
 

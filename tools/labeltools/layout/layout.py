@@ -11,7 +11,7 @@ from functools import cache
 from typing import Iterator, Mapping, Sequence
 
 from labeltools.common.messages import Origin, Talk
-from labeltools.common.text import joined, Text
+from labeltools.common.text import joined, Remedy, Text
 from labeltools.layout.area import Area
 from labeltools.layout.frame import Frame, HINTING, Need
 from labeltools.layout.frame_search import frame_of
@@ -319,11 +319,13 @@ def reason(needs: Sequence[Need], area: Area) -> Text:
     symbology = needs[0].kind
     modules = area.modules[symbology.name] if symbology.nominal else (area.dots(symbology.module),)
     if not modules:
-        return Text(
-            "{}: --module and --dpi give no modules of {:g} mm or more",
-            symbology.title,
-            area.smallest(symbology),
+        least = area.smallest(symbology)
+        names = Remedy("module"), Remedy("dpi")
+        what = Text(
+            "{}: {} and {} give no modules of {:g} mm or more", symbology.title, *names, least
         )
+        instead = Text("{}: the printer has no modules of {:g} mm or more", symbology.title, least)
+        return what.in_window(instead)
     wide = max(need.width for need in needs) * min(modules)
     is_wide = wide > area.width
     taken = size_text(area.millimetres)
