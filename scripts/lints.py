@@ -32,8 +32,8 @@ INTERPRETERS = {
 ENDINGS = {".py": "python", ".bash": "completion", ".1": "manual", ".3": "manual"}
 # The most that a function may have: ways through it, as McCabe counts them, and statements without its docstring.
 MOST_WAYS, MOST_STATEMENTS = 15, 30
-# The tools: the most lines and parameters of a function there, the functions that each command has, names of types.
-PACKAGE, MOST_LINES, MOST_PARAMETERS, OF_COMMANDS = "tools/labeltools/", 40, 6, {"run", "new_parser"}
+# The tools: the most lines and parameters of a function there, how each command starts, names of types.
+PACKAGE, MOST_LINES, MOST_PARAMETERS, ENTRY = "tools/labeltools/", 40, 6, "run"
 TYPE = re.compile("[A-Z].*[a-z]")
 # The merge after which subjects of commits have at most so many letters.
 SINCE, LONGEST = "f68bd431", 72
@@ -148,7 +148,7 @@ def defined_in(text: str) -> set[str]:
             names.add(node.name)
         elif isinstance(node, ast.Assign):
             names |= {it.id for it in node.targets if isinstance(it, ast.Name) and TYPE.match(it.id)}
-    return {name for name in names if not name.startswith("_")} - OF_COMMANDS
+    return {name for name in names if not name.startswith("_")} - {ENTRY}
 
 
 def faults_of_modules(texts: Mapping[str, str]) -> Iterator[str]:

@@ -121,7 +121,7 @@ POINT = reads("7x15")
 COUNT = reads("3", 1, int)
 
 
-def new_parser() -> Parser:
+def print_parser() -> Parser:
     """Returns the arguments; their names are those of `PrintOptions`, which has their defaults."""
     parser = Parser(TOOL, USAGE, ABOUT, EXAMPLES)
     add_sheet_options(parser.add_argument_group("the paper"))
@@ -210,7 +210,7 @@ def print_options(words: Sequence[str] | None = None) -> PrintOptions:
     """Returns what words ask for, or else the arguments of this program; raises `ToolError` and
     `OSError`.
     """
-    given = vars(new_parser().parse_args(words))
+    given = vars(print_parser().parse_args(words))
     given["only"] = selection_of(given.pop("rows_only") or (), given.pop("codes"))
     return PrintOptions(**given)
 

@@ -81,7 +81,7 @@ class TableTalk(CommandTalk):
                 write_message(TOOL, what)
 
 
-def new_parser() -> Parser:
+def table_parser() -> Parser:
     """Returns the parser of the arguments; but for a few their names are those of fields of
     `TableOptions`, which have their defaults.
     """
@@ -255,7 +255,7 @@ def table_options(arguments: argparse.Namespace) -> TableOptions:
 
 def understood(words: Sequence[str]) -> argparse.Namespace:
     """Returns the arguments that words are; raises `BadArguments`."""
-    parser = new_parser()
+    parser = table_parser()
     arguments = parser.parse_args(words)
     if arguments.code is None:
         what = Text("the following arguments are required: --code")
