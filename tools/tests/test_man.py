@@ -133,9 +133,7 @@ class Pages(unittest.TestCase):
             self.assertIn(said, dict(re.findall(r"(?m)^ +(\d) +(.*)$", page))[str(status)])
             fault = mock.patch("labeltools.drawing.pen.Pen.draw_modules")
             with fault if status == 3 and tool == "label-print" else nullcontext():
-                run = support.run if tool == "labels" else support.run_here
-                name = support.labels_program() if tool == "labels" else tool
-                done = run(name, *words, input=lines.encode())
+                done = ran(tool, *words, input=lines.encode())
             self.assertEqual(done.returncode, status, (tool, words, done.stderr))
 
     def test_numbers_are_those_of_the_tools(self) -> None:
@@ -158,6 +156,13 @@ class Pages(unittest.TestCase):
         names = page.partition(" - draw and read")[0].partition("NAME")[2]
         self.assertEqual({*re.findall(r"\w+", names)}, {name for name, _ in declared})
         self.assertEqual({*NUMBER.findall(page)} - {*NUMBER.findall(header)}, set())
+
+
+def ran(tool: str, *words: str, input: bytes) -> "support.Finished[bytes]":
+    """What the program or a tool makes of lines."""
+    if tool == "labels":
+        return support.run(support.labels_program(), *words, input=input)
+    return support.run_here(tool, *words, input=input)
 
 
 def calls_in(text: str) -> set[tuple[str, str]]:
