@@ -8,8 +8,11 @@ LIBDIR ?= $(PREFIX)/lib
 PYTHONDIR ?= $(LIBDIR)/python3/dist-packages
 ZSHDIR ?= $(DATADIR)/zsh/site-functions
 CPU ?= x86-64
-# make cuts names at spaces, and would look for files that are not there.
-$(foreach name,CURDIR PREFIX DESTDIR,$(if $(word 2,$($(name))),$(error make cannot handle the space in $(name): $($(name)))))
+# make cuts names at spaces, and it or the shell takes these signs for its own: files would not be found.
+ODD := " \# $$ % & ' ( ) * : ; < = > ? [ \ ] ^ ` { | } !
+refused = $(error make cannot handle the $(1) in $(if $(filter CURDIR,$(2)),the name of this folder,$(2)): $($(2)))
+$(foreach name,CURDIR PREFIX DESTDIR,$(if $(word 2,$($(name))),$(call refused,space,$(name)))$(foreach sign,$(ODD),\
+    $(if $(findstring $(sign),$($(name))),$(call refused,$(sign),$(name)))))
 LABELS ?= out/labels
 PROVED ?= out/liblabels_c.a
 PROVED_ARM64 ?= out/arm64/liblabels_c.a
@@ -20,7 +23,7 @@ COMPLETED := $(filter-out label-window,$(TOOLS))
 MODULES := $(shell cd tools && find labeltools -name '*.py' -o -name '*.ui' -o -name '*.list')
 LANGUAGES := $(patsubst tools/po/%.po,%,$(wildcard tools/po/*.po))
 WINDOW = org.labels.Window
-# The pages, the programs that they call, and the definitions that docs/PROOF.md has read.
+# The pages, the programs that they call, and the definitions that docs/PROOF-READING.md has read.
 DOCUMENTS := README.md $(wildcard docs/*.md docs/pictures/* designs/* examples/* crates/*/specs/*.antt) \
     crates/command/src/entry.rt lib/examples/read.py tools/tests/printers.py
 PYTHON = /usr/bin/python3

@@ -22,7 +22,7 @@ import signal
 import subprocess
 import sys
 import time
-from typing import NoReturn
+from typing import NoReturn, Sequence
 
 import sources
 
@@ -53,6 +53,7 @@ ALL = (*QUICK, PROOFS, WRONG, PLAIN, *BUILT)
 # The run ends after each of these where a step has failed, or it has itself.
 NEEDED = {QUICK[-1]: True, PROOFS: False, PLAIN: False}
 COUNTS = "scripts/counts.txt"
+HEAD = "# The last line of each step of the gate: `scripts/gate.py --write STEP` makes it anew.\n"
 # Seconds that a step may take, on a busy machine too.
 LONGEST = 7200.0
 ENDING = (signal.SIGTERM, signal.SIGHUP, signal.SIGINT)
@@ -114,43 +115,51 @@ def processor_seconds() -> float:
     return sum(os.times()[:4])
 
 
+def judged(step: str, kept: dict[str, str], writes: bool) -> int:
+    """Runs a step, and prints what it says where it failed, or else its last line. Returns its status, or 1 where that
+    line is another one than is kept; `writes` keeps it."""
+    start, used = time.monotonic(), processor_seconds()
+    status, said = run(step)
+    last = VARIES.sub("", said.rstrip("\n").split("\n")[-1])
+    if writes and status == 0:
+        kept[step] = last
+    fault = f"status {status}" if status else f"kept is: {kept.get(step, 'no line')}" * (kept.get(step) != last)
+    print(f"{said}{fault}" if fault else last)
+    taken = f"{time.monotonic() - start:.1f} s, {processor_seconds() - used:.1f} of processor"
+    print(f"{'FAILED' if fault else 'ok'}: {step}, {taken}", flush=True)
+    return status or int(bool(fault))
+
+
+def run_all(steps: Sequence[str], kept: dict[str, str], writes: bool) -> int:
+    """Runs steps, and prints how many passed. Returns the status of the gate."""
+    failed = sorted(f"{step}, which is no step" for step in {*kept} - {*ALL})
+    print(*failed, sep="\n", end="\n" * bool(failed))
+    for count, step in enumerate(steps, 1):
+        status = judged(step, kept, writes)
+        failed += [step] if status else []
+        if status and step in NEEDED or failed and NEEDED.get(step):
+            break
+    print(f"{processor_seconds() / 60:.1f} processor minutes")
+    print(f"{max(count - len(failed), 0)} passed, {len(failed)} failed")
+    return (status or 1 if step == PROOFS else 1) if failed else 0
+
+
 def main() -> int:
     asked = tuple(word for word in sys.argv[1:] if word != "--write")
     parts: dict[tuple[str, ...], tuple[str, ...]] = {("all",): ALL, ("quick",): QUICK, ("built",): BUILT}
-    steps = parts.get(asked, asked)
+    steps, writes = parts.get(asked, asked), len(asked) < len(sys.argv[1:])
     if not steps or not {*steps} <= {*ALL}:
         is_asked = asked in (("-h",), ("--help",))
         print(__doc__, file=sys.stdout if is_asked else sys.stderr)
         return 0 if is_asked else 2
     heed_signals()
-    kept = dict(
-        line.split(": ", 1)
-        for line in sources.read(f"{sources.TOP}/{COUNTS}").splitlines()
-        if not line.startswith("#")
-    )
-    failed = sorted(f"{step}, which is no step" for step in {*kept} - {*ALL})
-    print(*failed, sep="\n", end="\n" * bool(failed))
-    for count, step in enumerate(steps, 1):
-        start, used = time.monotonic(), processor_seconds()
-        status, said = run(step)
-        last = VARIES.sub("", said.rstrip("\n").split("\n")[-1])
-        if len(asked) < len(sys.argv[1:]) and status == 0:
-            kept[step] = last
-        fault = f"status {status}" if status else f"kept is: {kept.get(step, 'no line')}" * (kept.get(step) != last)
-        failed += [step] if fault else []
-        print(f"{said}{fault}" if fault else last)
-        taken = f"{time.monotonic() - start:.1f} s, {processor_seconds() - used:.1f} of processor"
-        print(f"{'FAILED' if fault else 'ok'}: {step}, {taken}", flush=True)
-        if fault and step in NEEDED or failed and NEEDED.get(step):
-            break
-    if len(asked) < len(sys.argv[1:]):
-        head = "# The last line of each step of the gate: `scripts/gate.py --write STEP` makes it anew.\n"
-        sources.write(
-            f"{sources.TOP}/{COUNTS}", head + "".join(f"{step}: {kept[step]}\n" for step in ALL if step in kept)
-        )
-    print(f"{processor_seconds() / 60:.1f} processor minutes")
-    print(f"{max(count - len(failed), 0)} passed, {len(failed)} failed")
-    return (status or 1 if step == PROOFS else 1) if failed else 0
+    lines = sources.read(f"{sources.TOP}/{COUNTS}").splitlines()
+    kept = dict(line.split(": ", 1) for line in lines if not line.startswith("#"))
+    status = run_all(steps, kept, writes)
+    if writes:
+        lines = [HEAD, *(f"{step}: {kept[step]}\n" for step in ALL if step in kept)]
+        sources.write(f"{sources.TOP}/{COUNTS}", "".join(lines))
+    return status
 
 
 if __name__ == "__main__":

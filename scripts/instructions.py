@@ -111,6 +111,8 @@ LIBRARY_CALLS = {
     "labels_draw, scale 3": SOME,
     "labels_bitmap, scale 3": SOME,
 }
+# The call that is compared with those of other libraries.
+COMPARED_CALL = "labels_symbol"
 # What is counted with us: programs, libraries in a loop, and calls of libraries.
 PROGRAMS = (PROGRAM, "zint", "barcode", "qrencode")
 SHOWN = ("zint (`--dump`)", "GNU barcode (PostScript)", "qrencode (text)")
@@ -247,11 +249,6 @@ def time_of_call(call: str, label: Label) -> Cell:
     return f"{microseconds:,.0f}" if microseconds >= 100 else f"{microseconds:.2g}"
 
 
-def nothing_drawn() -> Cell:
-    """A cell of what is not counted."""
-    return None
-
-
 def see_picture(label: Label, theirs: str) -> None:
     """A picture of bars has to be that of `labels`, one of a QR symbol as large: its mask may differ."""
     ours = output_of(*command_of(PROGRAM, label, CALLS + 1))
@@ -261,31 +258,38 @@ def see_picture(label: Label, theirs: str) -> None:
         stop(f"a library draws another picture of: {label.data}")
 
 
+def cells_of_call(call: str, name: str) -> list[Callable[[], Cell]]:
+    """What counts the cells of a call of our library for a label: instructions, then times, each beside those of other
+    libraries if it is compared with them."""
+    calls, label = [call, *(LIBRARIES.values() if call == COMPARED_CALL else ())], OF_LIBRARY[name]
+    counts: list[Callable[[], Cell]] = [partial(of_call, one, label) for one in calls]
+    return [*counts, *(partial(time_of_call, one, label) for one in calls)]
+
+
 def tables() -> Iterator[tuple[list[str], Rows]]:
     """The tables of the page: the head, and for each row what counts its cells, of which the first is ours."""
     rows: Rows = {}
     for name, label in LABELS.items():
         ours, *others = (partial(one_more, program, label) for program in PROGRAMS)
         rows[name] = [ours, *(partial(of_call, loop, label) for loop in LOOPS), *others]
-    rows |= {name: [partial(one_more, PROGRAM, label, *options)] for name, (label, options) in ONLY_OURS.items()}
     yield ["Label", "labels", *LOOPS.values(), *SHOWN], rows
+    rows = {name: [partial(one_more, PROGRAM, label, *options)] for name, (label, options) in ONLY_OURS.items()}
+    yield ["Label", "labels"], rows
     rows = {}
     for name, label in STARTS.items():
         ours, *others = (partial(whole_run, program, label) for program in PROGRAMS)
         rows[name] = [ours, nothing, *others]
     yield ["Start", "labels", "empty C program", *SHOWN], rows
     yield ["Calls", "labels"], {name: [partial(system_calls, call)] for name, call in SYSTEM_CALLS.items()}
-    rows = {}
-    for call, names in LIBRARY_CALLS.items():
-        for name in names:
-            calls = [call, *(LIBRARIES.values() if call == "labels_symbol" else ())]
-            counts = [partial(of_call, one, OF_LIBRARY[name]) for one in calls]
-            none: list[Callable[[], Cell]] = [nothing_drawn] * (len(LIBRARIES) + 1 - len(calls))
-            times = [partial(time_of_call, one, OF_LIBRARY[name]) for one in calls]
-            function, *scale = call.split(", ")
-            rows[", ".join([f"`{function}`", name, *scale])] = [*counts, *none, *times]
-    of_times = [f"{name}, µs" for name in ("liblabels", *LIBRARIES)]
-    yield ["Call", "liblabels", *LIBRARIES, *of_times], rows
+    for is_compared in (True, False):
+        rows = {}
+        for call, names in LIBRARY_CALLS.items():
+            if (call == COMPARED_CALL) == is_compared:
+                function, *scale = call.split(", ")
+                rows |= {", ".join([f"`{function}`", name, *scale]): cells_of_call(call, name) for name in names}
+        libraries = list(LIBRARIES) if is_compared else []
+        of_times = [f"{name}, µs" for name in ("liblabels", *libraries)]
+        yield ["Call", "liblabels", *libraries, *of_times], rows
 
 
 def shown(count: Cell) -> str:

@@ -4,9 +4,9 @@
 What a file is, its first line says, or its ending; a first line `#!` that is none of INTERPRETERS is a fault. Settings
 beside the code are not read, but for scripts/mypy.ini; remarks in the code that silence a lint are faults. A lint that
 found nothing runs again where one of its files or a package of the system changes: out/lints.txt has the sums. What is
-looked at here: how long functions are, the order of the imports of the tools, the subjects of commits since SINCE,
-HANDLES, the root files of the crates, and debian/tests. The last line is `N lints with the limits S, F faults`: S is a
-sum of their commands and settings.
+looked at here: how long functions are, the order of the imports of the tools, names that two modules of the tools
+define, the subjects of commits since SINCE, HANDLES, the root files of the crates, and debian/tests. The last line is
+`N lints with the limits S, F faults`: S is a sum of their commands and settings.
 """
 
 import ast
@@ -32,6 +32,9 @@ INTERPRETERS = {
 ENDINGS = {".py": "python", ".bash": "completion", ".1": "manual", ".3": "manual"}
 # The most that a function may have: ways through it, as McCabe counts them, and statements without its docstring.
 MOST_WAYS, MOST_STATEMENTS = 15, 30
+# The tools: the most lines and parameters of a function there, what each command has by one name, names of types.
+PACKAGE, MOST_LINES, MOST_PARAMETERS, ENTRY = "tools/labeltools/", 40, 6, "run"
+TYPE = re.compile("[A-Z].*[a-z]")
 # The merge after which subjects of commits have at most so many letters.
 SINCE, LONGEST = "f68bd431", 72
 NO_HANDLES = "Handles allowed: none.\n"
@@ -43,6 +46,12 @@ WRONG = f"import os  # {'noqa'}\n\n\ndef one():\n    two = three\n\n\ndef four(t
 FINDS = ("F401", "F841", "F821", "C901")
 # Imports of which three are out of order.
 WRONG_ORDER = "import os\nimport ast\nfrom b import A, c\nfrom a import A\nfrom d import b, A\n\nimport e\n"
+# Modules in which four things are wrong: a type and a function that both define, and a function that is too long and
+# takes too much.
+WRONG_MODULES = {
+    "one.py": "class Ab:\n    pass\n\n\ndef b(c, d, e, f, g, *h, i):\n" + "    pass\n" * MOST_LINES,
+    "two.py": "Ab = tuple[int, int]\n\n\ndef b():\n    pass\n",
+}
 # What mypy has to find: a module that is not there, a function without types, and another type than is said.
 UNTYPED = "import nowhere\n\n\ndef one(two):\n    return two\n\n\nnumber: int = 'one'\n"
 FINDS_TYPES = ("[import]", "[no-untyped-def]", "[assignment]")
@@ -117,12 +126,53 @@ def faults_of(path: str) -> Iterator[str]:
     for number, line in enumerate(text.split("\n"), 1):
         if SILENCED.search(line):
             yield f"{path}:{number}: it silences a lint: {line.strip()}"
-    for function in ast.walk(ast.parse(text)) if kind_of(path) == "python" else ():
-        if isinstance(function, (ast.FunctionDef, ast.AsyncFunctionDef)):
-            count = sum(isinstance(node, ast.stmt) for node in ast.walk(function)) - 1
-            count -= ast.get_docstring(function) is not None
-            if count > MOST_STATEMENTS:
-                yield f"{path}:{function.lineno}: {function.name} has {count} statements, {MOST_STATEMENTS} at most"
+    for function in functions_of(text) if kind_of(path) == "python" else ():
+        count = sum(isinstance(node, ast.stmt) for node in ast.walk(function)) - 1
+        count -= ast.get_docstring(function) is not None
+        if count > MOST_STATEMENTS:
+            yield f"{path}:{function.lineno}: {function.name} has {count} statements, {MOST_STATEMENTS} at most"
+
+
+def functions_of(text: str) -> Iterator[ast.FunctionDef | ast.AsyncFunctionDef]:
+    """The functions of a module, and those within others."""
+    for node in ast.walk(ast.parse(text)):
+        if isinstance(node, (ast.FunctionDef, ast.AsyncFunctionDef)):
+            yield node
+
+
+def defined_in(text: str) -> set[str]:
+    """The types and the public functions that a module defines; a type may be another name of one."""
+    names = set[str]()
+    for node in ast.parse(text).body:
+        if isinstance(node, (ast.ClassDef, ast.FunctionDef)):
+            names.add(node.name)
+        elif isinstance(node, ast.Assign):
+            names |= {it.id for it in node.targets if isinstance(it, ast.Name) and TYPE.match(it.id)}
+    return {name for name in names if not name.startswith("_")} - {ENTRY}
+
+
+def faults_of_modules(texts: Mapping[str, str]) -> Iterator[str]:
+    """Names that two modules define, and functions that have too many lines, or parameters beside their object."""
+    seen: dict[str, str] = {}
+    for path, text in texts.items():
+        for name in sorted(defined_in(text)):
+            if seen.setdefault(name, path) != path:
+                yield f"{path}: {name} is defined in {seen[name]}, too"
+        for function in functions_of(text):
+            said = f"{path}:{function.lineno}: {function.name} has"
+            lines = (function.end_lineno or 0) - function.lineno + 1
+            if lines > MOST_LINES:
+                yield f"{said} {lines} lines, {MOST_LINES} at most"
+            takes = [it.arg for it in ast.walk(function.args) if isinstance(it, ast.arg) and it.arg != "self"]
+            if len(takes) > MOST_PARAMETERS:
+                yield f"{said} {len(takes)} parameters, {MOST_PARAMETERS} at most"
+
+
+def faults_of_tools(paths: Sequence[str]) -> Iterator[str]:
+    """Those of the modules of the tools; those of WRONG_MODULES have to be found."""
+    if len([*faults_of_modules(WRONG_MODULES)]) != 4:
+        yield "names that two modules define, or functions that are too long, are not found"
+    yield from faults_of_modules({path: sources.read(path) for path in paths})
 
 
 def disordered(text: str) -> Iterator[int]:
@@ -202,7 +252,9 @@ def main() -> int:
     sources.parser_of(__doc__).parse_args()
     os.chdir(sources.TOP)
     files = files_by_kind()
-    faults = [*faults_of_rules(), *faults_of_subjects(), *faults_of_imports(below(["tools"], files["python"]))]
+    tools = below(["tools"], files["python"])
+    faults = [*faults_of_rules(), *faults_of_subjects(), *faults_of_imports(tools)]
+    faults += faults_of_tools([path for path in tools if path.startswith(PACKAGE)])
     faults += [f"{path}: no lint knows {kind}" for kind in files if kind.startswith("#!") for path in files[kind]]
     faults += [it for kind in ("python", "shell", "completion") for path in files[kind] for it in faults_of(path)]
     before = sources.read(KEPT).split() if os.path.exists(KEPT) else []
@@ -211,7 +263,7 @@ def main() -> int:
     faults_of_lints = {it: fault for it, lint in found.items() if it not in before and (fault := lint.fault())}
     sources.write(KEPT, "".join(f"{it}\n" for it in found if it not in faults_of_lints))
     faults += faults_of_lints.values()
-    limits = [*(lint.command for lint in lints), f"{MOST_STATEMENTS} {LONGEST} {WORDS}"]
+    limits = [*(lint.command for lint in lints), f"{MOST_STATEMENTS} {MOST_LINES} {MOST_PARAMETERS} {LONGEST} {WORDS}"]
     limits += [sources.read(lint.beside[0]) for lint in lints if lint.beside]
     return sources.ended(faults, f"{len(lints)} lints with the limits {sources.sum_of(limits)}, {len(faults)} faults")
 

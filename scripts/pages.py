@@ -1,23 +1,21 @@
 #!/usr/bin/python3
-"""Checks the pages against the files that they speak of: *.md, docs/*.md and crates/*/README.md.
+"""Checks the pages against the files that they speak of: *.md, docs/*.md, designs/*.md and crates/*/README.md.
 
 - Each block of code is closed, and its language is one that a script reads: text, one of those below, and sh, sh kit
   and console on the pages alone that run_recipes.py runs.
-- Code is quoted as it is: each block of a program's language in docs/LIBRARY.md and docs/PROOF.md, and each block of
-  text that begins with a clause (`ensures`), is in a file crates/*.rt or lib/* that the page names before it, line by
-  line, but for the spaces in front. A block below a line `Not checked:` is left out.
+- Code is quoted as it is: each block of a program's language in docs/LIBRARY.md and docs/PROOF-REFERENCE.md, and each
+  block of text that begins with a clause (`ensures`), is in a file crates/*.rt or lib/* that the page names before it,
+  line by line, but for the spaces in front. A block below a line `Not checked:` is left out.
 - Each link from one file of the repository to another leads to a file and a heading.
 - Each name between backticks in the pages of NAMING, such as `Filter::feed`, is of words that the code has.
 - Each crate has a page of at most 40 lines. Each line of a block of Rust in it, but for imports and comments, is a
   line of the function page_of_NAME in crates/tests/src/pages.rt, in the same order, white space apart; of the page of
   `command` it is one of the `main` in crates/labels/src/main.rt.
-- README.md has at most MOST_OF_README lines, and it and docs/*.md have at most MOST_BY_HAND lines by hand. All lines
-  count, blank ones too, but what scripts make or compare name by name: tables of MADE, and what is between marks.
-- Pages, manuals and messages together have at most MOST_ODD of the words of ODD, which natural English has not.
 - A number of a page that a step of the gate counts is the one in scripts/counts.txt.
 
 The last line is `N pages, L links, B blocks, K names, M numbers, F faults`. A fault is a line before it, and makes the
-status 1.
+status 1. A paragraph of more than MOST_WORDS words is a line before it too, but no fault: such a paragraph is read
+twice, or not at all.
 """
 
 import functools
@@ -31,31 +29,30 @@ from typing import Iterable, Iterator, Mapping
 from markdown_it import MarkdownIt
 from markdown_it.token import Token
 
-import believed
 import gate
-import instructions
 import sources
 
 # The pages whose commands run_recipes.py runs.
 README = "README.md"
-RUN = (README, "docs/INPUT.md", "docs/PRINTING.md", "docs/RECIPES.md")
+DESIGNS = "designs/README.md"
+RUN = (README, "docs/INPUT.md", "docs/PRINTING.md", "docs/TICKETS.md", "docs/RECIPES.md", DESIGNS)
 QUOTED = {"rust", "python", "c"}
 COMMANDS = {"sh", "sh kit", "console"}
 LANGUAGES = {"text", *COMMANDS, *QUOTED}
 # What a command of a session is behind.
 PROMPT = "$ "
-QUOTING = ("docs/LIBRARY.md", "docs/PROOF.md")
+REFERENCE = "docs/PROOF-REFERENCE.md"
+QUOTING = ("docs/LIBRARY.md", REFERENCE)
 # The pages that name the code, and the files that have its words.
-NAMING = tuple(f"docs/{name}.md" for name in ("ARCHITECTURE", "DEFINITIONS", "LIBRARY", "PROOF", "SPECIFICATION"))
+NAMING = (
+    *(f"docs/{name}.md" for name in ("ARCHITECTURE", "DEFINITIONS", "LIBRARY", "SPECIFICATION")),
+    *("docs/PROOF.md", "docs/PROOF-READING.md", REFERENCE),
+)
 CODE = (
     *("crates/*/src/**/*.rt", "crates/*/specs/*.antt", "crates/*/proofs/**/*.antt"),
     *("lib/**/*.*", "lib/Makefile", "scripts/*.py"),
 )
-# What believed.py writes, and the first two cells of the heads of tables that it and instructions.py make or compare.
-MARKED = re.compile(f"^{believed.BEGIN}$.*?^{believed.END}\n", re.MULTILINE | re.DOTALL)
-MADE = (["Name", "What it means"], *instructions.HEADS)
-MOST_BY_HAND = 1650
-MOST_OF_README = 110
+MOST_WORDS = 90
 WITHOUT_EXAMPLE = {"labels", "labels_c", "examples", "tests"}
 LONGEST = 40
 FILE = re.compile(r"\b(?:crates/[\w/]+\.rt|lib/[\w/]+\.\w+)\b")
@@ -68,32 +65,18 @@ OF_COMMAND = "crates/labels/src/main.rt"
 NOT_CHECKED = "Not checked:"
 # What pages say, with the step whose line in scripts/counts.txt has the number, and how it is found there.
 IN_PAGES = (
-    ("docs/PROOF.md", r"read all ([\d,]+) labels\s+back", "compare_symbols.py", r"(\d+) read back"),
-    ("docs/PROOF.md", r"drew the same ([\d,]+) symbols", "compare_symbols.py", r"(\d+) of \1 as zint"),
-    ("docs/PROOF.md", r"each of ([\d,]+)\s+simulated\s+out-of-memory", "refuse_each_growth.py", r"^(\d+) growths"),
-    (
-        "docs/BENCHMARKS.md",
-        r"read all ([\d,]+) symbols of five programs",
-        "read_foreign.py",
-        r"(\d+) read as asked",
-    ),
-    ("docs/PROOF.md", r"operator of ([\d,]+) believed definitions", "believed_rows.py", r"of (\d+) definitions"),
-    ("docs/PROOF.md", r"one at a time: ([\d,]+)\s+changes", "believed_rows.py", r"^(\d+) changes"),
-    ("docs/PROOF.md", r"They are ([\d,]+) of", "believed_rows.py", r"(\d+) of \d+ behind the program"),
-    ("docs/PROOF.md", r"of ([\d,]+) behind the\s+program", "believed_rows.py", r"of (\d+) behind the program"),
-    ("docs/PROOF.md", r"and ([\d,]+) of\s+\d+\s+behind", "believed_rows.py", r"(\d+) of \d+ behind the library"),
-    ("docs/PROOF.md", r"of ([\d,]+) behind the\s+library", "believed_rows.py", r"of (\d+) behind the library"),
+    (REFERENCE, r"read\s+all\s+([\d,]+)\s+labels\s+back", "compare_symbols.py", r"(\d+) read back"),
+    (REFERENCE, r"drew\s+the\s+same\s+([\d,]+)\s+symbols", "compare_symbols.py", r"(\d+) of \1 as zint"),
+    (REFERENCE, r"of\s+([\d,]+)\s+simulated\s+out-of-memory", "refuse_each_growth.py", r"^(\d+) growths"),
+    (REFERENCE, r"read\s+all\s+([\d,]+)\s+symbols\s+of\s+five", "read_foreign.py", r"(\d+) read as asked"),
+    (REFERENCE, r"operator\s+of\s+([\d,]+)\s+believed\s+definitions", "believed_rows.py", r"of (\d+) definitions"),
+    (REFERENCE, r"one\s+at\s+a\s+time:\s+([\d,]+)\s+changes", "believed_rows.py", r"^(\d+) changes"),
+    (REFERENCE, r"contract\s+rests\s+on,\s+([\d,]+)", "believed_rows.py", r"(\d+) of \d+ behind the program"),
+    (REFERENCE, r"([\d,]+)\s+definitions\s+that\s+the", "believed_rows.py", r"of (\d+) behind the program"),
+    (REFERENCE, r"library's\s+[\d,]+,\s+([\d,]+)", "believed_rows.py", r"(\d+) of \d+ behind the library"),
+    (REFERENCE, r"of\s+the\s+library's\s+([\d,]+),", "believed_rows.py", r"of (\d+) behind the library"),
 )
 MARKDOWN = MarkdownIt().enable("table")
-# What is written as in a translation: "where" for if (a place has one of the words after it), "alone" for only, "is
-# said" for is reported; and where that is looked for: pages and manuals, but for code, and messages of the tools.
-ODD = re.compile(
-    r"(?<!-)\b(?:where(?! (?:to|it is|it begins|they are)\b)|alone|(?:is|are) said|of one's own|anew|behind the)\b",
-    re.I,
-)
-MOST_ODD = 15
-PROSE = (README, "CONTRIBUTING.md", "docs/*.md", "designs/*.md", "man/*", "tools/po/de.po")
-CODE_IN_PROSE = re.compile(r"```.*?```|`[^`\n]*`", re.DOTALL)
 
 
 @dataclass(frozen=True)
@@ -112,7 +95,7 @@ class Block:
 def texts() -> dict[str, str]:
     """The text of each page, by its path."""
     crates = [f"crates/{name}/README.md" for name in sources.crates_of(sources.TOP)]
-    paths = [*sorted(glob.glob("*.md")), *sorted(glob.glob("docs/*.md")), *crates]
+    paths = [*(path for folder in ("", "docs/", "designs/") for path in sorted(glob.glob(f"{folder}*.md"))), *crates]
     missing = [path for path in dict.fromkeys((*paths, *RUN, *QUOTING, *NAMING)) if not os.path.isfile(path)]
     if missing:
         sys.exit("\n".join(f"there is no {path}" for path in missing))
@@ -192,62 +175,14 @@ def links_of(text: str) -> Iterator[tuple[int, str]]:
         yield from ((start + 1, link) for link in links if link and ":" not in link)
 
 
-def cells_of(line: str) -> list[str]:
-    """The cells of a line of a table, without the spaces around them."""
-    return [cell.strip() for cell in re.split(r"(?<!\\)\|", line.strip())[1:-1]]
-
-
-def made_lines(page: str) -> int:
-    """How many lines of a page scripts make: what is between believed.py's marks, and the tables of MADE."""
-    marked = [part[0] for part in MARKED.finditer(page)]
-    count, is_made, is_in_table = sum(part.count("\n") for part in marked), False, False
-    for line in MARKED.sub("", page).split("\n"):
-        if line.startswith("|") and not is_in_table:
-            is_made = cells_of(line)[:2] in MADE
-        is_in_table = line.startswith("|")
-        count += is_in_table and is_made
-    return count
-
-
-def lines_by_hand(pages: Mapping[str, str]) -> int:
-    """How many lines of README.md and docs/*.md no script makes."""
-    counted = [text for path, text in pages.items() if path == README or path.startswith("docs/")]
-    return sum(text.count("\n") - made_lines(text) for text in counted)
-
-
-def faults_of_length(pages: Mapping[str, str]) -> Iterator[str]:
-    """Which limits of lines the pages pass."""
-    for what, count, most in (
-        (README, pages[README].count("\n"), MOST_OF_README),
-        ("pages by hand", lines_by_hand(pages), MOST_BY_HAND),
-    ):
-        if count > most:
-            yield f"{what}: {count} lines, and at most {most} are wanted"
-
-
-def prose_of(path: str, text: str) -> str:
-    """What a page or a manual says, without code, or the English texts of a file of messages; lines stay in place."""
-    if path.endswith(".po"):
-        return re.sub("^(?!msgid).*", "", text, flags=re.MULTILINE)
-    return CODE_IN_PROSE.sub(lambda found: "\n" * found[0].count("\n"), text)
-
-
-def odd_words(path: str, text: str) -> Iterator[str]:
-    """The words of ODD in a file, each with its line."""
-    for number, line in enumerate(prose_of(path, text).split("\n"), 1):
-        yield from (f"{path}:{number}: {found[0]}: {line.strip()}" for found in ODD.finditer(line))
-
-
-def prose() -> dict[str, str]:
-    """The text of each file of PROSE, by its path."""
-    return {path: sources.read(path) for pattern in PROSE for path in sorted(glob.glob(pattern))}
-
-
-def faults_of_words(files: Mapping[str, str]) -> Iterator[str]:
-    """The words of ODD in some files, if there are too many."""
-    found = [odd for path, text in files.items() for odd in odd_words(path, text)]
-    if len(found) > MOST_ODD:
-        yield from (*found, f"{len(found)} odd words, and at most {MOST_ODD} are wanted")
+def long_paragraphs(text: str) -> Iterator[tuple[int, int]]:
+    """The paragraphs of a page that are too long, each with the number of its line, and how many words it has."""
+    tokens = parsed(text)
+    for before, token in zip(tokens, tokens[1:]):
+        count = len(token.content.split())
+        if before.type == "paragraph_open" and count > MOST_WORDS:
+            start, _ = token.map or (0, 0)
+            yield start + 1, count
 
 
 def names_in(text: str) -> Iterator[tuple[int, str]]:
@@ -320,13 +255,15 @@ def main() -> int:
     sources.parser_of(__doc__).parse_args()
     os.chdir(sources.TOP)
     pages = texts()
-    faults = [*faults_of_length(pages), *faults_of_words(prose()), *faults_of_counts(pages)]
+    faults = [*faults_of_counts(pages)]
     count = links = 0
     names = sum(len([*names_in(pages[page])]) for page in NAMING)
     for page, text in pages.items():
         blocks = [*blocks_of(text)]
         count += len(blocks)
         links += len([*links_of(text)])
+        for line, words in long_paragraphs(text):
+            print(f"{page}:{line}: a paragraph of {words} words is long")
         found = [*faults_of_blocks(page, blocks)]
         found += [(line, fault) for line, link in links_of(text) if (fault := fault_of_link(page, link))]
         if page in NAMING:

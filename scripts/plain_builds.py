@@ -1,16 +1,18 @@
 #!/usr/bin/python3
 """Builds what users get, for every amd64 processor: crates/labels/out/labels and crates/labels_c/out/liblabels_c.a.
-The library for arm64 is crates/labels_c/out/arm64/liblabels_c.a.
+The library for arm64 is crates/labels_c/out/arm64/liblabels_c.a. All are put into out/ too, where `make` looks for
+what it would build: so `make release` takes them, and proves nothing again.
 
 It does what `rt run --cpu x86-64 < /dev/null`, `rt lib --target aarch64-unknown-linux-gnu` and `rt lib --cpu x86-64`
 do in these two folders, but after `rt ci` over the libraries that this has proved, which those commands would prove
 again. The status is 0 where all are built, and docs/PROOF.md has as many contracts of C functions as the check of the
-program assumes.
+program assumes, and `make` has nothing to do.
 """
 
 import io
 import os
 import re
+import shutil
 import sys
 from typing import Any
 
@@ -21,6 +23,12 @@ FLAGS = ["--jobs", "1", "--cpu", "x86-64"]
 # What the page and the verdict say of contracts of C functions.
 PAGE, SAID = f"{sources.TOP}/docs/PROOF.md", re.compile(r"([\d,]+)\s+contracts\s+of\s+C\s+functions")
 ASSUMED = re.compile(r"^logic=proved .*\baxioms=(\d+)", re.M)
+# What `make` looks for, and where it is built.
+MADE = {
+    "out/labels": "crates/labels/out/labels",
+    "out/liblabels_c.a": "crates/labels_c/out/liblabels_c.a",
+    "out/arm64/liblabels_c.a": "crates/labels_c/out/arm64/liblabels_c.a",
+}
 ARM64 = ["--jobs", "1", "--target", "aarch64-unknown-linux-gnu"]
 
 
@@ -40,6 +48,15 @@ def fault_of_page(page: str, verdict: str) -> str:
     return "" if said and said == assumed else f"docs/PROOF.md has {said} contracts of C functions, not {assumed}"
 
 
+def fault_of_make() -> str:
+    """Puts what is built where `make` looks for it, and returns what is wrong: `make` would build some of it anew."""
+    for path, built in MADE.items():
+        os.makedirs(f"{sources.TOP}/{os.path.dirname(path)}", exist_ok=True)
+        shutil.copy(f"{sources.TOP}/{built}", f"{sources.TOP}/{path}")
+    status, said = sources.run(["make", "-s", "--question", *MADE])
+    return f"make would build {' '.join(MADE)} anew, status {status}: {said}" * bool(status)
+
+
 def main() -> int:
     sources.parser_of(__doc__).parse_args()
     crates = {it.name: it for it in libraries.kit().crates_below(sources.TOP)}
@@ -54,7 +71,7 @@ def main() -> int:
     verdict = program.out.getvalue()
     print(verdict, end="")
     status = status or build_for_arm64(library) or int(library.build_static(FLAGS))
-    fault = f"status {status}" if status else fault_of_page(sources.read(PAGE), verdict)
+    fault = f"status {status}" if status else fault_of_page(sources.read(PAGE), verdict) or fault_of_make()
     print(fault or "the program and both libraries are built")
     return 1 if fault else 0
 

@@ -1,22 +1,22 @@
 #!/usr/bin/python3
 """Runs each command of the documents, and compares what it prints.
 
-The pages are README.md, docs/INPUT.md, docs/PRINTING.md, docs/RECIPES.md and the examples of the man pages. A block
-```sh holds commands, and the block ```text right after it, if there is one, what they print on standard output and
-standard error together; where there is none, they print nothing. A block ```console is a session: each command is
-behind a prompt `$ `, its other lines behind `> `, and what it prints is below it; `$ cat FILE` of a file that is not
-there makes the file. A block ```sh, and each command of a session, has to end with status 0. The blocks of a page run
-in their order, each by its own `sh`, at the top of a new copy of the repository's files, with `labels` and the tools
-on the path, and with a home of their own. A block ```sh kit calls the kit, which proves for minutes: it does not run.
+The pages are those of RUN in pages.py, and the examples of the man pages. A block ```sh holds commands, and the block
+```text right after it, if there is one, what they print on standard output and standard error together; where there is
+none, they print nothing. A block ```console is a session: each command is behind a prompt `$ `, its other lines behind
+`> `, and what it prints is below it; `$ cat FILE` of a file that is not there makes the file. A block ```sh, and each
+command of a session, has to end with status 0. The blocks of a page run in their order, each by its own `sh`, at the
+top of a new copy of the repository's files, with `labels` and the tools on the path, and with a home of their own. A
+block ```sh kit calls the kit, which proves for minutes: it does not run.
 
 In a man page an example with prompts is a session, too: there each command may end with any status. An example without
 a prompt has to end with status 0 and may print anything; it runs in labels.1 alone, since those of the other man pages
 name files of the reader.
 
-Besides, the pictures that draw_pictures.sh makes after the commands of RECIPES.md must be those of docs/pictures but
-window.png, pixel for pixel. The last line is `N of N as printed`; where one is not, the status is 1. In each run this
-is shown wrong cases first, each of which it has to report: commands that print something else than the page says, if
-only in the last letter, one that fails, and pictures that are others, if only in one pixel.
+Besides, the pictures that draw_pictures.sh makes after the commands of designs/README.md must be those of
+docs/pictures but those of the window, pixel for pixel. The last line is `N of N as printed`; where one is not, the
+status is 1. In each run this is shown wrong cases first, each of which it has to report: commands that print something
+else than the page says, if only in the last letter, one that fails, and other pictures, if only in one pixel.
 """
 
 import contextlib
@@ -36,8 +36,8 @@ import sources
 
 TOP = Path(sources.TOP)
 PICTURES = TOP / "docs/pictures"
-# A picture of the window: themes and fonts of a desktop make it another one, so it is drawn by hand.
-OF_A_SCREEN = "window.png"
+# Pictures of the window: themes and fonts of a desktop make them others, so they are drawn by hand.
+OF_A_SCREEN = ("window.png", "window-steps.png")
 PROGRAM = "crates/labels/out/labels"
 FOLDERS = ("man", "completions", "tools", "lib", "docs", "scripts", "designs", "examples")
 SECONDS = 3600
@@ -82,7 +82,8 @@ class Commands:
         return "" if is_good else f"status {ran.returncode} of:\n{self.text}it printed:\n{printed}"
 
 
-# What makes the pictures after the commands of RECIPES.md, and what it prints.
+# What makes the pictures, the page whose commands run before it, and what it prints.
+PICTURED = pages.DESIGNS
 DRAWN = Commands("tools/tests/draw_pictures.sh\n", "label-print: row 5: shortened to fit, with an ellipsis\n")
 
 
@@ -164,10 +165,10 @@ def faults_of(name: str, commands: Sequence[Commands], program: Path) -> Iterato
         environment = prepare(Path(folder), program)
         for one in commands:
             yield one.fault(work, environment)
-        if name == "docs/RECIPES.md":
+        if name == PICTURED:
             yield DRAWN.fault(work, environment)
             for picture in sorted(PICTURES.iterdir()):
-                if picture.name != OF_A_SCREEN:
+                if picture.name not in OF_A_SCREEN:
                     yield fault_of_picture(picture, work / picture.name)
 
 

@@ -1,34 +1,36 @@
 #!/usr/bin/python3
-"""Runs the tests of a folder.
+"""Runs the tests of a folder, some at a time in each process of its own, as many as there are processors.
 
 A test passes where it ran to its end and nothing was wrong. Any other one failed: one that is skipped, one that passes
 though it is expected to fail, each test of a class or a file that cannot be read or set up. With --quick a test of
 the tools that draws, or takes seconds, is left out: the gate runs it after the proofs. A folder without tests is a
-failure. A test that takes too long is ended and failed, and so is what is read or set up for tests. In each run tests
-are shown that end in each way, of which just the right one may pass. The last line is `N passed, M failed`, with
-`, L left out` after it where some were; the status is 1 where some failed.
+failure. A test that takes too long is ended and failed, and so is what is read or set up for tests. What all tests of
+a folder need the function `prepare` of its module `support` makes, once. In each run tests are shown that end in each
+way, of which just the right one may pass. The last line is `N passed, M failed`, with `, L left out` after it where
+some were; the status is 1 where some failed.
 """
 
-import compileall
+import gc
 import io
+import itertools
 import os
-import py_compile
 import signal
 import sys
+import tempfile
 import time
 import unittest
-from dataclasses import dataclass
-from typing import Any, Iterator, NoReturn, TextIO
+from dataclasses import astuple, dataclass
+from typing import IO, Any, Iterable, Iterator, NoReturn, TextIO
 
 import sources
 
-# What hundreds of processes of the tests import. Compiled once it saves a third of what each takes to start; Python
-# compares the sum of each source with the compiled file, and takes no other one.
-IMPORTED = {"tools/tests": "tools/labeltools"}
 # Why a test of the tools is left out before the proofs.
 LEFT_OUT = ("is not built: run ", "takes seconds: ")
 # Seconds that a test may take, on a busy machine too, and what is read or set up before it.
 LONGEST = 900.0
+# The most tests that one process runs.
+MOST = 20
+PROCESSORS = len(os.sched_getaffinity(0))
 
 
 class TookTooLong(BaseException):
@@ -74,18 +76,25 @@ class Counts:
     left_out: int
 
 
-def names_in(suite: unittest.TestSuite) -> Iterator[str]:
-    """The names of all tests."""
+def tests_in(suite: unittest.TestSuite) -> Iterator[Any]:
+    """All tests."""
     for test in suite:
         if isinstance(test, unittest.TestSuite):
-            yield from names_in(test)
+            yield from tests_in(test)
         else:
-            yield test.id()
+            yield test
+
+
+def parts_of(suite: unittest.TestSuite) -> Iterator[unittest.TestSuite]:
+    """The tests, in parts for one process each: those of one file, and no more than MOST."""
+    for _, tests in itertools.groupby(tests_in(suite), lambda it: type(it).__module__):
+        while part := [*itertools.islice(tests, MOST)]:
+            yield unittest.TestSuite(part)
 
 
 def judged(suite: unittest.TestSuite, is_quick: bool, stream: TextIO) -> Counts:
     """Runs tests, and returns what came of them."""
-    names = [*names_in(suite)]
+    names = [test.id() for test in tests_in(suite)]
     runner = unittest.TextTestRunner(stream, verbosity=2, buffer=True, resultclass=Result)
     result = runner.run(suite)
     assert isinstance(result, Result)
@@ -95,6 +104,35 @@ def judged(suite: unittest.TestSuite, is_quick: bool, stream: TextIO) -> Counts:
     wholes = tuple(f"{name[:-1].partition('(')[2]}." for name in excused if name.endswith(")"))
     left_out = [name for name in not_passed if name in excused or name.startswith(wholes)]
     return Counts(len(result.passed), len(not_passed) - len(left_out), len(left_out))
+
+
+def judged_apart(parts: Iterable[unittest.TestSuite], is_quick: bool) -> Counts:
+    """Runs each part in a fork of this process, and returns what came of all. Where a process ends before its tests
+    they failed."""
+    waiting = [*parts]
+    gc.freeze()
+    running: dict[int, tuple[int, IO[str]]] = {}
+    found = list[tuple[int, ...]]()
+    while waiting or running:
+        if waiting and len(running) < PROCESSORS:
+            part, said = waiting.pop(), tempfile.TemporaryFile("w+", errors="replace")
+            running[sources.started(lambda: judged_here(part, is_quick), said)] = part.countTestCases(), said
+            continue
+        process, status = os.wait()
+        count, said = running.pop(process)
+        with said:
+            said.seek(0)
+            *lines, last = said.read().rstrip("\n").split("\n")
+        found.append(tuple(map(int, last.split())) if status == 0 else (0, count, 0))
+        print(*lines, *[last] * (status != 0), sep="\n", file=sys.stderr)
+    return Counts(*map(sum, zip((0, 0, 0), *found)))
+
+
+def judged_here(part: unittest.TestSuite, is_quick: bool) -> int:
+    """Runs tests, and prints what came of them as three numbers."""
+    give_time()
+    print(*astuple(judged(part, is_quick, sys.stderr)))
+    return 0
 
 
 class Shown(unittest.TestCase):
@@ -150,10 +188,10 @@ def main() -> int:
     if not sees_wrong_tests():
         print("a test that did not pass is counted as one that did", file=sys.stderr)
         return 1
-    if not given.quick and given.folder in IMPORTED:
-        by_sum = py_compile.PycInvalidationMode.CHECKED_HASH
-        compileall.compile_dir(IMPORTED[given.folder], quiet=1, invalidation_mode=by_sum)
-    found = judged(tests, given.quick, sys.stderr)
+    if not given.quick:
+        getattr(sys.modules.get("support"), "prepare", int)()
+    signal.setitimer(signal.ITIMER_REAL, 0)
+    found = judged_apart(parts_of(tests), given.quick)
     failed = found.failed or int(not found.passed)
     more = f", {found.left_out} left out" if found.left_out else ""
     print(f"{found.passed} passed, {failed} failed{more}", file=sys.stderr)

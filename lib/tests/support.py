@@ -93,6 +93,11 @@ def installed() -> Installed:
     return library
 
 
+def prepare() -> None:
+    """Builds the library before processes of their own run the tests."""
+    installed()
+
+
 class WithLibrary(unittest.TestCase):
     """Tests of the library as it is installed."""
 

@@ -1,5 +1,6 @@
 """What the tests of the scripts share: runs of a script, a folder of its own, a copy of the repository."""
 
+import functools
 import importlib
 import os
 import shutil
@@ -7,7 +8,6 @@ import stat
 import subprocess
 import sys
 import tempfile
-import traceback
 import unittest
 from typing import Callable, Iterable, Sequence
 
@@ -43,26 +43,15 @@ def in_copy(folder: str, name: str, *arguments: str) -> tuple[int, str]:
     """The status of a script of this repository over a copy of it, and all that it prints. It runs in a fork of this
     process, which has read the files before: the script reads what is changed in the copy."""
     script, sources = module(name.removesuffix(".py")), module("sources")
+
+    def work() -> int:
+        setattr(sources, "TOP", folder)
+        sys.argv = [name, *arguments]
+        os.chdir(folder)
+        return int(script.main())
+
     with tempfile.TemporaryFile() as said:
-        child = os.fork()
-        if child == 0:
-            for number, file in enumerate((os.open(os.devnull, os.O_RDONLY), said.fileno(), said.fileno())):
-                os.dup2(file, number)
-            sys.stdout = sys.stderr = open(1, "w", encoding="utf-8", errors="backslashreplace", closefd=False)
-            setattr(sources, "TOP", folder)
-            sys.argv, status = [name, *arguments], 1
-            try:
-                os.chdir(folder)
-                status = script.main()
-            except SystemExit as end:
-                print("" if isinstance(end.code, int) else end.code)
-                status = end.code if isinstance(end.code, int) else 1
-            except BaseException:
-                traceback.print_exc()
-            finally:
-                sys.stdout.flush()
-                os._exit(status)
-        status = os.waitstatus_to_exitcode(os.waitpid(child, 0)[1])
+        status = os.waitstatus_to_exitcode(os.waitpid(sources.started(work, said), 0)[1])
         said.seek(0)
         return status, said.read().decode()
 
@@ -91,6 +80,17 @@ class InFolder(unittest.TestCase):
         return os.path.join(self.folder, *names)
 
 
+@functools.cache
+def prepare() -> None:
+    """Reads the files of the crates, before processes of their own run the tests: what is changed in a copy is read
+    again."""
+    sources, reader, bases = module("sources"), module("reader"), module("bases")
+    for file in reader.files_of(TOP, sources.crates_of(TOP), "specs", "proofs", "src"):
+        for one in file.declarations:
+            file.cited_by(one)
+    bases.definitions_of_clap([])
+
+
 class InCopy(unittest.TestCase):
     """Tests in a copy of the repository, in which each undoes its changes."""
 
@@ -98,11 +98,7 @@ class InCopy(unittest.TestCase):
 
     @classmethod
     def setUpClass(cls) -> None:
-        sources, reader, bases = module("sources"), module("reader"), module("bases")
-        for file in reader.files_of(TOP, sources.crates_of(TOP), "specs", "proofs", "src"):
-            for one in file.declarations:
-                file.cited_by(one)
-        bases.definitions_of_clap([])
+        prepare()
         cls.folder = os.path.join(tempfile.mkdtemp(prefix="test-copy-"), "labels")
         cls.addClassCleanup(shutil.rmtree, os.path.dirname(cls.folder))
         shutil.copytree(TOP, cls.folder, ignore=shutil.ignore_patterns("out", ".git", "__pycache__"))

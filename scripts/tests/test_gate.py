@@ -4,7 +4,6 @@ Run by `python3 -m unittest discover -s scripts/tests`. The kit is needed; no th
 """
 
 import ast
-import glob
 import importlib.util
 import io
 import os
@@ -62,13 +61,14 @@ MOVED = {
     "run_tests.py scripts/tests": (("scripts/tests", "scripts/t", "there is no folder scripts/tests"),),
 }
 NOQA = f"# {'noqa'}"
+REFERENCE = "docs/PROOF-REFERENCE.md"
 END, HANDLES = "\n## ", "Handles allowed: none."
-MANY = "\n" * 10
 # What is written in the place of a text, the first one in a file, for each step, and what that step says.
 CHANGED = {
     "lints.py": (
         ("HANDLES", HANDLES, "Handles allowed: Net.", f"HANDLES is not: {HANDLES}"),
         ("crates/device/src/lib.rt", "#![tactic(auto)]", "", "crates/device: no line #![tactic(auto)]"),
+        ("tools/labeltools/paper/box.py", "class Box(", "class Area(", "layout/area.py, too"),
     ),
     "unused.py": (("crates.txt", "gf256:", "# gf256:", "differ in: gf256"),),
     "believed_rows.py": (("crates/labelcore/specs/HeldLine.antt", "1100", "1101", "labelcore/HeldLine"),),
@@ -79,16 +79,15 @@ CHANGED = {
         ("docs/PRINTING.md", END, f"\n```sh\nlabels\n{END}", "this block is not closed"),
         ("docs/WINDOW.md", END, f"\n```sh\nlabels\n```\n{END}", "nothing runs the commands of this page"),
         ("docs/INPUT.md", "](PRINTING.md", "](PRINTIN.md", "a link to no file: PRINTIN.md"),
+        ("designs/README.md", "](jar-38x21.svg", "](jar.svg", "a link to no file: jar.svg"),
         ("docs/INPUT.md", END, f"\n~~~rust\nfn a() {{}}\n~~~\n{END}", "no script reads blocks of ~~~"),
         ("docs/INPUT.md", END, f"\n```\nlabels\n```\n{END}", "no script reads blocks of no language"),
-        ("docs/PROOF.md", "ensures whole {", "ensures half {", "this code is in no file"),
-        ("docs/PROOF.md", "src/streams.rt", "src/stream.rt", "this code is in no file"),
+        (REFERENCE, "ensures whole {", "ensures half {", "this code is in no file"),
+        (REFERENCE, "src/streams.rt", "src/stream.rt", "this code is in no file"),
         ("docs/INPUT.md", "```console\n$ ", "```console\n", "this session does not begin with a prompt"),
-        ("docs/PROOF.md", "`Buffered::prove_reached`", "`Buffered::nought`", "no `Buffered::nought` in the code"),
-        ("docs/PROOF.md", "believed definitions", "definitions", "docs/PROOF.md: no operator of"),
-        ("scripts/counts.txt", "3666 changes", "3667 changes", "docs/PROOF.md: one at a time: 3,666"),
-        ("README.md", END, f"{2 * MANY}{END}", "README.md: 1"),
-        ("docs/DECISIONS.md", END, f"{MANY * 99}{END}", "pages by hand: "),
+        (REFERENCE, "`Buffered::prove_reached`", "`Buffered::nought`", "no `Buffered::nought` in the code"),
+        (REFERENCE, "believed definitions", "definitions", f"{REFERENCE}: no operator"),
+        ("scripts/counts.txt", "3666 changes", "3667 changes", f"{REFERENCE}: one at a time: 3,666"),
         (
             "README.md",
             "](docs/PROOF.md",
@@ -131,16 +130,6 @@ class TakenAway(InCopy):
             unseen = [wanted for *_, wanted in changes if wanted not in said]
             self.assertEqual((status, unseen), (1, []), said)
             self.doCleanups()
-
-    def test_each_text_is_looked_at(self) -> None:
-        """Each page, manual and file of messages: what would be odd in natural English."""
-        patterns = ("*.md", "docs/*.md", "designs/*.md", "man/*", "tools/po/de.po")
-        paths = [path for pattern in patterns for path in glob.glob(pattern, root_dir=self.folder)]
-        paths.remove("CHANGELOG.md")
-        for path in paths:
-            self.replace(path, f'{read(self.path(path))}\nmsgid "alone"\n')
-        said = self.judged("pages.py")[1]
-        self.assertEqual([it for it in paths if not re.search(rf"(?m)^{it}:\d+: alone: msgid", said)], [])
 
     def test_ways_in_which_tests_do_not_pass(self) -> None:
         self.move("lib/tests", "lib/tests-away")
@@ -387,7 +376,7 @@ class Gate(InFolder):
             }
             for name, text in {**programs, **changed}.items():
                 write(self.path("bin", name), f"#!/bin/sh\n{text}\n", is_program=True)
-            for name in (".ci/run", "scripts/packages.txt"):
+            for name in (".ci/run", "scripts/packages.txt", "Makefile"):
                 write(self.path(name), read(os.path.join(TOP, name)))
             write(self.path("docs/PROOF.md"), "The kit: `kit-1 logic 1`.\n")
             write(self.path("scripts/gate.py"), "import sys\nprint('gate', *sys.argv[1:])\n")
@@ -395,10 +384,12 @@ class Gate(InFolder):
             with self.subTest(words=words, variables=variables):
                 found = run_command(["bash", self.path(".ci/run"), *words.split()], **given)
                 self.assertEqual((found[0], said in found[1]), (status, True), found[1])
-        os.rename(self.path("docs"), self.path("a b"))
-        write(self.path("a b/.ci/run"), read(self.path(".ci/run")))
-        found = run_command(["bash", self.path("a b/.ci/run")], **given)
-        self.assertEqual(found, (1, f"make cannot handle the space in the name of this folder: {self.path('a b')}\n"))
+        for name, sign in (("a b", "space"), ("a&b", "&")):
+            for file in (".ci/run", "scripts/packages.txt", "Makefile"):
+                write(self.path(name, file), read(os.path.join(TOP, file)))
+            found = run_command(["bash", self.path(name, ".ci/run")], **{**given, "MISSING": ""})
+            said = f"make cannot handle the {sign} in the name of this folder: {self.path(name)}"
+            self.assertEqual((found[0], said in found[1]), (1, True), found[1])
 
 
 class Packages(unittest.TestCase):

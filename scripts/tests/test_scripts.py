@@ -20,7 +20,6 @@ compare_symbols = module("compare_symbols")
 read_foreign = module("read_foreign")
 edits = module("edits")
 instructions = module("instructions")
-believed = module("believed")
 pages = module("pages")
 run_recipes = module("run_recipes")
 pictures = module("pictures")
@@ -111,6 +110,7 @@ def of_copies(*lines: str) -> str:
     return said(**dict(zip(("one_0", "one_1", "one_calling_itself"), lines)))
 
 
+BLANK, BLANKS = 'let _ = " ";', 'let _ = "  ";'
 CLAUSE = "old:     ensures { result ≡ 1 }\nnew:     ensures { result ≡ result }\n"
 TWO_TEXTS = {WRONG: body("one() + 1"), "wrong-bodies/two.edit": body("one() + 2")}
 TWO_FUNCTIONS = {LIB: ONE + OTHER, WRONG: edit("2"), "wrong-bodies/other.edit": edit("8", "7", "other")}
@@ -151,6 +151,7 @@ TRIED: tuple[tuple[dict[str, str], list[str], tuple[int, int, list[str]]], ...] 
     ),
     ({WRONG: edit("2") + CLAUSE}, [], (0, 0, ["one: it changes a clause, a ghost item or an attribute"])),
     ({WRONG: edit(" 1")}, [], (0, 0, ["one: it changes no code"])),
+    ({LIB: ONE.replace("    1\n", f"    {BLANK}\n    1\n"), WRONG: edit(BLANKS, BLANK)}, [said(one=NOT)], (1, 0, [])),
     # A text is tried in a copy of the function, beside a control in which nothing may be wrong.
     ({WRONG: body("one() + 1")}, [said(one_0=NOT, one_calling_itself="proved")], (1, 1, [])),
     ({WRONG: body("one() + 1")}, [said(one_0=HOLES, one_calling_itself=HOLES)], (0, 1, ACCEPTED)),
@@ -237,6 +238,17 @@ class Outcomes(InFolder):
                 self.assertIn(wanted, text)
         with self.assertRaises(SystemExit):
             edits.with_fields(["All.later"], "0", folder)
+
+    def test_a_case_alone(self) -> None:
+        """The copy's clause has the word with that case alone, and so has each word by which it speaks of it."""
+        cases = "abbrev pub Cases : (a : N)\n    → N\nCases zero =\n    zero\nCases (suc n) = n\n\n"
+        says = "abbrev pub Says : N → N\nSays a = Cases a\n\nabbrev pub Other : N\nOther = Says zero\n"
+        folder = self.crate({"specs/Lib.antt": "", "specs/Run.antt": f"use A.{{B}}\n\n{cases}{says}"}).folder
+        text, names = edits.with_fields(["Cases.2"], "7", folder, "ensures { Says zero }")
+        self.assertEqual(names, {"Cases": "Cases_7", "Says": "Says_7"})
+        alone = "Cases_7 : (a : N)\n    → N\nCases_7 zero = ⊤\nCases_7 (suc n) = n\n"
+        self.assertIn(f"abbrev pub {alone}\nabbrev pub Says_7 : N → N\nSays_7 a = Cases_7 a\n", text)
+        self.assertNotIn("Other", text)
 
     def test_bodies_of_no_form(self) -> None:
         for text in (body("2") + edit("2").partition("\n")[2], "refused: one\n", "body: 2\n"):
@@ -470,29 +482,12 @@ class Judges(unittest.TestCase):
         ):
             self.assertEqual(pages.words_of(code), words)
 
-    def test_lines_by_hand(self) -> None:
-        """Each line counts, but of the tables that scripts make, and only of README.md and docs/*.md."""
-        made = (
-            f"| Name | What it means |\n|---|---|\n| `Bool` | yes |\n\n{believed.BEGIN}\n\n| One |\n\n{believed.END}\n"
-        )
-        text = f"# A page\n\n{made}\n| Name | Use |\n|---|---|\n| `Bool` | a test |\n"
-        for path, count in (("README.md", 7), ("docs/A.md", 7), ("CONTRIBUTING.md", 0), ("crates/a/README.md", 0)):
-            self.assertEqual((path, pages.lines_by_hand({path: text})), (path, count))
-
-    def test_odd_words(self) -> None:
-        right = "Look where it is, by `where` or --where.\n```sh\nwhere alone\n```\n"
-        wrong = "Where a row has no code,\nit alone is said anew behind the names of one's own.\n"
-        odd = ["Where", "alone", "is said", "anew", "behind the", "of one's own"]
-        for path, text, found in (
-            ("a.md", right, []),
-            ("a.md", right + wrong, odd),
-            ("a.1", wrong, odd),
-            ("a.po", 'msgid "he alone"\nmsgstr "where"\n', ["alone"]),
-        ):
-            self.assertEqual([one.split(": ")[1] for one in pages.odd_words(path, text)], found)
-        most = "alone " * pages.MOST_ODD
-        self.assertEqual([*pages.faults_of_words({"a.md": most})], [])
-        self.assertNotEqual([*pages.faults_of_words({"a.md": most, "b.md": "anew"})], [])
+    def test_long_paragraphs(self) -> None:
+        """Those of lists count too; tables and code do not."""
+        most, more = ("word " * count for count in (pages.MOST_WORDS, pages.MOST_WORDS + 1))
+        code, table = f"```text\n{more}\n```", f"| One |\n|---|\n| {more} |"
+        found = [*pages.long_paragraphs(f"{most}\n\n{more}\n\n- {more}\n\n{code}\n\n{table}\n")]
+        self.assertEqual(found, [(3, pages.MOST_WORDS + 1), (5, pages.MOST_WORDS + 1)])
 
 
 # What stands in for the programs that debian/tests calls, as they are and as they must not be. That of the library

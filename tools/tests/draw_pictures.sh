@@ -1,6 +1,6 @@
 #!/bin/sh
-# Makes the files of docs/pictures, but for window.png, in the folder in which it runs: a copy of this repository in
-# which the commands of docs/RECIPES.md have run.
+# Makes the files of docs/pictures, but for window*.png, in the folder in which it runs: a copy of this repository in
+# which the commands of designs/README.md have run.
 set -e
 
 draw() {
@@ -19,6 +19,7 @@ label-print --stock 'Avery L7160' --to png --dpi 150 --only 2-5,7-8,10-12 shop.l
 label-print --paper 60x40 --to png --dpi 203 --only 2 --each 'one/%d.png' shop.lines
 mv one/1.png thermal.png
 tools/tests/layouts.py .
+tools/tests/settings.py .
 mv rack/1.png design-rack.png
 mv pallet/1.png design-pallet.png
 label-print --design designs/shelf-60x40.svg --to png --dpi 203 --only 2 --each 'own/%d.png' shop.lines

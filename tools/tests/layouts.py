@@ -15,7 +15,7 @@ import cairo
 import numpy
 
 import support
-from labeltools.paper import area
+from labeltools.paper import plan
 from laying import laid_out
 
 SCALE = 2.7  # pixels of a millimetre
@@ -112,8 +112,8 @@ class Sheet:
 
     def add(self, dots: Any, dpi: int) -> None:
         """Adds a label with a millimetre of white around the area in which it has ink."""
-        dot = area.MILLIMETRES / dpi
-        height, width = (length * dot + 2 * area.PAD for length in dots.shape)
+        dot = plan.MILLIMETRES / dpi
+        height, width = (length * dot + 2 * plan.PAD for length in dots.shape)
         if self.x + width * SCALE > WIDTH - MARGIN:
             self.x = MARGIN
             self.y = self.next
@@ -125,7 +125,7 @@ class Sheet:
         canvas.rectangle(self.x, self.y + NAME, width * SCALE, height * SCALE)
         canvas.fill()
         canvas.save()
-        canvas.translate(self.x + area.PAD * SCALE, self.y + NAME + area.PAD * SCALE)
+        canvas.translate(self.x + plan.PAD * SCALE, self.y + NAME + plan.PAD * SCALE)
         canvas.scale(dot * SCALE, dot * SCALE)
         canvas.set_source_rgb(0, 0, 0)
         mask = cairo.SurfacePattern(surface_of(dots))

@@ -1,8 +1,9 @@
 #!/usr/bin/python3
 """Printers of ZPL on this machine, for tests: they break off, hang, are slow or talk.
 
-usage: printers.py PORT FILE [LABELS]: plays a printer in the background, which adds the labels that
-it takes to a file, and breaks off once after so many. It ends when nobody has printed for a while.
+usage: printers.py PORT FILE [NUMBER]: plays a printer in the background, which adds the labels that
+it takes to a file, and breaks off once within the label of this number. It ends when nobody has
+printed for a while.
 """
 
 import os
@@ -16,11 +17,13 @@ import time
 LABEL = re.compile(rb"\^XA.*?\^XZ\n", re.DOTALL)
 QUIET = 20.0  # seconds without a connection after which the program ends
 BROKEN = struct.pack("ii", 1, 0)  # a connection that is closed so is reset
+LEAST = 512  # bytes
 
 
 class Printer:
-    """A printer in the network. After `cut` labels it breaks off once; the connection of the
-    number `torn` it breaks off within the first label; after `stuck` labels it waits to be told
+    """A printer in the network. After `cut` labels it breaks off once, and once `within` the label
+    of this number, which has to be longer than what the system takes by itself; the connection of
+    the number `torn` it breaks off within the first label; after `stuck` labels it waits to be told
     before it goes on, one that `waits` before it reads anything, and one that `lingers` before it
     ends a connection; `slow` are the seconds that it takes for each piece; `says` is what it
     sends. `rude` breaks each connection off at its end, `hangs_up` before it reads anything; one
@@ -30,6 +33,7 @@ class Printer:
     def __init__(
         self,
         cut: int = 0,
+        within: int = 0,
         torn: int = 0,
         stuck: int = 0,
         slow: float = 0.0,
@@ -43,10 +47,11 @@ class Printer:
     ) -> None:
         self.server = socket.create_server(("127.0.0.1", port))
         # of each connection from its beginning, so that the system takes little by itself
-        self.server.setsockopt(socket.SOL_SOCKET, socket.SO_RCVBUF, 4096)
+        self.server.setsockopt(socket.SOL_SOCKET, socket.SO_RCVBUF, LEAST if within else 4096)
         self.port = self.server.getsockname()[1]
         self.name = f"tcp://127.0.0.1:{self.port}"
         self.cut = cut
+        self.within = within
         self.torn = torn
         self.stuck = stuck
         self.slow = slow
@@ -106,8 +111,7 @@ class Printer:
             buffer = buffer[sum(map(len, found)) :]
             if self.stuck and len(self.labels) >= self.stuck:
                 self.told.wait()
-            if self.cut and len(self.labels) >= self.cut:
-                self.cut = 0
+            if self.breaks(buffer):
                 line.setsockopt(socket.SOL_SOCKET, socket.SO_LINGER, BROKEN)
                 return
             if self.ends and found:
@@ -117,6 +121,16 @@ class Printer:
         if self.lingers:
             self.at_end.set()
             self.told.wait()
+
+    def breaks(self, begun: bytes) -> bool:
+        """Whether it breaks off now, which it does once; a label may have begun."""
+        if self.cut and len(self.labels) >= self.cut:
+            self.cut = 0
+            return True
+        if self.within and len(self.labels) == self.within - 1 and begun:
+            self.within = 0
+            return True
+        return False
 
     def keep(self, labels: list[bytes]) -> None:
         """Keeps labels, in a file where one is named."""
@@ -132,7 +146,7 @@ class Printer:
                 line.sendall(self.says)
             time.sleep(self.slow)
             self.pieces += 1
-            return line.recv(2048)
+            return line.recv(LEAST if self.within else 2048)
         except OSError:
             return b""
 
@@ -149,8 +163,8 @@ class Printer:
 
 def main() -> None:
     """Plays a printer in the background."""
-    port, file, *cut = sys.argv[1:]
-    printer = Printer(cut=int(cut[0]) if cut else 0, port=int(port))
+    port, file, *within = sys.argv[1:]
+    printer = Printer(within=int(within[0]) if within else 0, port=int(port))
     printer.file = file
     open(file, "wb").close()
     if os.fork():

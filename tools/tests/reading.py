@@ -8,9 +8,9 @@ import zxingcpp
 from labeltools.designs.design import CODE, PlacedSymbol
 from labeltools.drawing.dots import drawn_page
 from labeltools.drawing.pen import bits_of, Pen
+from labeltools.layout.area import Area
 from labeltools.layout.layout import LaidOut
 from labeltools.lines.engine import Modules
-from labeltools.paper.area import Area
 from labeltools.paper.box import Box
 
 NOT_READ = "as drawn it is not read"

@@ -6,10 +6,12 @@ tools/tests The program `labels` that they draw with is $LABELS, or else crates/
 test that needs what is not there is skipped, with a message; NO_SKIP=1 makes it fail.
 """
 
+import compileall
 import importlib.util
 import io
 import json
 import os
+import py_compile
 import resource
 import shutil
 import signal
@@ -118,6 +120,16 @@ def labels_program() -> Path:
         )
     make_library()
     return program
+
+
+def prepare() -> None:
+    """Makes what all tests need, before processes of their own run them: the library, and the
+    bytecode of the tools, a third of what hundreds of processes take to start. Python compares the
+    sum of each source with it, and takes no other one.
+    """
+    by_sum = py_compile.PycInvalidationMode.CHECKED_HASH
+    compileall.compile_dir(OURS / "labeltools", quiet=1, invalidation_mode=by_sum)
+    make_library()
 
 
 @cache

@@ -11,6 +11,9 @@ from pathlib import Path
 from typing import Any, Callable, Iterator, Sequence
 from unittest import mock
 
+import zxingcpp
+
+import jobs
 import support
 from labeltools.checking import compare, decode
 from labeltools.checking.read_pdf import pages_of
@@ -418,6 +421,13 @@ class Planted(unittest.TestCase):
             with self.subTest(form=form):
                 self.assertTrue(documents_of(found_of(options_of(form), COPIES)))
 
+    def test_a_line_through_a_text_is_no_code(self) -> None:
+        """Of an old price that nothing is drawn behind but the code."""
+        for form in FORMS:
+            with self.subTest(form=form):
+                found = found_of(options_of(form), [("qr abc", {"was": "62,99 €"})])
+                self.assertTrue(documents_of(found))
+
 
 class Named(unittest.TestCase):
     """A symbol in the place of another one is said with its place, in each direction."""
@@ -507,6 +517,16 @@ class OwnDesigns(unittest.TestCase):
                 found = labels_of(job, "lines", lines, Silence())
         with self.assertRaisesRegex(ToolError, "^row 3: its code says other data than its line"):
             documents_of(found)
+
+    def test_a_symbol_has_all_of_its_text(self) -> None:
+        """Letters have eight marks at most, and a symbol those of its line."""
+        title = "e" + "\u0301" * 12
+        with own_design() as design:
+            options = options_of("zpl", design=design, paper=(100.0, 60.0))
+            found = found_of(options, [("code128 A", {"title": title, "text": {"Check": "7"}})])
+        (dots,) = jobs.dots_of_zpl(b"".join(documents_of(found)))
+        symbol = 255 * (1 - dots[300:470, 236:404])  # at 38 and 30 mm
+        self.assertEqual(zxingcpp.read_barcode(symbol).bytes, title.encode())
 
     def test_a_title_over_a_symbol(self) -> None:
         """In dots it is seen; in a drawing symbols are over it."""
@@ -628,7 +648,7 @@ class Read(unittest.TestCase):
             ("png", dots.png(picture, 0.125), 1),
         ):
             with self.subTest(form=form):
-                self.assertEqual(decode.dots_of(form, data, 24), (picture, copies))
+                self.assertEqual(decode.read_dots(form, data, 24), (picture, copies))
 
     def test_rows_by_the_manual(self) -> None:
         """Counts as the ZPL II manual has them, before 0: G is 1, M is 7, Y is 19."""
@@ -642,7 +662,7 @@ class Read(unittest.TestCase):
         others = b"N1::", b"gJ0", b"MG0::", b"123456,::", b"1234567f::", b"1234567N::"
         for text in (*wrong, *over, *others):
             with self.subTest(text=text), self.assertRaises(decode.NotDecoded):
-                decode.dots_of("zpl", FIELD % text, 32)
+                decode.read_dots("zpl", FIELD % text, 32)
 
     def test_dots_of_symbols(self) -> None:
         """Of each size, in each direction, from any dot of a byte on: any dot that differs is seen,
@@ -718,9 +738,9 @@ class Read(unittest.TestCase):
             first + b"^FO0,0^GFA,6,6,2,0000::^FS\n",
         ):
             with self.subTest(field=field), self.assertRaises(decode.NotDecoded):
-                decode.dots_of("zpl", label % field, 32)
+                decode.read_dots("zpl", label % field, 32)
         fields = first + b"^FO16,0^GFA,6,6,2,1234::^FS\n^FO0,2^GFA,1,1,1,FF^FS\n"
-        whole, _ = decode.dots_of("zpl", label % fields, 32)
+        whole, _ = decode.read_dots("zpl", label % fields, 32)
         self.assertEqual(whole.packed.hex(" ", 4), "12001234 12001234 ff001234")
 
 

@@ -14,9 +14,8 @@ from typing import Any, Iterator
 from unittest import mock
 
 import support
-from labeltools.common.text import Text
 from labeltools.lines.reasons import reason_of, REASONS
-from labeltools.window.hints import Hints, INSTEAD
+
 
 LANGUAGES = sorted(path.stem for path in (support.TOOLS / "po").glob("*.po"))
 KEYWORDS = ("Text", "counted:1,2", "_", "ngettext:1,2")
@@ -31,11 +30,64 @@ WRONG_DATA = ["level=Q X", " X", '"X"', "'X", "NAN", "4,00638E+12", "A\u200bB", 
 OPTIONS = ["--code", "EAN", "--title", "Name", "--price", "Preis", "--summary"]
 TABLE = "EAN;Name;Preis\n4006381333932;Stift;0,80\n96385074;Gummi;1E3\n4006381333931;Heft;2,50\n"
 
+# of a message in capitals: what is in quotes, names of characters, and options with their values
+NO_WORDS = (
+    r"\"[^\"]*\"|[a-z -]+ \(U\+\w+\)|--[a-z-]+(?: (?:'.*?'|[a-z0-9]+))?(?:[ (A-Z)]+ OR [a-z]\w+)*"
+)
+# the texts that name options in words
+IN_WORDS = """--after {}: the first label is {}
+--again needs --journal and rows or codes
+--again: the journal has these printers: {}
+--dpi {}: the maximum is {}
+--each
+--each: the folder {} is not empty
+--each: two labels would be the file {}
+--encoding {} is unknown
+--fill-zeros, --without-check-digit and --symbology code128 or qr do not go together
+--list-stock takes one WORD: put quotes around several
+--price-as needs --price, --unit-price or --old-price
+--price-text and --price-as do not go together
+--print: printers do not take {}
+--stream prints each line
+--to {} needs --dpi
+--variants-of needs --title
+--{} may be {}
+CUPS prints an interrupted run again from its beginning; give --print tcp://HOST or /dev/usb/lp0
+a grid needs --columns, --rows and --cell
+give --to pdf, zpl or escpos
+give --to zpl or escpos
+give a file that label-print --journal has made, or a new name
+leave out --only and --after
+name what to print again with --only or --only-code
+named by --only, but not in the input
+only for --to escpos
+only for a grid of --cell
+the following arguments are required: --code
+{} and --each do not go together
+{}: named by --only-code, but not in the input
+""".splitlines()
+
 
 def fields_of(text: str) -> list[str]:
     """The places of what differs in a text, such as 0 and 1, in order."""
     names = [name for _, name, _, _ in string.Formatter().parse(text) if name is not None]
     return sorted(str(number) if name == "" else name for number, name in enumerate(names))
+
+
+def judged_of(text: str) -> tuple[dict[str, tuple[str, str]], list[str], list[str]]:
+    """What a text has in each language: the signs before and behind each field, numbers, options."""
+    plain = re.sub(
+        r"[„“”]|« ?|[ ]?»", '"', re.sub(r"[\u00a0\u202f]", " ", text.replace('\\"', '"'))
+    )
+    signs: dict[str, tuple[str, str]] = {}
+    for field in re.finditer(r"\{(\w*)[^}]*\}", plain):
+        before, behind = plain[: field.start()][-1:], plain[field.end() :][:1]
+        signs[field[1] or str(len(signs))] = (
+            before if before in {*'"(%-#'} else "",
+            behind if behind in {*'")%'} else "",
+        )
+    numbers = re.findall(r"\d+", re.sub(r"(?<=\d)[., ](?=\d)|\{.*?\}", "", plain))
+    return signs, sorted(numbers), sorted(re.findall(r"(?<![\w-])--[a-z][a-z-]*", plain))
 
 
 def sources() -> list[Path]:
@@ -84,11 +136,17 @@ def is_literal(node: ast.expr) -> bool:
     return isinstance(node, ast.Constant) and isinstance(node.value, str)
 
 
-def options_in(text: str) -> frozenset[str]:
-    """The options that the window says to type for a message."""
-    *_, last = Hints({}).text(Text(re.sub(r"{\d+}", "{}", text))).split("\n")
-    _, _, options = last.partition("Further options: ")
-    return frozenset(options.split(", "))
+def remedies() -> set[str]:
+    """The options that are remedies: `Remedy("dpi")`, `map(Remedy, ("edge", "shift"))`."""
+    found = set()
+    for path in sources():
+        for node in ast.walk(ast.parse(path.read_text())):
+            if isinstance(node, ast.Call) and getattr(node.func, "id", "") == "Remedy":
+                found |= {one.value for one in node.args[:1] if isinstance(one, ast.Constant)}
+            elif isinstance(node, ast.Call) and getattr(node.func, "id", "") == "map":
+                if getattr(node.args[0], "id", "") == "Remedy":
+                    found |= {*ast.literal_eval(node.args[1])}
+    return found
 
 
 def in_capitals(text: str) -> str:
@@ -126,16 +184,30 @@ class German(unittest.TestCase):
                     self.assertEqual(plurals[text], texts[text])
                     for one in re.findall('"(.+)"', others[text]):
                         self.assertEqual(fields_of(one), fields_of(text), text)
+                        self.assertEqual(judged_of(one), judged_of(text), text)
 
-    def test_the_window_names_the_same_options_in_each_language(self) -> None:
-        """With their values, and not with the next word of a sentence."""
-        support.needs("msgcat")
-        for language in LANGUAGES:
-            found = entries(Path(support.TOOLS, f"po/{language}.po").read_bytes())
-            others = {text: other for text, other in OTHER_OF.findall(found) if text not in INSTEAD}
-            for text, other in others.items():
-                typed = {options_in(one) for one in (text, *re.findall('"(.+)"', other))}
-                self.assertEqual(len(typed), 1, (language, text, typed))
+    def test_a_text_that_says_another_thing_is_seen(self) -> None:
+        """By its fields, a number or an option; that it means the opposite nobody sees but a reader."""
+        text = 'column {} ("{}") has more than 1,000 rows: give --limit'
+        other = "Spalte {} („{}“) hat über 1.000 Zeilen: --limit angeben"
+        self.assertEqual(judged_of(other), judged_of(text))
+        for old, new in (("{}", "{1}"), ("1.000", "100"), ("--limit", "--last"), ("„{}“", "{}")):
+            self.assertNotEqual(judged_of(other.replace(old, new, 1)), judged_of(text))
+
+    def test_options_are_remedies(self) -> None:
+        """A text has them as remedies, which a window shows as buttons; those that name them in
+        words are only reached by commands and typed options, and may only become fewer.
+        """
+        support.needs("xgettext", "msgcat")
+        named = {one for one in texts_of_tools() if "--" in one}
+        (of_journal,) = (one for one in named if "line of the journal" in one)
+        self.assertEqual(sorted(named - {of_journal}), sorted(IN_WORDS))
+
+    def test_remedies_are_options(self) -> None:
+        helps = support.help_of("label-table") + support.help_of("label-print")
+        known = set(re.findall("--([a-z][a-z-]*)", helps))
+        self.assertGreater(len(remedies()), 20)
+        self.assertEqual(remedies() - known, set())
 
     def test_no_message_is_half_translated(self) -> None:
         """Read in a language of capitals, messages have no other letters: names and numbers in
@@ -170,7 +242,7 @@ class German(unittest.TestCase):
             with mock.patch.multiple("labeltools.common.text", **capitals):
                 ran = support.run_here("label-table", *words, "--summary", input=text.encode())
             for line in support.messages(ran):
-                said = re.sub(r"\"[^\"]*\"|[a-z -]+ \(U\+\w+\)", "", line.partition(": ")[2])
+                said = re.sub(NO_WORDS, "", line.partition(": ")[2])
                 self.assertNotRegex(said, r"(?!(?:ean|upca|ean13|ean8)\b)\b[a-z]{2}", name)
                 lines += 1
         self.assertGreater(lines, 60)
@@ -218,7 +290,7 @@ class German(unittest.TestCase):
                 ),
                 (
                     "fr",
-                    "ligne 2 : 4006381333932 : le chiffre de contrôle est 2, devrait être 1",
+                    "ligne 2 : 4006381333932 : le chiffre de contrôle est 2 au lieu de 1",
                     'ligne 3 : colonne 3 ("Preis") a "1E3", qui n\'est pas un prix',
                     "1 étiquette de 1 ligne : 1 EAN-13; prix 2,50; 1 prix sans devise; "
                     "2 lignes ignorées",

@@ -1,14 +1,16 @@
 """What the columns of a table are guessed to be for, on tables of many shops, with decoys."""
 
+import itertools
 import shlex
 import tempfile
 import unittest
+from dataclasses import replace
 from pathlib import Path
 
 import support
 from labeltools.common.messages import Silence
 from labeltools.sheets.file_options import FileOptions
-from labeltools.tables.guess import Guess, guess, guess_of
+from labeltools.tables.guess import column_words, Guess, guess, guess_of
 from labeltools.tables.table_options import TableOptions
 from sheets import KINDS, Sheet
 
@@ -150,6 +152,26 @@ SYMBOLOGIES = {
     **dict.fromkeys(("N° billet", "Etikett"), "code128"),
 }
 
+LANGUAGES = (
+    "Barcode;Product name;Selling price;Cost price;Stock on hand",
+    "Strichcode;Artikelbezeichnung;VK brutto;VK netto;Bestand",
+    "Code-barres;Désignation;Prix de vente TTC;Prix de vente HT;Quantité",
+    "Código de barras;Nombre del producto;Precio de venta;Precio de compra;Existencias",
+    "Codice a barre;Descrizione;Prezzo ivato;Prezzo netto;Giacenza",
+    "Streepjescode;Omschrijving;Verkoopprijs incl. btw;Verkoopprijs excl. btw;Voorraad",
+    "Código de barras;Descrição;Preço de venda;Preço de custo;Estoque",
+    "Kod kreskowy;Nazwa towaru;Cena sprzedaży brutto;Cena sprzedaży netto;Stan",
+    "Čárový kód;Název zboží;Prodejní cena s DPH;Prodejní cena bez DPH;Sklad",
+    "Stregkode;Varenavn;Salgspris;Kostpris;Lager",
+    "Streckkod;Benämning;Försäljningspris;Inköpspris;Lagersaldo",
+    "Strekkode;Varenavn;Utsalgspris;Innkjøpspris;Lagerbeholdning",
+    "Viivakoodi;Tuotenimi;Verollinen hinta;Veroton hinta;Varastosaldo",
+    "Vonalkód;Megnevezés;Bruttó eladási ár;Beszerzési ár;Készlet",
+    "Barkod;Ürün Adı;Satış Fiyatı;Alış Fiyatı;Stok",
+    "Штрихкод;Наименование;Цена продажи;Цена закупки;Остаток",
+    "Γραμμωτός κωδικός;Περιγραφή;Τιμή λιανικής;Τιμή χονδρικής;Απόθεμα",
+)
+
 
 def guessed(text: str, options: TableOptions = TableOptions()) -> Guess:
     """The guess of a table."""
@@ -244,7 +266,7 @@ class Guesses(unittest.TestCase):
         for name, codes, ways in (
             ("Nr", "4006381333932 4006381333933 4006381333934", [none]),
             ("Nr", "400638133390 400638133391 400638133392", ["--without-check-digit", none]),
-            ("EAN", "72651101016 72651101023 72651101030", ["--fill-zeros", none]),
+            ("EAN", "72651101016 72651101023", ["--fill-zeros", none]),
             ("EAN", "4006381 4006382 4006383", ["--without-check-digit", none]),
             ("Barcode", "AB-1001 AB-1002 AB-1003", [none]),
         ):
@@ -261,6 +283,140 @@ class Guesses(unittest.TestCase):
                     self.assertNotIn(b"most codes", done.stderr)
                 done = support.run_here("label-table", *shlex.split(ways[0]), path)
                 self.assertIn(f"--code {name} {ways[0]} {path}", support.messages(done)[-1])
+
+    def test_zeros_that_were_lost_are_proposed(self) -> None:
+        """By their check digits, of three numbers at least, whether others have all digits."""
+        short = ("72651101016", "72651101023", "72651101030")
+        for codes, is_sure in (
+            (short, True),
+            ((*CODES, *short), True),
+            (short[:2], False),
+            ((*short, "72651101041"), False),  # this one is no UPC
+        ):
+            text = "UPC\n" + "".join(f"{one}\n" for one in codes)
+            said, done = self.proposed_and_run(text)
+            self.assertEqual("--fill-zeros" in said and "most codes" not in said, is_sure, codes)
+            if is_sure:
+                self.assertEqual((done.returncode, done.stderr), (0, b""))
+                self.assertEqual(done.stdout.count(b"ean13 "), len(codes))
+                self.assertIn(b"ean13 0072651101016\n", done.stdout)
+
+    def proposed_and_run(self, text: str) -> "tuple[str, support.Finished[bytes]]":
+        """What is said of a table, and what the first command that is proposed makes of it."""
+        with tempfile.TemporaryDirectory() as folder:
+            path = Path(folder, "table.csv")
+            path.write_text(text)
+            said = support.run_here("label-table", path).stderr.decode()
+            words = shlex.split(said.partition("try label-table ")[2].partition(", label-")[0])
+            return said, support.run_here("label-table", *words)
+
+    def test_the_plain_name_wins_and_the_others_are_named(self) -> None:
+        row = "4006381333931;Tea, green;4,95;3,95;2,95"
+        for names, others in (
+            ("EAN;Name;Price;Price B2B;Staff price", "'Price B2B', 'Staff price'"),
+            ("EAN;Name;VK;VK Kette;VK 2", "'VK Kette', 'VK 2'"),
+            ("EAN;Name;Prix;Prix pro;Prix 10+", "'Prix pro', 'Prix 10+'"),
+            ("EAN;Name;Preis brutto;Preis;EK", "Preis, EK"),  # the one with its tax is paid
+        ):
+            price = names.split(";")[2]
+            said, done = self.proposed_and_run(f"{names}\n{row}\n")
+            first, last = said.splitlines()
+            quoted = shlex.quote(price)
+            self.assertEqual(first, f"label-table: the price is {quoted}; others: {others}")
+            self.assertIn(f"--code EAN --title Name --price {quoted} ", last)
+            self.assertIn(b'"price":"4,95"', done.stdout)
+        for names in ("EAN;Name;Price;Sale price", "EAN;Name;Preis A;Preis B", "EAN;Name;VK1;VK2"):
+            said, done = self.proposed_and_run(f"{names}\n{row[:-5]}\n")  # two that may be paid
+            self.assertIn("; --price may be ", said, names)
+            self.assertNotIn(b'"price"', done.stdout)
+
+    def test_variants_of_a_shop(self) -> None:
+        """Programs of shops write the title into the first row of an article alone."""
+        rows = [
+            f"shirt;Shirt, blue;<p>Soft</p>;S;19.95;{CODES[0]}",
+            f"shirt;;;M;19.95;{CODES[1]}",
+            f"shirt;;;L;21.95;{CODES[2]}",
+            "cap;Cap, wool;<p>Warm</p>;;9.95;96385074",
+        ]
+        names = "Handle;Title;Body (HTML);Option1 Value;Variant Price;Variant Barcode"
+        said, done = self.proposed_and_run("\n".join([names, *rows, ""]))
+        self.assertIn(" --title Title --price 'Variant Price' --variants-of Handle ", said)
+        self.assertEqual(done.stdout.count(b'"title":"Shirt, blue"'), 3)
+        self.assertIn(b'row 3 has the title of row 2, "Shirt, blue" (2 rows)', done.stderr)
+        for other in ("cap;;;;9.95;96385074", "shirt;Shirt;;;9.95;96385074"):
+            said, _ = self.proposed_and_run("\n".join([names, *rows[:3], other, ""]))
+            self.assertNotIn("--variants-of", said)  # the rows do not say it
+
+    def test_html_is_no_title(self) -> None:
+        names = "EAN;Description;Text"
+        row = "4006381333931;<p>A <b>mild</b> tea</p>;Tea, mild\n"
+        self.assertEqual(guessed(f"{names}\n{row}").columns["title"], 2)
+
+    def test_prices_of_programs_get_two_decimals_if_their_currency_is_known(self) -> None:
+        for names, price, proposed, wanted in (
+            ("EAN;Price (EUR);x", "0.8;y", "--price-as '0.00 EUR'", "0.80 EUR"),
+            (
+                "EAN;Price;Currency",
+                "34.000000;EUR",
+                "--currency Currency --price-as '0.00 ¤'",
+                "34.00",
+            ),
+            ("EAN;Preis;x", '"0,8 €";y', "--price-as '0,00 ¤'", "0,80 €"),
+            ("EAN;Price;x", "0.8;y", "", "0.8"),
+            ("EAN;Price (EUR);x", "0.80;y", "", "0.80"),
+        ):
+            said, done = self.proposed_and_run(f"{names}\n4006381333931;{price}\n")
+            self.assertIn(proposed, said)
+            self.assertEqual("--price-as" in said, bool(proposed), names)
+            self.assertIn(f'"price":"{wanted}', done.stdout.decode())
+
+    def test_of_several_sheets_the_one_with_codes_is_proposed(self) -> None:
+        goods = Sheet([["EAN", "Name"], [CODES[0], "Tea"]], "Goods")
+        notes = Sheet([["Rate", "VAT"], ["full", "19"]], "Notes")
+        old = replace(goods, name="Tabelle1")
+        for kind, first in itertools.product(KINDS, (notes, old)):
+            with tempfile.TemporaryDirectory() as folder:
+                path = Path(folder, "table.xlsx")
+                path.write_bytes(kind(first, goods))
+                said = support.messages(support.run_here("label-table", path))[-1]
+            if first is notes:
+                self.assertIn("try label-table --code EAN --title Name --sheet Goods ", said)
+            else:
+                self.assertIn("give --sheet Tabelle1 or Goods", said)
+
+    def test_hidden_columns_are_not_proposed(self) -> None:
+        """A hidden price is that of the shop; with `--hidden` it is one like others."""
+        lines = [["EAN", "VK", "Preis"], [CODES[0], "1,20", "0,80"]]
+        for kind in KINDS:
+            data = kind(Sheet(lines, hidden_columns=(3,)))
+            found = guess_of(data, "x", TableOptions(), Silence())
+            self.assertEqual(found.columns, {"code": 0, "price": 1})
+            shown = TableOptions(file=FileOptions(hidden=True))
+            self.assertEqual(guess_of(data, "x", shown, Silence()).doubts, {"price": [1, 2]})
+            codes = kind(Sheet(lines, hidden_columns=(1, 3)))  # it is the only one
+            self.assertEqual(guess_of(codes, "x", TableOptions(), Silence()).columns["code"], 0)
+
+    def test_names_of_many_languages(self) -> None:
+        """Each has a price that customers pay, and one that the shop pays, or without its tax."""
+        row = "4006381333931;Tea, green;4,95;3,95;7"
+        for names in LANGUAGES:
+            found = guessed(f"{names}\n{row}\n")
+            self.assertEqual(found.columns, {"code": 0, "title": 1, "price": 2}, names)
+            self.assertEqual(found.doubts, {}, names)
+
+    def test_no_word_has_two_meanings(self) -> None:
+        """What is a price cannot be a cost, and what is a name cannot be what has none."""
+        words = column_words()
+        for kinds, others in (
+            (("prices", "taxed", "paid", "beside-prices", "sale"), ("cost", "net")),
+            (("titles", "descriptions"), ("others", "numbers")),
+            (("codes", "own-numbers"), ("others", "titles")),
+            (("short",), ("long",)),
+        ):
+            for kind, other in itertools.product(kinds, others):
+                both = {one for one in words[kind].all if words[other].has(one)}
+                both |= {one for one in words[other].all if words[kind].has(one)}
+                self.assertEqual(both, set(), f"{kind} and {other}")
 
     def check_proposals(self, folder: Path) -> None:
         """Racks, lots, short numbers and tickets, and what was given, in two commands."""

@@ -135,13 +135,19 @@ class Install(unittest.TestCase):
 
 
 class Folders(InFolder):
-    def test_a_folder_with_a_space_is_refused_at_once(self) -> None:
-        for words in ([f"PREFIX={self.folder}/a b"], [f"DESTDIR={self.folder}/a b"]):
-            done = subprocess.run(
-                ["make", "-s", "-C", support.TOP, "install", *words], capture_output=True
-            )
-            self.assertEqual((done.returncode, done.stdout), (2, b""), words)
-            self.assertIn(b"make cannot handle the space in ", done.stderr)
+    def test_a_folder_that_make_cannot_handle_is_refused_at_once(self) -> None:
+        """By the sign that is in its name: one that make cuts names at, or that the shell takes."""
+        for sign in (" ", *"\"#%&'()*;<=>?[\\]^`{|}!"):
+            for name in ("PREFIX", "DESTDIR"):
+                place = f"{self.folder}/a{sign}b".replace("#", "\\#")
+                done = subprocess.run(
+                    ["make", "-s", "-C", support.TOP, "install", f"{name}={place}"],
+                    capture_output=True,
+                    text=True,
+                )
+                self.assertEqual((done.returncode, done.stdout), (2, ""), sign)
+                said = f"make cannot handle the {sign if sign != ' ' else 'space'} in {name}: "
+                self.assertIn(said, done.stderr)
         self.assertEqual([*self.folder.iterdir()], [])
 
     def test_what_was_installed_goes(self) -> None:

@@ -9,9 +9,9 @@ from typing import Any, Sequence
 
 import support
 from labeltools.designs.framed import styled_text
+from labeltools.layout.area import ROLL_SMALLEST
 from labeltools.layout.letters import FONT, Letters
 from labeltools.lines.symbologies import SYMBOLOGIES
-from labeltools.paper.area import ROLL_SMALLEST
 from laying import laid_out, look
 
 EVERY = (

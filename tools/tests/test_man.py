@@ -3,14 +3,15 @@
 import re
 import subprocess
 import unittest
+from contextlib import nullcontext
+from unittest import mock
 
 import support
 from labeltools.commands import label_print, label_table
 from labeltools.common import report
 from labeltools.designs import svg_page
-from labeltools.layout import frame
+from labeltools.layout import area, frame
 from labeltools.lines import file
-from labeltools.paper import area
 from labeltools.printing import job
 from labeltools.sending import network, outlets, stream
 from labeltools.sheets import csv_table, workbook
@@ -47,6 +48,22 @@ NUMBERS = (
     (r"CSV of more than (\d+) MB", csv_table.LARGEST_FILE >> 20),
     (r"than (\d+) rows or", workbook.MOST_ROWS),
     (r"rows or (\d+) columns", workbook.MOST_COLUMNS),
+)
+
+# What a page says of a status: the tool, its arguments, its lines, and words of that paragraph.
+ROLL, CODE = ("--paper", "60x40", "--to", "svg"), ("--code", "EAN")
+STATUSES = (
+    ("labels", (), "ean8 7351353\n", 0, "No line was refused"),
+    ("labels", (), "ean8 1\n", 1, "one line was refused"),
+    ("labels", ("--no",), "", 2, "arguments are bad"),
+    ("labels", ("/no/file",), "", 3, "could not be opened"),
+    ("label-table", CODE, "EAN\n96385074\n", 0, "has become a line"),
+    ("label-table", CODE, "EAN\n96385074\n1\n", 1, "row was skipped"),
+    ("label-table", ("--no",), "", 2, "arguments are wrong"),
+    ("label-print", ROLL, "ean8 7351353\n", 0, "Each label was written"),
+    ("label-print", ROLL, "ean8 7351353\nean8 1\n", 1, "label was skipped"),
+    ("label-print", ("--no",), "", 2, "Bad arguments"),
+    ("label-print", ROLL, "ean8 7351353\n", 3, "differed from its line"),
 )
 
 
@@ -94,8 +111,9 @@ class Pages(unittest.TestCase):
             "--decimal": "LC_NUMERIC",
             "--symbology": "auto",
         }
-        for module, least in ((label_print, 6), (label_table, 2)):
-            options = module.new_parser()._actions
+        parsers = {label_print: label_print.print_parser(), label_table: label_table.table_parser()}
+        for (module, parser), least in zip(parsers.items(), (6, 2)):
+            options = parser._actions
             options = [it for it in options if it.option_strings and it.default]
             named |= {it.option_strings[0]: it.default for it in options}
             found = defaults_of(f"{module.TOOL}.1")
@@ -106,6 +124,19 @@ class Pages(unittest.TestCase):
                     self.assertEqual(said, typed(option.default), option.option_strings)
         helps = re.findall(r"(--[a-z-]+) .*\[default: (\w+)\]", support.help_of("labels"))
         self.assertEqual(defaults_of("labels.1"), dict(helps))
+
+    def test_statuses_are_those_of_the_tools(self) -> None:
+        """The last of label-print is that of a fault: its modules are not drawn."""
+        support.needs("mandoc")
+        for tool, words, lines, status, said in STATUSES:
+            page = shown(f"{tool}.1").partition("\nEXIT STATUS\n")[2].partition("\nEXAMPLES\n")[0]
+            self.assertIn(said, dict(re.findall(r"(?m)^ +(\d) +(.*)$", page))[str(status)])
+            fault = mock.patch("labeltools.drawing.pen.Pen.draw_modules")
+            with fault if status == 3 and tool == "label-print" else nullcontext():
+                run = support.run if tool == "labels" else support.run_here
+                name = support.labels_program() if tool == "labels" else tool
+                done = run(name, *words, input=lines.encode())
+            self.assertEqual(done.returncode, status, (tool, words, done.stderr))
 
     def test_numbers_are_those_of_the_tools(self) -> None:
         support.needs("mandoc")

@@ -688,8 +688,6 @@ class Hostile(unittest.TestCase):
 
     def test_another_version_of_the_library(self) -> None:
         """Later ones of the same major version are taken."""
-        from labeltools.common.messages import ToolError
-from labeltools.lines.symbologies import SYMBOLOGIES
         from labeltools.lines import library
 
         module = library.labels_library()

@@ -139,7 +139,7 @@ class TableTest(unittest.TestCase):
 
 
 class Encodings(TableTest):
-    FIX = "save it as UTF-8, or give the right one of these with --encoding: "
+    FIX = "save it as UTF-8, or give the right one of these: --encoding "
     WIDE = "save it as UTF-8, or give --encoding utf-16-le or utf-16-be"
     TEXT = f"Nummer;Größe;Name\r\n{PENCIL};ß;Käse\r\n{SMALL};ü;Öl €\r\n"
     ARGUMENTS = "--code Nummer --title Name --text Größe".split()

@@ -853,7 +853,8 @@ class WindowTest(Keeper):
         """Its controls, and what it tells."""
         code = "import test_window; test_window.load(); one = test_window.window.Window(); "
         code += "test_window.work.Work.stop(one.work); one.on_stop(None); "
-        code += "print(one.print_button.get_label(), one.name_of('price_as'), one.said.get_text())"
+        code += "(name,) = one.price_as.list_mnemonic_labels(); "
+        code += "print(one.print_button.get_label(), name.get_text(), one.said.get_text())"
         for language, texts in (
             ("en", "_Print… Prices as Stopped: nothing was printed"),
             ("de", "_Drucken … Preise als Abgebrochen: es wurde nichts gedruckt"),
@@ -940,29 +941,35 @@ class WindowTest(Keeper):
         self.assertEqual(begin, sorted(begin, reverse=True))
         self.assertEqual(len(set(begin)), 2)
 
-    def test_messages_name_controls(self) -> None:
-        """An option without a control is typed: it is named, with its value."""
-        text = self.window.hints.text
-        self.assertEqual(
-            text(
-                Text("--stock X: no such sheet"),
-                Text("the names are in row 3: give --header-row 3"),
-            ),
-            "“Sheet” X: no such sheet\nthe names are in row 3: give “Row of the names” 3",
-        )
-        self.assertEqual(
-            text(Text("--stock X: no such sheet"), Text("--list-stock WORD lists the sheets")),
-            "“Sheet” X: no such sheet\ntype a part of its name, and choose it from the list",
-        )
-        for hint, typed in (
-            ("else give --decimal comma or point", "--decimal comma"),
-            ("give --hidden to print them", "--hidden"),
-            ("give --date-as dd.mm.yyyy, or another format", "--date-as dd.mm.yyyy"),
-            ("give --encoding utf-16-le: try it", "--encoding utf-16-le"),
-            ("give --sheet 'May 2026'", "--sheet 'May 2026'"),
+    def test_what_helps_is_a_button(self) -> None:
+        """What it gives is what the command gives with the option; no option is named."""
+        gum = "EAN;Name;Price\n96385074;Gum;1,00\n"
+        for text, button, words in (
+            (gum + "36000291452;Tea;2,00\n", "Put lost zeros back in front", "--fill-zeros"),
+            (gum + "4006350000000;Tea;2,00\n", "Codes may end with zeros", "--allow-zeros"),
+            (gum + "3;Tea;3,00\n", "The codes are Code 128", ""),
+            (gum + "4006381333931;Tea;soon\n", "Prices may be any text", "--price-text"),
+            (gum + "4006381333931;Tea;2,0000\n", "Print two decimals", "--price-as 0,00"),
+            ("EAN;N\n4006381333930;Gum\n036000291450;Tea\n", "The codes are Code 128", ""),
         ):
-            self.assertEqual(text(Text(hint)), f"{hint}\nFurther options: {typed}")
-        self.assertEqual([name for name, one in self.window.hints.names.items() if not one], [])
+            with self.subTest(button):
+                self.closed()
+                self.open(text)
+                self.assertNotIn("--", self.problem() + "".join(row[2] for row in self.rows()))
+                left_out = self.window.made.left_out if self.window.has_labels else 2
+                self.remade(lambda: self.pressed(button))
+                self.until(lambda: self.window.has_labels)
+                self.assertEqual(self.window.choices()["for-table"], words)
+                self.assertLessEqual(
+                    self.window.made.left_out, left_out - (words[:8] != "--price-")
+                )
+
+    def pressed(self, button: str) -> None:
+        """Presses the button that has a text."""
+        boxes = (self.window.offers, self.window.helps)
+        found = [one for box in boxes for one in box.get_children()]
+        (wanted,) = (one for one in found if one.get_label() == button)
+        wanted.clicked()
 
     def test_prices_of_a_spreadsheet_get_a_currency(self) -> None:
         """It is reported that they have none, and chosen from what the column has."""
@@ -985,7 +992,7 @@ class WindowTest(Keeper):
         """In words, and not by an option, since only the keeper knows."""
         self.open("EAN;Name;Price\n96385074;Gum;1,200\n4006381333931;Pen;2,500\n")
         self.change(price_as="€0.00")
-        self.until(lambda: self.problem() == "what is 1,234 in the prices?")
+        self.until(lambda: self.problem() == "which sign has the cents?")
         settle(0.5)  # nothing else is under way
         self.assertNotIn("--", "".join(row[2] for row in self.window.notes))
         self.window.offers.get_children()[1].clicked()
@@ -1026,7 +1033,7 @@ class WindowTest(Keeper):
 
     def test_offers_sheets_and_encodings(self) -> None:
         self.open("EAN;Name\n96385074;Füller, blau\n".encode("cp1252"))
-        self.assertIn("choose below what reads well", self.problem())
+        self.assertIn("choose what reads well", self.problem())
         (offer,) = self.window.offers.get_children()
         self.window.info.hide()
         offer.clicked()

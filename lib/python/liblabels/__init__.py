@@ -1,13 +1,22 @@
 """Bar codes and QR codes, drawn and read back by the proved library liblabels.
 
->>> label = line("qr,level=Q HELLO")  # a line as of labels(1)
+>>> import liblabels
+>>> code = liblabels.symbol("ean13", "400638133393")  # the check digit may be left out
+>>> code.data
+b'4006381333931'
+>>> code.png(scale=4, dpi=300)[1:4]  # the bytes of a file
+b'PNG'
+>>> code.svg(0.33, "mm")[:4]
+'<svg'
+>>> liblabels.symbol("ean13", "4006381333932")
+Traceback (most recent call last):
+liblabels.Refused: check digit is 2, should be 1
+
+>>> label = liblabels.line("qr,level=Q HELLO")  # a line as of labels(1)
 >>> label.width, label.version, label.level, label.mask, label.data
 (21, 1, 'Q', 2, b'HELLO')
->>> label.png(scale=4)[1:4], label.svg(0.5, "mm")[:60]
-(b'PNG', '<svg xmlns="http://www.w3.org/2000/svg" width="14.5mm" heigh')
->>> draw("ean8", "7351353", format="ascii", height=1)[:20]  # a picture as labels(1) prints it
-b'              ##  ##'
->>> read(draw("ean8", "7351353", scale=2))  # what a picture says
+>>> picture = liblabels.draw("ean8", "7351353", scale=2)  # as labels(1) prints it
+>>> liblabels.read(picture)  # what a picture says
 Reading(symbology='ean8', scale=2, turns=0, data=b'73513537')
 
 The modules as an array of numpy, without quiet zones, and a picture as an image of Pillow:

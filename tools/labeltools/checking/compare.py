@@ -7,24 +7,26 @@ its size, and turned as it is asked for. This holds for each symbol of a label: 
 user's own may have several.
 """
 
+import re
+import unicodedata
 from functools import cache, lru_cache
 from itertools import islice, tee
 from operator import itemgetter, mul
 from typing import Any, Iterator, NamedTuple, Sequence
 
-from labeltools.checking.decode import dots_of, NotDecoded
+from labeltools.checking.decode import NotDecoded, read_dots
 from labeltools.checking.read_pdf import DrawnPage, is_at, pages_of
 from labeltools.checking.read_svg import dots_of_svg
 from labeltools.common.messages import FAULT, Talk, ToolError
 from labeltools.common.text import Text
 from labeltools.designs.design import Design, PlacedSymbol
-from labeltools.designs.places import key_of, PARTS, Place
-from labeltools.layout.layout import LaidOut, short
+from labeltools.designs.places import Place
+from labeltools.layout.layout import LaidOut
 from labeltools.lines.engine import bytes_a_row, Engine, LABELS_FAILED, Refused
 from labeltools.lines.file import LineRecord
-from labeltools.paper.area import Plan
 from labeltools.paper.box import Box
 from labeltools.paper.picture import Picture, rows_reader
+from labeltools.paper.plan import Plan
 
 Labels = Sequence[tuple[LaidOut, tuple[int, int]]]
 CodeShape = tuple[str, tuple[int, int, int, int], int, int]  # symbology, quiet zones, width, rows
@@ -36,6 +38,9 @@ GUARDS = {
     "ean8": ((0, 3), (31, 36), (64, 67)),
     "upca": ((0, 10), (45, 50), (85, 95)),
 }
+BETWEEN = re.compile(r"[\s_-]+")  # between the words of a name
+AGAIN = re.compile(r" \d+\Z")  # behind the name of a column that has several places
+TOGETHER = ("text", "note")  # places of what is put together of several columns
 KNOWN = 4096  # places of symbols that are kept: most pages share them
 DIGITS = bytes.maketrans(b"\0\1", b"01")
 
@@ -125,8 +130,7 @@ class Comparison:
         self.engine = Engine(is_escaped)
         self.escaped = Engine(True)
         self.is_turned = is_turned
-        area = plan.area.turned() if is_turned else plan.area
-        self.area = Box(0, 0, area.width, area.height)
+        self.area = Box(0, 0, *plan.room[:: -1 if is_turned else 1])
         self.cells = dict(zip(plan.places, plan.sheet.places))
         self.where = lru_cache(KNOWN)(self.new_where)
 
@@ -158,7 +162,7 @@ class Comparison:
         if self.form == "svg":
             page = dots_of_svg(document.data, dpi, self.plan.page)
         else:
-            page, copies = dots_of(self.form, document.data, self.plan.page[0])
+            page, copies = read_dots(self.form, document.data, self.plan.page[0])
             self.check_size(page, copies, document.copies)
             self.check_drawn(page, document)
         for symbol in next(wanted):
@@ -180,7 +184,7 @@ class Comparison:
         pairs = enumerate(zip(page.rows, document.drawn.rows))
         number = next(number for number, (found, row) in pairs if found != row)
         what = Text("its dots are wrong in the output, {:.1f} mm down", number * self.plan.dot)
-        high = self.plan.area.height
+        high = self.plan.room[1]
         there = [item for item, (_, top) in document.pages[0] if top <= number < top + high]
         raise Different(what, there[0].label.record if there else None)
 
@@ -402,18 +406,27 @@ def text_for(place: Place, record: LineRecord) -> str | None:
     several.
     """
     label = record.label
+    columns = reversed([*zip(label.names, label.text)])  # the first one of a name counts
     texts = {
+        **{compared_name(name): text for name, text in columns},
         "code": record.data.decode("utf-8", "surrogateescape"),
-        "title": short(label.title),
+        "title": label.title,
         "price": label.price,
         "unit": label.unit,
         "was": label.was,
     }
-    for name, text in zip(label.names, label.text):
-        key = key_of(name)
-        if key not in PARTS:
-            texts.setdefault(key, short(text))
-    return texts.get(place.key) or texts.get(place.part)
+    name = compared_name(place.title)
+    several = AGAIN.sub("", name)
+    return None if several in TOGETHER else texts.get(name) or texts.get(several, "")
+
+
+def compared_name(name: str) -> str:
+    """Returns the name of a column or a place as it is compared.
+
+    >>> compared_name("Seat_No"), compared_name(" title-2")
+    ('seat no', 'title 2')
+    """
+    return BETWEEN.sub(" ", unicodedata.normalize("NFC", name)).strip().casefold()
 
 
 def turned(box: Box, size: tuple[int, int], quarters: int) -> Box:

@@ -41,7 +41,7 @@ class NotDecoded(Exception):
         self.what = what
 
 
-def dots_of(form: str, data: bytes, width: int) -> Printed:
+def read_dots(form: str, data: bytes, width: int) -> Printed:
     """Returns one label or page; raises `NotDecoded`. The width is that which a page has to have,
     of which ESC/POS does not say what is white at the right.
     """

@@ -1,9 +1,8 @@
-"""Reads the codes of an SVG of Cairo: dark rectangles that are drawn last, each code on white, so
-that nothing else of the page is over them.
+"""Reads the codes of an SVG of Cairo: dark rectangles that are drawn last, behind one drawing of
+white, so that nothing else of the page is over them.
 """
 
 import re
-from itertools import takewhile
 from xml.etree import ElementTree
 from xml.etree.ElementTree import Element
 
@@ -20,16 +19,16 @@ RECTANGLE = re.compile(r"M X X L X X L X X L X X Z ".replace("X", f"({NUMBER})")
 
 
 def dots_of_svg(data: bytes, dpi: float, size: tuple[int, int]) -> Picture:
-    """Returns the rectangles that a page ends in as dots; what none of them fills is dark. Raises
-    `NotDecoded` where one is not on whole dots, or leaves the page.
+    """Returns the rectangles that a page ends in as dots, from the last drawing of white on; what
+    none of them fills is dark. Raises `NotDecoded` where one is not on whole dots, or leaves the
+    page.
     """
     width, height = size
     stride = (width + 7) // 8
     rows = [(1 << 8 * stride) - 1] * height
     try:
         root = ElementTree.fromstring(data)
-        last = [*takewhile(is_rectangles, reversed([*root[-1]]))]
-        for element in reversed(last):
+        for element in last_drawings(root[-1]):
             is_white = WHITE in element.get("style", "")
             for corners in RECTANGLE.findall(element.get("d", "")):
                 numbers = [float(number) for number in corners]
@@ -42,6 +41,20 @@ def dots_of_svg(data: bytes, dpi: float, size: tuple[int, int]) -> Picture:
     except (ElementTree.ParseError, ValueError, LookupError) as error:
         raise NotDecoded(Text("no svg of Cairo: {}", error)) from error
     return Picture(width, height, b"".join([row.to_bytes(stride, "big") for row in rows]))
+
+
+def last_drawings(page: Element) -> list[Element]:
+    """Returns the rectangles that a page ends in, from the last white ones on: a line in a text
+    before these may be a rectangle, too, and is on no whole dots.
+    """
+    found: list[Element] = []
+    for element in reversed(page):
+        if not is_rectangles(element):
+            break
+        found.insert(0, element)
+        if WHITE in element.get("style", ""):
+            break
+    return found
 
 
 def is_rectangles(element: Element) -> bool:

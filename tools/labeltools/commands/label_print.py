@@ -23,8 +23,8 @@ from labeltools.common.report import places_text, Ranges, report
 from labeltools.common.text import counted, joined, Text
 from labeltools.designs.svg_design import is_file
 from labeltools.drawing.forms import FORMS
+from labeltools.layout.area import PURPOSES
 from labeltools.lines.file import LineRecord
-from labeltools.paper.area import DESIGNS
 from labeltools.paper.stock import forget, list_stock
 from labeltools.printing.job import DRAWING_DPI, form_of, Job, planned, PrintOptions, refuse
 from labeltools.printing.press import check_count, labels_of, Prepared
@@ -80,10 +80,10 @@ def design_of(argument: str) -> str:
     """Returns the name of a design, or the file of a user's own, which may be one of those that are
     installed with this package.
     """
-    if argument in DESIGNS or is_file(argument) and "/" in argument:
+    if argument in PURPOSES or is_file(argument) and "/" in argument:
         return argument
     if not is_file(argument):
-        known = ", ".join(DESIGNS)
+        known = ", ".join(PURPOSES)
         what = Text("{!r} is neither one of {} nor a file such as rack.svg", argument, known)
         raise wrong_argument(what)
     share = Path(__file__).resolve().parents[3]  # of a checkout, or PREFIX/share
@@ -121,7 +121,7 @@ POINT = reads("7x15")
 COUNT = reads("3", 1, int)
 
 
-def new_parser() -> Parser:
+def print_parser() -> Parser:
     """Returns the arguments; their names are those of `PrintOptions`, which has their defaults."""
     parser = Parser(TOOL, USAGE, ABOUT, EXAMPLES)
     add_sheet_options(parser.add_argument_group("the paper"))
@@ -148,12 +148,12 @@ def add_sheet_options(group: Any) -> None:
     value(group, "--columns", "N", COUNT, "cells side by side")
     value(group, "--rows", "N", COUNT, "cells below one another")
     value(group, "--page", "WxH", SIZE, "the size of the page (210x297)")
-    margin = "where the first cell begins (all are in the middle)"
+    margin = "where the first cell begins (by default the grid is centred)"
     value(group, "--margin", "LEFTxTOP", POINT, margin)
     value(group, "--gap", "XxY", POINT, "the distance between two cells (0x0)")
     edge = "white at the edges of a page: one for all, or left,top,right,bottom (5; on a roll 0)"
     value(group, "--edge", "MM", edges, edge)
-    shift = "move all, for a printer that feeds off centre"
+    shift = "move everything, for a printer that feeds off centre"
     value(group, "--shift", "X,Y", reads("-0.5,1", -10000), shift)
 
 
@@ -162,7 +162,7 @@ def add_size_options(group: Any) -> None:
     design = "article: bars for a till (the default); shelf: a large price; or a page of SVG"
     value(group, "--design", "NAME", design_of, design)
     one = group.add_mutually_exclusive_group()
-    flag(one, "--turn", "turn", "turn labels to the right, as is done if more of them fit")
+    flag(one, "--turn", "turn", "turn labels a quarter to the right (default: if more fit)")
     flag(one, "--no-turn", "turn", "never turn labels", False)
     module = "the narrowest bar, or a square of QR (what fits best)"
     value(group, "--module", "MM", reads("38.1", 0.0001), module)
@@ -175,8 +175,8 @@ def add_choice_options(group: Any) -> None:
     value(group, "--first", "N", COUNT, "begin at this cell of the first page (1)")
     only = "print only these rows of the table, such as 2,7-9, or 7- for all from 7 on"
     value(group, "--only", "ROWS", rows, only, dest="rows_only")
-    code = "print the label with this code, or those of @FILE, a code on each line; with --only "
-    code += "those of either"
+    code = "print the label with this code, or those of @FILE, a code on each line; with --only, "
+    code += "what either names"
     value(group, "--only-code", "CODE", not_empty, code, action="append", dest="codes", default=[])
     after = reads("9", 0, int, 7)  # as many as one run takes
     value(group, "--after", "N", after, "skip this many labels, which are on paper already (0)")
@@ -189,7 +189,7 @@ def add_output_options(group: Any) -> None:
     """Adds the options of where labels go, and in which form."""
     forms = ", ".join(name for name in FORMS if name != "pbm")  # which is for tests
     value(group, "--to", "FORM", str, f"{forms} (pdf)", choices=tuple(FORMS))
-    dpi = f"dots an inch of the printer (pdf and svg: {DRAWING_DPI})"
+    dpi = f"the resolution of the printer, in dots per inch (pdf and svg: {DRAWING_DPI})"
     value(group, "--dpi", "N", COUNT, dpi)
     one = group.add_mutually_exclusive_group()
     each = "a file for each label: %%d is its number, %%s its data"
@@ -210,7 +210,7 @@ def print_options(words: Sequence[str] | None = None) -> PrintOptions:
     """Returns what words ask for, or else the arguments of this program; raises `ToolError` and
     `OSError`.
     """
-    given = vars(new_parser().parse_args(words))
+    given = vars(print_parser().parse_args(words))
     given["only"] = selection_of(given.pop("rows_only") or (), given.pop("codes"))
     return PrintOptions(**given)
 

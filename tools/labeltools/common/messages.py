@@ -4,11 +4,10 @@ writes a message.
 
 import sys
 import unicodedata
-from collections.abc import Sequence
 from contextlib import suppress
 from typing import NamedTuple, Protocol
 
-from labeltools.common.text import NOTHING, Text, translated
+from labeltools.common.text import joined, NOTHING, Text, translated
 
 BAD_ARGUMENTS = 2
 FAULT = Text("this is a fault of label-print: nothing of it was sent; report it")
@@ -23,25 +22,18 @@ NAMES = {
 }
 
 
-Offers = Sequence[tuple[str, Sequence[str]]]
-
-
 class ToolError(Exception):
     """Why a tool cannot go on.
 
-    `what` is the reason, without an option of the command line; `hint`, which may name options, is
-    what to do. A command ends with `status`. `offers` are choices that help, each as it is shown
-    in a window, with its words of the command line.
+    `what` is the reason, and `hint` what to do; options that help are remedies in them. A command
+    ends with `status`.
     """
 
-    def __init__(
-        self, what: Text, hint: Text = NOTHING, status: int = 1, offers: Offers = ()
-    ) -> None:
+    def __init__(self, what: Text, hint: Text = NOTHING, status: int = 1) -> None:
         super().__init__(sentence(what, hint))
         self.what = what
         self.hint = hint
         self.status = status
-        self.offers = offers
 
 
 class BadArguments(ToolError):
@@ -139,9 +131,13 @@ def sentence(what: Text, hint: Text) -> Text:
     'there is no sheet: give --sheet'
     >>> sentence(Text("7: it is no EAN"), Text("look at it"))
     '7: it is no EAN; look at it'
+    >>> sentence(Text("is it a code?"), Text("else leave it out"))
+    'is it a code? else leave it out'
     """
     if not hint:
         return what
+    if what.endswith("?"):
+        return joined(" ", (what, hint))
     return Text("{}; {}", what, hint) if ": " in what else Text("{}: {}", what, hint)
 
 

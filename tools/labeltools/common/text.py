@@ -3,8 +3,9 @@
 xgettext finds them: `--keyword=Text --keyword=counted:1,2`.
 """
 
+import shlex
 from dataclasses import dataclass
-from typing import Iterable
+from typing import Iterable, Iterator
 
 from labeltools.common.language import ngettext, one_text
 
@@ -21,6 +22,9 @@ class Text(str):
     template: str
     many: str  # the template for other counts than 1, where there is one
     fields: tuple[object, ...]
+    instead: "Text | None" = (
+        None  # what a window says in its place, beside buttons for its remedies
+    )
 
     def __new__(cls, template: str, *fields: object) -> "Text":
         return cls.made(template.format(*fields) if fields else template, template, "", fields)
@@ -33,6 +37,13 @@ class Text(str):
         new.many = many
         new.fields = fields
         return new
+
+    def in_window(self, instead: "Text") -> "Text":
+        """Returns the text, with what a window says in its place: that may be nothing, since the
+        remedies in it are buttons there.
+        """
+        self.instead = instead
+        return self
 
 
 NOTHING = Text("")
@@ -57,6 +68,85 @@ def joined(sign: str, parts: Iterable[object]) -> Text:
     """
     found = list(parts)
     return Text(sign.join(["{}"] * len(found)), *found)
+
+
+@dataclass(frozen=True)
+class Remedy:
+    """A choice that helps, in a text: a command says its option, a window has a button for it.
+
+    `value` is empty for an option without one; `says` is what the button shows, nothing where only
+    the user knows the value; `is_less` is whether it helps to leave the option out.
+
+    >>> text = give(Remedy("sheet", "Bread"), Remedy("sheet", "Old ones"), Remedy("hidden"))
+    >>> text, [remedy.value for remedy in remedies_of(text)]
+    ("give --sheet Bread or 'Old ones' or --hidden", ['Bread', 'Old ones', ''])
+    """
+
+    option: str
+    value: str = ""
+    says: Text = NOTHING
+    is_less: bool = False
+
+    @property
+    def words(self) -> tuple[str, ...]:
+        """The words of a command."""
+        return (f"--{self.option}", self.value) if self.value else (f"--{self.option}",)
+
+    def __str__(self) -> str:
+        return f"--{self.option} {self:value}" if self.value else f"--{self.option}"
+
+    def __format__(self, form: str) -> str:
+        if form != "value":
+            return str(self)
+        has_letter = any(map(str.isalnum, self.value))
+        return shlex.quote(self.value) if has_letter else f"'{self.value}'"
+
+
+def either(remedies: Iterable[Remedy]) -> Text:
+    """Returns remedies of which one helps, as a part of a text; an option is named once for values
+    side by side.
+    """
+    before, *rest = remedies
+    text = Text("{}", before)
+    for one in rest:
+        is_same = one.option == before.option and one.value
+        text = Text("{} or {:value}", text, one) if is_same else Text("{} or {}", text, one)
+        before = one
+    return text
+
+
+def give(*remedies: Remedy) -> Text:
+    """Returns what to do where one of some remedies helps. A window says nothing beside them."""
+    return Text("give {}", either(remedies)).in_window(NOTHING)
+
+
+def remedies_of(text: object) -> Iterator[Remedy]:
+    """Yields the remedies in a text."""
+    if isinstance(text, Remedy):
+        yield text
+    elif isinstance(text, Text):
+        for field in text.fields:
+            yield from remedies_of(field)
+
+
+def windowed(text: Text) -> Text:
+    """Returns a text as a window says it, without the options of a command; signs between texts go
+    with those that are nothing there.
+
+    >>> hint = Text("enter it, or {}", give(Remedy("hidden"))).in_window(Text("enter it"))
+    >>> windowed(joined("; ", (give(Remedy("hidden")), hint)))
+    'enter it'
+    """
+    if text.instead is not None:
+        return windowed(text.instead)
+    fields = [windowed(one) if isinstance(one, Text) else one for one in text.fields]
+    if fields == [*text.fields]:
+        return text
+    between = text.template.split("{}")
+    if len(fields) > 1 and not any(map(str.isalnum, "".join(between))):
+        return joined(between[1], (one for one in fields if one != ""))
+    template = text.many if text.many and fields[0] != 1 else text.template
+    return Text.made(template.format(*fields), text.template, text.many, tuple(fields))
 
 
 @dataclass(frozen=True)

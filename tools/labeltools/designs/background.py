@@ -11,7 +11,7 @@ from labeltools.designs.svg_design import lightness, SvgDesign
 from labeltools.designs.svg_layout import svg_layout
 from labeltools.layout.layout import Page
 from labeltools.layout.medium import Medium
-from labeltools.paper.area import Dots, MILLIMETRES, POINTS
+from labeltools.paper.plan import Dots, MILLIMETRES, POINTS
 
 UPRIGHT = cairo.Matrix()
 

@@ -8,7 +8,7 @@ from typing import Iterable, Iterator
 import cairo
 from PIL import Image, ImageChops, ImageFilter
 
-from labeltools.paper.area import Dots
+from labeltools.paper.plan import Dots
 
 DARKEST = 128  # the lightness from which on a dot is white
 FAINT = 191  # the lightness up to which a dot may be of a line that is thinner

@@ -4,13 +4,13 @@ from typing import Any, Iterator, Mapping, NamedTuple, Protocol, Sequence
 
 from labeltools.common.messages import Talk
 from labeltools.designs.places import Place
+from labeltools.layout.area import Area
 from labeltools.layout.fitting import Fitter, Placed, Style
 from labeltools.layout.layout import LaidOut, LaidOutFile, Page, PrintLabel
 from labeltools.layout.letters import Letters
 from labeltools.layout.medium import Medium
 from labeltools.lines.engine import Modules
 from labeltools.lines.symbologies import Symbology
-from labeltools.paper.area import Area
 from labeltools.paper.box import Box
 
 CODE = Place("code")  # of a built-in design

@@ -16,8 +16,8 @@ from labeltools.common.text import Text
 from labeltools.designs.svg_page import SPACE
 from labeltools.layout.fitting import Colour
 from labeltools.lines.symbologies import SYMBOLOGIES
-from labeltools.paper.area import Dots
 from labeltools.paper.box import Box
+from labeltools.paper.plan import Dots
 
 # where programs write the name that was typed; ids have no spaces and commas in many of them
 WRITTEN = (

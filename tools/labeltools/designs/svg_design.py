@@ -23,11 +23,11 @@ from xml.etree.ElementTree import Element
 import cairo
 
 from labeltools.common.messages import BAD_ARGUMENTS, ToolError
-from labeltools.common.text import Text
+from labeltools.common.text import Remedy, Text
 from labeltools.designs.places import key_of, part_of, PARTS, Place, place_of, title_of
 from labeltools.designs.svg_page import handle_of, HOLDERS, read_page, rsvg, SvgPage, tag_of
 from labeltools.layout.fitting import Colour
-from labeltools.paper.area import Edges
+from labeltools.paper.plan import Edges
 from labeltools.paper.stock import Size, size_text
 
 SUFFIXES = (".svg", ".svgz")
@@ -135,7 +135,8 @@ def size_of_page(file: str) -> Size:
     """Returns the size of a page; raises `ToolError` if that is not in millimetres."""
     page = read_page(file)
     if not page.is_real:
-        hint = Text("name the paper with --paper, --stock or --cell")
+        hint = Text("name the paper with {}, {} or {}", *map(Remedy, ("paper", "stock", "cell")))
+        hint = hint.in_window(Text("choose its paper"))
         raise ToolError(Text("{} has no size in millimetres", file), hint, BAD_ARGUMENTS)
     return page.size
 
@@ -322,7 +323,8 @@ def inside(file: str, place: Place, label: Size, edges: Edges) -> Place:
             file,
             place.title,
         )
-        raise ToolError(what, Text("move it, or give another --edge"))
+        hint = Text("move it, or give another {}", Remedy("edge")).in_window(Text("move it"))
+        raise ToolError(what, hint)
     return replace(place, left=left, top=top, width=wide, height=high)
 
 
@@ -337,7 +339,8 @@ def design_remarks(design: SvgDesign, smaller: list[str], edges: Edges) -> Itera
         what = Text("{}: several rectangles are named {}", file, ", ".join(again))
         yield Text("{}: {}", what, Text("name the second one {}-2, or remove one", again[0]))
     if smaller:
-        why = Text("the printer does not print there, at the edge of the page (--edge)")
+        why = Text("the printer does not print there, at the edge of the page ({})", Remedy("edge"))
+        why = why.in_window(Text("the printer does not print there, at the edge of the page"))
         yield Text("{}: smaller than drawn: {}: {}", file, ", ".join(smaller), why)
     inner = NEAR / 2 + 1 / seen.scale  # a dot may be in part beyond an edge
     left, top, right, bottom = (max(0.0, edge - inner) for edge in edges)
@@ -347,7 +350,8 @@ def design_remarks(design: SvgDesign, smaller: list[str], edges: Edges) -> Itera
         whole, within = (seen.behind(Place("", *sides), 0.0) for sides in areas)
         if len(whole.translate(None, LIGHT)) > len(within.translate(None, LIGHT)):
             what = Text("{}: the drawing is cut at the edge", file)
-            yield Text("{}: {}", what, Text("move it in, or give another --edge or --shift"))
+            hint = Text("move it in, or give another {} or {}", Remedy("edge"), Remedy("shift"))
+            yield Text("{}: {}", what, hint.in_window(Text("move it in")))
     if spotted := design.mixed(frozenset(), SPOTTED, UNREAD):
         yield mixed_text(file, ", ".join(place.title for place in spotted))
 

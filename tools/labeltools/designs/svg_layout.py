@@ -10,20 +10,21 @@ from itertools import combinations, compress, repeat
 from typing import Iterator, Mapping, NamedTuple, Sequence
 
 from labeltools.common.cache import Found
-from labeltools.common.messages import quoted, sentence, Talk, ToolError
-from labeltools.common.text import Text
+from labeltools.common.messages import sentence, Talk, ToolError
+from labeltools.common.text import Remedy, Text
 from labeltools.designs.design import PlacedSymbol
 from labeltools.designs.fit import ENLARGE, NoRoom, PlacedText, Room
 from labeltools.designs.places import key_of, PARTS, Place
 from labeltools.designs.svg_design import mixed_text, NEAR, SvgDesign, UNREAD
+from labeltools.layout.area import Area, LARGEST_MODULE
 from labeltools.layout.frame import DIGITS_ROOM, Frame, LOWEST
 from labeltools.layout.layout import ASKED, LaidOut, LaidOutFile, Layout, PrintLabel, short
 from labeltools.layout.letters import Letters
 from labeltools.lines.engine import drawn, Modules
 from labeltools.lines.file import symbology_and_data
 from labeltools.lines.symbologies import SYMBOLOGIES, Symbology
-from labeltools.paper.area import Area, LARGEST_MODULE, TINY
 from labeltools.paper.box import Box
+from labeltools.paper.plan import TINY
 from labeltools.paper.stock import size_text
 
 FIELDS = ("title", "price", "unit", "was", "code")  # of each label
@@ -60,14 +61,14 @@ def values_of(label: PrintLabel, note: str, own: frozenset[str]) -> Values:
     whole = label.record.label
     keys, names = keys_of_columns(whole.names or ("",) * len(whole.text), bool(note), own)
     code = label.record.data.decode("utf-8", "surrogateescape")
-    texts = dict(zip(FIELDS, (label.title, whole.price, whole.unit, whole.was, code)))
+    texts = dict(zip(FIELDS, (whole.title, whole.price, whole.unit, whole.was, code)))
     rest = []
     for key, text in zip(keys, (*whole.text, note)):
         if key == "text":
             rest.append(text)
         else:
-            texts[key] = text if key == "note" else short(text)
-    texts["text"] = short("\n".join(rest))
+            texts[key] = text
+    texts["text"] = "\n".join(rest)
     return Values({key: text for key, text in texts.items() if text}, names)
 
 
@@ -153,8 +154,8 @@ class SvgLayouts:
         """Returns the texts of labels in places of letters, by the numbers of their lines."""
         rows = self.rows_of([values_of(label, self.note, self.known) for label in labels])
         are_texts = [not place.is_symbol for place in self.places]
-        every = zip(labels, rows)
-        return {label.record.number: [*compress(row, are_texts)] for label, row in every}
+        texts = (map(short, compress(row, are_texts)) for row in rows)
+        return {label.record.number: [*several] for label, several in zip(labels, texts)}
 
     def rows_of(self, values: Sequence[Values]) -> list[tuple[str, ...]]:
         """Returns the texts of labels in all places: Line-2 is a column where any label has one of
@@ -171,7 +172,7 @@ class SvgLayouts:
         letters = Found(Letters)
         letters[""] = self.letters
         for place, texts in zip(self.places, zip(*rows)):
-            counts: Counter[str] = Counter(filter(None, texts))
+            counts: Counter[str] = Counter(map(short, filter(None, texts)))
             if counts and not place.is_symbol:
                 how = (self.boxes[place], letters[place.font], self.area.dot)
                 rooms[place] = Room(place, *how, counts)
@@ -207,7 +208,7 @@ class SvgLayouts:
             if place in unread:
                 raise NoRoom(mixed_text(self.design.page.file, place.title))
             if place in rooms:
-                texts.append(rooms[place].texts[text])
+                texts.append(rooms[place].texts[short(text)])
                 continue
             symbology, modules, data = label.symbology, label.modules, label.record.data
             if place.symbology:
@@ -304,9 +305,9 @@ class SvgLayouts:
         known = {*names, *self.asked}
         if empty := [one.title for one in self.places if not known & {one.key, one.part}]:
             hint = Text(
-                "give such a column with label-table --text {}, or remove the name",
-                quoted(empty[0]),
-            )
+                "give such a column with label-table {}, or remove the name",
+                Remedy("text", empty[0]),
+            ).in_window(Text("choose such a column as a text, or remove the name"))
             yield Text("{}: no label has anything for {}: {}", file, ", ".join(empty), hint)
 
 

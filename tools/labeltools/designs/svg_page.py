@@ -21,7 +21,7 @@ from xml.etree import ElementTree
 from xml.etree.ElementTree import Element
 
 from labeltools.common.messages import ToolError
-from labeltools.common.text import Text
+from labeltools.common.text import Remedy, Text
 from labeltools.layout.pango import gi_library
 from labeltools.paper.stock import Size
 
@@ -102,7 +102,8 @@ def data_of(file: str) -> bytes:
         if data.startswith(PACKED):
             data = zlib.decompressobj(zlib.MAX_WBITS + 16).decompress(data, MOST_BYTES + 1)
     except OSError as error:
-        raise ToolError(Text("--design {}: {}", file, error.strerror)) from error
+        what = Text("{}: {}", Remedy("design", file), error.strerror)
+        raise ToolError(what.in_window(Text("{}: {}", file, error.strerror))) from error
     except zlib.error as error:
         raise ToolError(Text("{} is not SVG: {}", file, error)) from error
     if len(data) > MOST_BYTES:

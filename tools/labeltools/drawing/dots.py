@@ -6,12 +6,12 @@ import zlib
 import cairo
 
 from labeltools.common.messages import ToolError
-from labeltools.common.text import Text
+from labeltools.common.text import Remedy, Text
 from labeltools.drawing.pen import Pen, REVERSED
 from labeltools.layout.layout import Page
 from labeltools.lines.engine import bytes_a_row
-from labeltools.paper.area import Dots, MOST_DOTS
 from labeltools.paper.picture import Picture, rows_reader
+from labeltools.paper.plan import Dots, MOST_DOTS
 
 LIGHT = bytes(range(255, -1, -1))  # of PNG, in which 1 is light
 MOST_OF_PAGE = 400_000_000  # dots: an A4 page of 1,800 dots an inch has fewer
@@ -35,7 +35,8 @@ def drawn_surface(size: Dots, pen: Pen, page: Page, turn: int = 0) -> cairo.Imag
     """Returns a page of labels as a surface with a bit for each dot; raises as `drawn_page`."""
     width, height = size
     if max(size) > MOST_DOTS or width * height > MOST_OF_PAGE:
-        hint = Text("give a smaller page, or a lower --dpi")
+        hint = Text("give a smaller page, or a lower {}", Remedy("dpi"))
+        hint = hint.in_window(Text("choose a smaller page, or fewer dots an inch"))
         raise ToolError(Text("{} by {} dots are too many for a page", width, height), hint)
     try:
         surface = cairo.ImageSurface(cairo.FORMAT_A1, width, height)

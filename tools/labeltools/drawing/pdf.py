@@ -12,7 +12,7 @@ import cairo
 from labeltools.common.files import BLOCK
 from labeltools.drawing.pen import Pen
 from labeltools.layout.layout import Page
-from labeltools.paper.area import MILLIMETRES, POINTS
+from labeltools.paper.plan import MILLIMETRES, POINTS
 from labeltools.paper.stock import Size
 
 OBJECT = re.compile(rb"([0-9]{10}) [0-9]{5} n")

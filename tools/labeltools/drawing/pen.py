@@ -19,8 +19,8 @@ from labeltools.layout.medium import font_options, Medium
 from labeltools.layout.pango import PangoCairo, plain_options
 from labeltools.lines.engine import bytes_a_row, LABELS_FAILED, Modules
 from labeltools.lines.symbologies import Span, SYMBOLOGIES, Symbology
-from labeltools.paper.area import Dots
 from labeltools.paper.box import Box
+from labeltools.paper.plan import Dots
 
 DARK = re.compile("1+")
 INSET = 0.01  # of a dot: what touches a dot paints it
@@ -323,11 +323,11 @@ def upright_from(turn: int) -> cairo.Matrix:
 def white_boxes(symbol: PlacedSymbol) -> tuple[Box, ...]:
     """Returns where a symbol is on its label: its bars, and what guards are longer."""
     bars, room = symbol.boxes["bars"], symbol.box
-    return boxes_of(bars, symbol.module, symbol.symbology.name, room, symbol.place.quarters)
+    return bar_boxes(bars, symbol.module, symbol.symbology.name, room, symbol.place.quarters)
 
 
 @lru_cache(KNOWN)
-def boxes_of(bars: Box, module: int, symbology: str, room: Box, quarters: int) -> tuple[Box, ...]:
+def bar_boxes(bars: Box, module: int, symbology: str, room: Box, quarters: int) -> tuple[Box, ...]:
     """Returns where bars, whose modules have so many dots, and what guards are longer are on a
     label, from a room on that is turned to the right by some quarters.
     """

@@ -93,11 +93,11 @@ def common_value(values: Mapping[float, int]) -> float:
     if not values:
         return 0.0
     most = max(values)
-    usual = ninth_of_ten(values)
+    usual = limit_of_most(values)
     return most if usual >= LEAST_SHARE * most else usual
 
 
-def ninth_of_ten(values: Mapping[float, int]) -> float:
+def limit_of_most(values: Mapping[float, int]) -> float:
     """Returns the smallest value that nine of ten do not exceed."""
     wanted = math.ceil(MOST_OF * sum(values.values()))
     seen = 0

@@ -11,15 +11,17 @@ from functools import cache
 from typing import Iterator, Mapping, Sequence
 
 from labeltools.common.messages import Origin, Talk
-from labeltools.common.text import joined, Text
+from labeltools.common.text import joined, Remedy, Text
+from labeltools.layout.area import Area
 from labeltools.layout.frame import Frame, HINTING, Need
-from labeltools.layout.frame_search import frame_of, module_in
+from labeltools.layout.frame_search import frame_of
+from labeltools.layout.joint_needs import module_in
 from labeltools.layout.letters import Letters
 from labeltools.lines.engine import Modules
 from labeltools.lines.file import LineRecord
 from labeltools.lines.symbologies import SYMBOLOGIES, Symbology
-from labeltools.paper.area import Area, Dots, millimetres_of, PAD
 from labeltools.paper.box import Box
+from labeltools.paper.plan import Dots, PAD
 from labeltools.paper.stock import Size, size_text
 
 # marks above or below a letter, of which so many are drawn
@@ -317,14 +319,16 @@ def reason(needs: Sequence[Need], area: Area) -> Text:
     symbology = needs[0].kind
     modules = area.modules[symbology.name] if symbology.nominal else (area.dots(symbology.module),)
     if not modules:
-        return Text(
-            "{}: --module and --dpi give no modules of {:g} mm or more",
-            symbology.title,
-            area.smallest(symbology),
+        least = area.smallest(symbology)
+        names = Remedy("module"), Remedy("dpi")
+        what = Text(
+            "{}: {} and {} give no modules of {:g} mm or more", symbology.title, *names, least
         )
+        instead = Text("{}: the printer has no modules of {:g} mm or more", symbology.title, least)
+        return what.in_window(instead)
     wide = max(need.width for need in needs) * min(modules)
     is_wide = wide > area.width
-    taken = size_text(millimetres_of(area))
+    taken = size_text(area.millimetres)
     what = Text(
         "{} is too high, with its texts, and the label has room for {}", symbology.title, taken
     )

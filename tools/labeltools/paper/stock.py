@@ -11,7 +11,7 @@ from typing import Iterator
 from xml.etree.ElementTree import Element, parse
 
 from labeltools.common.messages import BAD_ARGUMENTS, ToolError
-from labeltools.common.text import Text
+from labeltools.common.text import Remedy, Text
 
 Size = tuple[float, float]
 PartName = tuple[str, str]  # the maker and the name of a part
@@ -104,11 +104,13 @@ def stock_sheet(name: str) -> Sheet:
     if len(found) == 1:
         return glabels_sheet(found[0])
     reason = Text("no such sheet")
-    hint = Text("--list-stock WORD lists the sheets")
+    hint = Text("{} lists the sheets", Remedy("list-stock", "WORD"))
+    hint = hint.in_window(Text("type a part of its name, and choose it from the list"))
     if found:
         reason = Text("several makers have it")
         hint = Text("name one of {}", ", ".join(map(" ".join, found)))
-    raise ToolError(Text("--stock {}: {}", name, reason), hint, BAD_ARGUMENTS)
+    what = Text("{}: {}", Remedy("stock", name), reason)
+    raise ToolError(what.in_window(Text("{}: {}", name, reason)), hint, BAD_ARGUMENTS)
 
 
 def parts_named(name: str) -> list[PartName]:
@@ -165,7 +167,9 @@ def parts() -> dict[PartName, Element]:
     trees = [parse(path) for path in TEMPLATES.glob("*.xml")]
     found = [part for tree in trees for part in tree.iterfind("{*}Template")]
     if not found:
-        hint = Text("apt-get install glabels-data; else give --columns, --rows and --cell")
+        grid = map(Remedy, ("columns", "rows", "cell"))
+        hint = Text("apt-get install glabels-data; else give {}, {} and {}", *grid)
+        hint = hint.in_window(Text("install the package glabels-data"))
         raise ToolError(Text("names of sheets need glabels-data, which is not installed"), hint)
     named = {(part.get("brand", ""), part.get("part", "")): part for part in found}
     return {key: named[key] for key in sorted(named)}
@@ -209,7 +213,8 @@ def length_of(text: str | None) -> float:
 def glabels_sheet(key: PartName) -> Sheet:
     """Returns the sheet of a part; raises `ToolError` where no label can be laid out for it."""
     part = parts()[key]
-    head = f"--stock {' '.join(key)}"
+    name = " ".join(key)
+    head = Text("{}", Remedy("stock", name)).in_window(Text("{}", name))
     if same := part.get("equiv"):
         return glabels_sheet((key[0], same))
     cell = next(child for child in part if "Label-" in child.tag)
@@ -222,7 +227,8 @@ def glabels_sheet(key: PartName) -> Sheet:
     page = papers().get(part.get("size", "")) or lengths_of(part)
     sheet = Sheet(page, lengths_of(cell), tuple(places))
     if not places or not min(sheet.cell) or sheet.beyond() > MOST_BEYOND:
-        hint = Text("give --columns, --rows, --cell")
+        hint = Text("give {}, {}, {}", *map(Remedy, ("columns", "rows", "cell")))
+        hint = hint.in_window(Text("choose another sheet"))
         raise ToolError(Text("{}: glabels has it larger than its page", head), hint, BAD_ARGUMENTS)
     return sheet
 

@@ -9,25 +9,16 @@ from dataclasses import dataclass, replace
 from typing import Sequence
 
 from labeltools.common.messages import BAD_ARGUMENTS, ToolError
-from labeltools.common.text import counted, NOTHING, Text
+from labeltools.common.text import counted, NOTHING, Remedy, Text
 from labeltools.designs.design import Design
 from labeltools.designs.framed import FramedDesign
 from labeltools.designs.svg_design import is_file, read_design, size_of_page
 from labeltools.designs.svg_labels import SvgLabels
 from labeltools.drawing.forms import ESCPOS, Form, FORMS, PDF
+from labeltools.layout.area import Area, ARTICLE, NO_PURPOSE, PURPOSES, Wishes
 from labeltools.layout.letters import FONT
 from labeltools.lines.file import UNPRINTABLE
-from labeltools.paper.area import (
-    ARTICLE,
-    DESIGNS,
-    Edges,
-    NO_PURPOSE,
-    Plan,
-    plan_of,
-    unprinted_edges,
-    whole_plan_of,
-    Wishes,
-)
+from labeltools.paper.plan import Edges, Plan, plan_of, unprinted_edges, whole_plan_of
 from labeltools.paper.stock import Grid, grid_sheet, Sheet, Size, stock_sheet
 from labeltools.printing.selection import Selection
 
@@ -38,7 +29,10 @@ DRAWING_DPI = 600
 MOST_DPI = 2400
 RECEIPT_DOTS = 576  # across paper of 80 mm
 NO_GRID = Text("a grid needs --columns, --rows and --cell")
-NO_PAPER = Text("one of --stock, --paper, --cell and a --design of SVG is needed")
+NO_PAPER = Text(
+    "one of {}, {}, {} and a {} of SVG is needed",
+    *map(Remedy, ("stock", "paper", "cell", "design")),
+).in_window(Text("the sheet has no name: choose one from the list"))
 # options that do something only for a grid, or for receipt printers
 OF_GRID = ("columns", "rows", "page", "margin", "gap")
 OF_RECEIPT = ("dots", "is_cut")
@@ -106,10 +100,13 @@ class PrintOptions:
 
 @dataclass(frozen=True)
 class Job:
-    """How labels go out: what is asked for, on which sheet, in which form and design."""
+    """How labels go out: what is asked for, on which sheet, in which room for each, in which form
+    and design.
+    """
 
     options: PrintOptions
     plan: Plan
+    area: Area
     form: Form
     design: Design
 
@@ -139,14 +136,17 @@ def planned(options: PrintOptions) -> Job:
     if is_file(options.design):
         white = unprinted_edges(sheet, edges)
         design: Design = SvgLabels(read_design(options.design, sheet.cell, white, options.turn))
-        plan = whole_plan_of(sheet, dpi, Wishes(NO_PURPOSE, *wishes))
+        purpose, plan = NO_PURPOSE, whole_plan_of(sheet, dpi)
     else:
         design = FramedDesign()
-        plan = plan_of(sheet, dpi, edges, Wishes(DESIGNS[options.design], *wishes))
+        purpose, plan = PURPOSES[options.design], plan_of(sheet, dpi, edges)
+    area = Area(*plan.room, plan.dot, Wishes(purpose, *wishes))
     dots = options.dots or RECEIPT_DOTS
-    too_wide = Text("a label is {} dots wide, and the printer has {} (--dots)", plan.page[0], dots)
+    wide = (plan.page[0], dots)
+    too_wide = Text("a label is {} dots wide, and the printer has {} ({})", *wide, Remedy("dots"))
+    too_wide = too_wide.in_window(Text("a label is {} dots wide, and the printer has {}", *wide))
     refuse(form == ESCPOS and plan.page[0] > dots, too_wide)
-    return Job(options, plan, form, design)
+    return Job(options, plan, area, form, design)
 
 
 def refuse(is_wrong: object, what: Text, hint: Text = NOTHING) -> None:
@@ -192,7 +192,13 @@ def check_together(options: PrintOptions, form: Form) -> None:
     refuse(dpi > MOST_DPI, Text("--dpi {}: the maximum is {}", dpi, MOST_DPI))
     for name in ("note", "font", "stock"):
         text = getattr(options, name) or ""
-        refuse(UNPRINTABLE.search(text), Text("--{} has characters that are not text", name))
+        refuse(UNPRINTABLE.search(text), no_text(name))
+
+
+def no_text(name: str) -> Text:
+    """Returns that an option has characters that are not text."""
+    what = Text("{} has characters that are not text", Remedy(name))
+    return what.in_window(Text("there are characters that are not text"))
 
 
 def form_of(options: PrintOptions) -> Form:
@@ -211,7 +217,8 @@ def sheet_of(options: PrintOptions, form: Form) -> Sheet:
     is_page = options.each is not None or form.is_roll
     places = ((0.0, 0.0),) if is_page else sheet.places
     has = counted("a page has {} label", "a page has {} labels", len(places))
-    refuse(options.first > len(places), Text("--first {}: {}", options.first, has))
+    first = Text("{}: {}", Remedy("first", str(options.first)), has).in_window(has)
+    refuse(options.first > len(places), first)
     x, y = options.shift
     shifted = tuple((left + x, top + y) for left, top in places)
     return replace(sheet, page=sheet.cell if is_page else sheet.page, places=shifted)

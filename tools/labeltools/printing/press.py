@@ -10,7 +10,7 @@ from labeltools.checking.compare import Comparison, Document
 from labeltools.common.files import temporary
 from labeltools.common.messages import Talk, ToolError
 from labeltools.common.report import LeftOut, places_text
-from labeltools.common.text import Text
+from labeltools.common.text import Remedy, Text
 from labeltools.designs.design import Design, Setting
 from labeltools.drawing.dots import drawn_page, pbm, png
 from labeltools.drawing.escpos import escpos
@@ -102,7 +102,7 @@ def prepared(
         if record.modules is not None and record.label.copies
     ]
     reasons = {record.number: record.refused for record in lines.records if record.refused}
-    on = Setting(job.plan.area, letters, options.note, lines.empty)
+    on = Setting(job.area, letters, options.note, lines.empty)
     reasons.update(without_letters(labels, job.design, on))
     if options.is_each_once:
         reasons.update(doubles(lines, reasons))
@@ -184,7 +184,8 @@ def repeated(items: Sequence[LaidOut], job: Job) -> Sequence[LaidOut]:
     count = sum(copies)
     if count > MOST_LABELS:
         what = Text("{:,} labels with their copies: the maximum is {:,}", count, MOST_LABELS)
-        raise ToolError(what, Text("print some of them with --only"))
+        hint = Text("print some of them with {}", Remedy("only"))
+        raise ToolError(what, hint.in_window(Text("print some of them")))
     every = [item for item, often in zip(items, copies) for _ in range(often)]
     return every[job.options.after :]
 
@@ -194,8 +195,12 @@ def check_count(job: Job, prints: Sequence[LaidOut]) -> None:
     if not prints:
         raise ToolError(Text("there is no label to print"))
     if job.form.is_one_page and not job.is_each and job.pages_of(len(prints)) > 1:
-        hint = Text("print fewer labels with --only, or a file of each with --each")
-        raise ToolError(Text("--to {} writes only one page", job.form.name), hint)
+        what = Text("{} writes only one page", Remedy("to", job.form.name))
+        what = what.in_window(Text("{} has only one page", job.form.name))
+        hint = Text(
+            "print fewer labels with {}, or a file of each with {}", Remedy("only"), Remedy("each")
+        )
+        raise ToolError(what, hint.in_window(Text("print fewer labels, or choose PDF")))
 
 
 @dataclass(frozen=True, slots=True)

@@ -7,8 +7,8 @@ from labeltools.common.messages import quoted
 from labeltools.common.report import LeftOut, listed, places_text
 from labeltools.common.text import Text
 from labeltools.drawing.pen import Pen
+from labeltools.layout.area import Area
 from labeltools.layout.layout import LaidOut, LaidOutFile
-from labeltools.paper.area import Area, ARTICLE
 from labeltools.printing.selection import Selection
 
 DENSE = 0.33  # millimetres: modules of QR below it are reported
@@ -51,7 +51,7 @@ def found_on(
     items: Sequence[LaidOut], area: Area, pen: Pen
 ) -> Iterator[tuple[Sequence[LaidOut], Text]]:
     """Yields labels, which may be none, and what is to be said of them."""
-    if area.wishes.purpose == ARTICLE:
+    if area.wishes.purpose.is_for_tills:
         low = [item for item in items if has_low_bars(item)]
         bars = min((item.layout.boxes["bars"].height for item in low), default=0) * area.dot
         hint = Text("hand scanners read them, a till that reads in all directions may not")

@@ -13,7 +13,7 @@ from pathlib import Path
 from typing import Any, IO
 
 from labeltools.common.messages import BAD_ARGUMENTS, ToolError
-from labeltools.common.text import joined, NOTHING, Text
+from labeltools.common.text import either, joined, NOTHING, Remedy, Text
 from labeltools.drawing.forms import PDF
 from labeltools.paper.stock import Size
 from labeltools.printing.job import DRAWING_DPI, Job
@@ -59,10 +59,12 @@ OF_A_JOB = {*PAGES, "copies"}  # of those, what may be chosen for a job
 PAPER = ("PageSize", "PageRegion")
 CHANGES = re.compile(r"(EF|JCL|KD03)?Duplex|(Lex)?Mirror(Print)?|NupPages|NUp|(KC)?Booklet")
 NO_CHANGE = ("None", "False", "Off", "No", "1")
+ADD_QUEUE = Text("add it in the settings of printers")
 NO_QUEUE = Text(
-    "add it in the settings of printers; for one on USB give --print /dev/usb/lp0, for one in the "
-    "network --print tcp://HOST"
-)
+    "add it in the settings of printers; for one on USB give {}, for one in the network {}",
+    Remedy("print", "/dev/usb/lp0"),
+    Remedy("print", "tcp://HOST"),
+).in_window(ADD_QUEUE)
 # how the reasons of IPP not to print begin
 REASONS = {
     "paused": Text("it is paused"),
@@ -138,8 +140,9 @@ class Queue:
             what = Text(
                 "{} is an office printer: it does not understand {}", self.name, job.form.name
             )
-            hint = Text("give --to pdf, or the printer of the labels")
-            raise ToolError(what, hint, BAD_ARGUMENTS)
+            hint = Text("give {}, or the printer of the labels", Remedy("to", "pdf"))
+            instead = Text("choose the printer of the labels")
+            raise ToolError(what, hint.in_window(instead), BAD_ARGUMENTS)
 
     def refusal(self, dpi: int) -> ToolError:
         """Returns why labels cannot be printed here."""
@@ -150,7 +153,9 @@ class Queue:
             return ToolError(what, hint, BAD_ARGUMENTS)
         found = " or ".join(map(str, sorted(known)))
         what = Text("the queue {} prints at {} dpi, and the labels have {}", self.name, found, dpi)
-        return ToolError(what, Text("leave out --dpi, or give one of these"), BAD_ARGUMENTS)
+        ways = [Remedy("dpi", str(one), Text("{} dpi", one)) for one in sorted(known)]
+        hint = Text("leave out {}, or give {}", Remedy("dpi"), either(ways)).in_window(NOTHING)
+        return ToolError(what, hint, BAD_ARGUMENTS)
 
     def doubt(self, job: Job) -> Text:
         """Returns what is reported of a job if it is not known at which resolution it is printed,

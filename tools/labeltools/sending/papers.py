@@ -11,11 +11,11 @@ from typing import NamedTuple
 
 from labeltools.checking.compare import turned
 from labeltools.common.messages import BAD_ARGUMENTS, ToolError
-from labeltools.common.text import counted, Text
+from labeltools.common.text import counted, give, Remedy, Text
 from labeltools.designs.svg_layout import SvgLayout
 from labeltools.layout.layout import LaidOut
-from labeltools.paper.area import Dots, Edges, MILLIMETRES, POINTS
 from labeltools.paper.box import Box
+from labeltools.paper.plan import Dots, Edges, MILLIMETRES, POINTS
 from labeltools.paper.stock import Size, size_text
 from labeltools.printing.press import Prepared
 
@@ -96,11 +96,12 @@ class Papers:
             hint = Text("it has {}: give the sides in this order", size_text(other))
         else:
             near = min((paper.size for paper in self.known), key=lambda size: apart(size, page))
+            nearest = size_text(near)
             hint = Text(
-                "the nearest that it has is {}; for labels on sheets give --stock, or --cell with "
-                "--columns and --rows",
-                size_text(near),
-            )
+                "the nearest that it has is {}; for labels on sheets give {}, or {} with {} and {}",
+                nearest,
+                *map(Remedy, ("stock", "cell", "columns", "rows")),
+            ).in_window(Text("the nearest that it has is {}", nearest))
         raise ToolError(what, hint, BAD_ARGUMENTS)
 
 
@@ -205,7 +206,8 @@ def check_edges(printer: str, paper: PrinterPaper, found: Prepared) -> None:
         edges = ",".join(f"{math.ceil(10 * side) / 10:g}" for side in paper.white)
         what = counted("{} label would be cut", "{} labels would be cut", cut)
         where = Text("{} prints nothing on the edge of this paper", printer)
-        raise ToolError(Text("{}: {}", where, what), Text("give --edge {}", edges), BAD_ARGUMENTS)
+        hint = give(Remedy("edge", edges, Text("Keep labels away from the edge")))
+        raise ToolError(Text("{}: {}", where, what), hint, BAD_ARGUMENTS)
 
 
 def boxes_of(item: LaidOut) -> Iterator[Box]:

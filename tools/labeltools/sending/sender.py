@@ -10,7 +10,7 @@ from labeltools.common.files import save
 from labeltools.common.messages import sentence, Talk, ToolError
 from labeltools.common.process import standard_output
 from labeltools.common.report import MOST_RANGES, places_text
-from labeltools.common.text import counted, joined, NOTHING, Text
+from labeltools.common.text import counted, joined, NOTHING, Remedy, Text
 from labeltools.layout.layout import LaidOut
 from labeltools.lines.file import LineRecord
 from labeltools.printing.job import Job
@@ -191,9 +191,10 @@ class Sender:
         """
         if self.journal is not None and self.again is None:
             return Text("the same command prints the rest")
+        after = Remedy("after", str(self.done), Text("Go on with label {}", self.done + 1))
         if self.outlet.name == OUTPUT and self.outlet.is_kept:
-            return Text("with --after {} and >> the same command begins with it", self.done)
-        return Text("with --after {} the same command begins with it", self.done)
+            return Text("with {} and >> the same command begins with it", after)
+        return Text("with {} the same command begins with it", after).in_window(NOTHING)
 
     def may_be_missing(self) -> Text:
         """Returns what to do about labels that a printer took, and may have thrown away when it
@@ -203,11 +204,13 @@ class Sender:
             return NOTHING
         labels = self.named(self.on_way)
         if self.journal is None:
+            look = Text("{} may be missing: look at the last one on paper", labels)
             return Text(
                 "{} may be missing: look at the last one on paper, and print what follows it with "
-                "--after N",
+                "{}",
                 labels,
-            )
+                Remedy("after", "N"),
+            ).in_window(look)
         words = "--only ROWS" if self.is_clear else f"--only-code {FILE}FILE"
         again = f"{words} --again {shlex.quote(self.outlet.name)}"
         return Text(

@@ -67,7 +67,7 @@ class Fifo(RawIOBase):
         self.poll.register(self.source, select.POLLIN)
 
     def readable(self) -> bool:
-        """Returns that it can be read."""
+        """Returns true: it is there to be read."""
         return True
 
     def readinto(self, buffer: Any) -> int:

@@ -16,7 +16,7 @@ from itertools import pairwise
 from typing import NamedTuple, Sequence
 
 from labeltools.common.messages import named, quoted, RowError
-from labeltools.common.text import NOTHING, Text
+from labeltools.common.text import NOTHING, Remedy, Text
 
 LONGEST_CELL = 131068
 LONGEST_ERROR = 30  # letters of what a program writes in place of a text
@@ -50,7 +50,9 @@ RAISED = Text("is a number that is raised or lowered")
 CONDITION = Text(
     "a condition of the spreadsheet strikes letters out or hides them, and is not read"
 )
-CONDITION_HINT = Text("choose rows with --where")
+CONDITION_HINT = Text("choose rows with {}", Remedy("where")).in_window(
+    Text("look whether each of them is meant")
+)
 
 
 class CellKind(Enum):

@@ -10,7 +10,7 @@ from typing import NamedTuple
 
 from labeltools.common.column_names import name_of, row_with_names
 from labeltools.common.messages import BAD_ARGUMENTS, named, quoted, RowError, ToolError
-from labeltools.common.text import Text
+from labeltools.common.text import NOTHING, Remedy, Text
 from labeltools.sheets.encoding import decoded
 from labeltools.sheets.file_options import CsvOptions
 from labeltools.sheets.rows import Row
@@ -29,6 +29,7 @@ DELIMITERS = {"tab": "\t", "none": ONE_COLUMN}
 SEPARATOR_LINE = re.compile(r'"?sep=([^"\r\n])"?[;,\t]*(?:\r\n|\r|\n|\Z)', re.IGNORECASE)
 LINE = re.compile(r"[^\r\n]*(?:\r\n|\r|\n)|[^\r\n]+")
 FIGURES = re.compile(r"\s*[0-9][0-9 .,'’-]*")  # a code or a price
+BETWEEN = Text("It is between cells")
 UNCLOSED = Text("a quote is not closed")
 AFTER_QUOTE = Text("text after a closing quote")
 AFTER_QUOTE_HINT = Text('write a quote in a quoted cell twice ("")')
@@ -182,7 +183,9 @@ def delimiter_of(text: str, begin: int, given: str | None, options: CsvOptions) 
     if given:
         if is_cut and given != ONE_COLUMN and not fits[given].is_cut:
             what = Text("row 1 has no {} between cells, but {}", named(given), named(best))
-            raise ToolError(what, Text("leave out --delimiter"), BAD_ARGUMENTS)
+            remedy = Remedy("delimiter", says=Text("Find what is between cells"), is_less=True)
+            hint = Text("leave out {}", remedy).in_window(NOTHING)
+            raise ToolError(what, hint, BAD_ARGUMENTS)
         return given
     if not is_cut and (later := delimiter_of_names(text, begin, options)):
         return later
@@ -202,11 +205,11 @@ def refuse_delimiter(text: str, begin: int, marks: Sequence[str]) -> None:
     for mark in marks:
         for row in parsed(text, begin, mark):
             if len(row.cells) > 1:
-                option = "tab" if mark == "\t" else f"'{mark}'"
                 hint = Text(
-                    "give --delimiter {} if it is between cells, --delimiter none if it is data",
-                    option,
-                )
+                    "give {} if it is between cells, {} if it is data",
+                    Remedy("delimiter", "tab" if mark == "\t" else mark, BETWEEN),
+                    Remedy("delimiter", "none", Text("It is data")),
+                ).in_window(NOTHING)
                 raise ToolError(Text("row {} has {}", row.number, named(mark)), hint, BAD_ARGUMENTS)
 
 

@@ -10,7 +10,7 @@ from contextlib import suppress
 from itertools import islice
 
 from labeltools.common.messages import BAD_ARGUMENTS, quoted, ToolError
-from labeltools.common.text import joined, Text
+from labeltools.common.text import give, joined, NOTHING, Remedy, Text
 
 # the marks in front of a text; that of UTF-32 before the one of UTF-16, which is its beginning
 UNICODE = ("utf-8", "utf-32-le", "utf-32-be", "utf-16-le", "utf-16-be")
@@ -21,6 +21,7 @@ CANDIDATES = (
     *("cp850", "cp852", "cp437", "cp866", "mac_roman", "koi8-r", "cp1255", "cp1256", "cp874"),
     "cp932",
 )
+UTF_16 = UNICODE[3:]
 MOST_READINGS = 4
 MOST_LINES = 1000  # that are tried
 MOST_WORDS = 500
@@ -75,9 +76,11 @@ def known_encoding(data: bytes) -> str:
 def refuse_other(known: str, codec: str, encoding: str | None, name: str) -> None:
     """Raises `ToolError` where another encoding was given than the one that is known."""
     if known and known not in codec and codec not in known:
+        says = Text("Read it as {}", known.upper())
+        remedy = Remedy("encoding", encoding or "", says, is_less=True)
         raise ToolError(
             Text("{} is {}", name, known.upper()),
-            Text("leave out --encoding {}", encoding),
+            Text("leave out {}", remedy).in_window(NOTHING),
             BAD_ARGUMENTS,
         )
 
@@ -98,14 +101,18 @@ def wrong_encoding(data: bytes, name: str, codec: str, start: int) -> ToolError:
     if data.startswith(tuple(MARKS)):
         return ToolError(what, Text("it is cut off or damaged, save it again"))
     if b"\0" in data:
-        return ToolError(what, Text("save it as UTF-8, or give --encoding utf-16-le or utf-16-be"))
+        utf = [Remedy("encoding", one, Text("{}", one.upper())) for one in UTF_16]
+        hint = Text("save it as UTF-8, or {}", give(*utf)).in_window(Text("save it as UTF-8"))
+        return ToolError(what, hint)
     found = readings(data, codec)
     if not found:
         return ToolError(what, Text("save it as UTF-8"))
-    shown = joined(", ", (Text("{} reads {}", one, quoted(word)) for one, word in found.items()))
-    hint = Text("save it as UTF-8, or give the right one of these with --encoding: {}", shown)
-    offers = [(word, ["--encoding", other]) for other, word in found.items()]
-    return ToolError(what, hint, offers=offers)
+    ways = {word: Remedy("encoding", one, Text("{}", word)) for one, word in found.items()}
+    reads = [Text("{:value} reads {}", one, quoted(word)) for word, one in ways.items()]
+    word, best = next(iter(ways.items()))
+    shown = joined(", ", [Text("{} reads {}", best, quoted(word)), *reads[1:]])
+    hint = Text("save it as UTF-8, or give the right one of these: {}", shown)
+    return ToolError(what, hint.in_window(Text("choose what reads well, or save it as UTF-8")))
 
 
 def readings(data: bytes, without: str) -> dict[str, str]:

@@ -16,12 +16,14 @@ from pathlib import Path
 from typing import NamedTuple, Sequence
 
 from labeltools.common.messages import quoted, RowError
-from labeltools.common.text import Text
+from labeltools.common.text import NOTHING, Remedy, Text
 from labeltools.common.word_lists import lists_of
 from labeltools.sheets.cells import AS_TEXT
 
 LONGEST_FORMAT = 255  # letters, as spreadsheets have it
-DATE_HINT = Text("give --date-as dd.mm.yyyy, or another format")
+DATE_HINT = Text(
+    "give {}, or another format", Remedy("date-as", "dd.mm.yyyy", Text("As 31.12.2026"))
+).in_window(NOTHING)
 # formats that a file names by their number alone, in so far as they do not depend on the language
 BUILT_IN = {
     "0": "General",
@@ -68,6 +70,8 @@ LATER_IN_1904 = 1462  # days between the two beginnings
 DAY_ZERO = date(1899, 12, 30)
 SECONDS = 86400  # of a day
 SAME_SECOND = Decimal("0.01")
+MOST_LANGUAGES = 0xFFFF  # above it are other digits and other calendars
+OF_SYSTEM = (0xF800, 0xF400)  # its own formats of dates and times
 WHOLE_PATTERN = re.compile("[#?,]*[#?0]0?0?")  # with signs of thousands
 
 
@@ -255,10 +259,7 @@ def language_of(code: str | None, number_format: str) -> str:
     if not re.fullmatch("[0-9A-F]{1,8}", code, re.IGNORECASE):
         return code.replace("-", "_")
     number = int(code, 16)
-    if number > 0xFFFF or number in (
-        0xF800,
-        0xF400,
-    ):  # other digits, another calendar, the system's own format
+    if number > MOST_LANGUAGES or number in OF_SYSTEM:
         raise not_understood(number_format)
     return locale.windows_locale.get(number, "")
 

@@ -18,7 +18,7 @@ from xml.parsers.expat import ExpatError, ParserCreate
 from zipfile import BadZipFile, ZIP_DEFLATED, ZIP_STORED, ZipFile
 
 from labeltools.common.messages import BAD_ARGUMENTS, quoted, ToolError
-from labeltools.common.text import counted, Text
+from labeltools.common.text import counted, give, Remedy, Text
 from labeltools.sheets.cells import Cell
 from labeltools.sheets.rows import Merge, Row
 
@@ -74,7 +74,7 @@ def named_errors(name: str) -> Iterator[None]:
         yield
     except ToolError as error:
         what = Text("{} {}", name, error.what)
-        raise ToolError(what, error.hint, error.status, error.offers) from None
+        raise ToolError(what, error.hint, error.status) from None
     except DAMAGE as error:
         text = str(error.args[0]) if error.args and isinstance(error.args[0], str) else ""
         reason = text.split("\n")[0][:80] or type(error).__name__
@@ -131,10 +131,8 @@ def chosen(sheets: Iterable[Worksheet], wanted: str | None) -> Iterator[Row]:
     if len(found) != 1:
         count = counted("{} visible sheet", "{} visible sheets", len(found))
         what = count if wanted is None else Text("no sheet {}", quoted(wanted))
-        listed = ", ".join(map(quoted, found or names))
-        hint = Text("give --sheet with one of {}", listed)
-        offers = [(one, ["--sheet", one]) for one in found or names]
-        raise ToolError(Text("has {} with data", what), hint, BAD_ARGUMENTS, offers)
+        hint = give(*(Remedy("sheet", one, Text("{}", one)) for one in found or names))
+        raise ToolError(Text("has {} with data", what), hint, BAD_ARGUMENTS)
 
 
 def pieces(archive: ZipFile, part: str) -> Iterator[bytes]:

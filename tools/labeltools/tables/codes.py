@@ -6,7 +6,7 @@ from functools import cached_property
 from typing import NamedTuple, Sequence
 
 from labeltools.common.messages import named, quoted, RowError
-from labeltools.common.text import counted, joined, NOTHING, Text
+from labeltools.common.text import counted, give, joined, NOTHING, Remedy, Text
 from labeltools.lines.symbologies import (
     check_digit,
     CODE128,
@@ -42,8 +42,31 @@ AROUND = re.compile(
 )
 # what GS1's texts in brackets begin with: an SSCC, or a GTIN
 IN_BRACKETS = re.compile(r"\((?:00\)(?=[0-9]{18})|0[12]\)(?=[0-9]{14}))([0-9]+).*", re.DOTALL)
-NO_CHECK_DIGITS = Text("if the column has no check digits, give --without-check-digit")
-OTHER_CODES = Text("a code that is not an EAN or UPC needs --symbology code128 (bars) or qr")
+WITHOUT_DIGIT = Remedy("without-check-digit", says=Text("The codes have no check digit"))
+NO_CHECK_DIGITS = Text("if the column has no check digits, {}", give(WITHOUT_DIGIT)).in_window(
+    NOTHING
+)
+
+
+def kind_remedy(name: str) -> Remedy:
+    """Returns the choice of a symbology."""
+    is_one = name in SYMBOLOGIES
+    says = Text("The codes are {}", SYMBOLOGIES[name].title) if is_one else Text("Find their kind")
+    return Remedy("symbology", name, says)
+
+
+OTHER_CODES = Text(
+    "a code that is not an EAN or UPC needs {} (bars) or {:value}", *map(kind_remedy, FREE)
+).in_window(NOTHING)
+ONLY_WITHOUT = Text(
+    "give {} only if no number has one",
+    Remedy("without-check-digit", says=Text("The codes have a check digit"), is_less=True),
+).in_window(NOTHING)
+FILL_ZEROS = Remedy("fill-zeros", says=Text("Put lost zeros back in front"))
+LOST_ZEROS = Text("give {} if leading zeros are lost", FILL_ZEROS).in_window(NOTHING)
+AUTO_OR_LOST_ZEROS = Text(
+    "give {}, or {} if leading zeros are lost", kind_remedy(AUTO), FILL_ZEROS
+).in_window(NOTHING)
 NOT_SHORT = 7  # digits: shorter numbers are no EAN or UPC that has lost some
 
 
@@ -102,7 +125,9 @@ def code_of(cell: str, rules: CodeRules) -> Code:
     if not missing and not is_right(filled):
         raise wrong_check_digit(filled, len(digits), rules)
     if LOOKS_ROUNDED.fullmatch(filled + "0" * missing) and not rules.allow_zeros:
-        hint = Text("enter it again as text, or give --allow-zeros")
+        remedy = Remedy("allow-zeros", says=Text("Codes may end with zeros"))
+        again = Text("enter it again as text")
+        hint = Text("enter it again as text, or {}", give(remedy)).in_window(again)
         raise RowError(Text("{} looks rounded by the spreadsheet", filled), hint)
     return Code(symbology, filled, filled + check_digit(filled) if missing else filled)
 
@@ -128,7 +153,8 @@ def check_data(cell: str) -> None:
             "{} has a setting, space, quote or asterisk around the data, which would be drawn",
             quoted(cell),
         )
-        raise RowError(what, Text("remove it; settings are given with --settings"))
+        hint = Text("remove it; settings are given with {}", Remedy("settings"))
+        raise RowError(what, hint.in_window(Text("remove it")))
 
 
 def is_in_brackets(data: str) -> bool:
@@ -192,17 +218,18 @@ def symbology_of(digits: str, rules: CodeRules) -> str:
     count = len(digits) + missing
     is_short = rules.fill_zeros and count == 7 and is_right(digits)
     if digits[0] == "0" and count == 8 or is_short:
-        hint = Text("for an EAN-8 give --symbology ean8")
+        hint = Text("for an EAN-8 {}", give(kind_remedy(EAN8.name))).in_window(NOTHING)
         raise RowError(Text("{} may be a UPC-E, which labels does not draw", digits), hint)
     if missing and count in NUMBERS and is_right(digits):
-        hint = Text("if not, give --symbology {}", NUMBERS[count].name)
+        hint = Text("if not, {}", give(kind_remedy(NUMBERS[count].name))).in_window(NOTHING)
         raise RowError(Text("{} may have its check digit", digits), hint)
     name = NUMBERS[count].name if count in NUMBERS else ""
     if rules.fill_zeros and EAN13.digits - MOST_ZEROS <= count <= EAN13.digits:
         name = EAN13.name
     if len(digits.lstrip("0")) + missing <= 8 < count:
         hint = Text("write its {} digits", 8 - missing)
-        hint = Text("{}, or give --symbology {}", hint, name) if name else hint
+        if name:
+            hint = Text("{}, or {}", hint, give(kind_remedy(name))).in_window(hint)
         raise RowError(Text("{} may be an EAN-8 with zeros in front", digits), hint)
     return name
 
@@ -233,14 +260,11 @@ def wrong_length(digits: str, asked: Sequence[str], rules: CodeRules) -> RowErro
     hints = (
         (has_zeros, Text("write its {} digits", eight)),
         (count == 14, Text("a GTIN-14 is drawn as ITF-14, which labels does not draw")),
-        (count == EAN13.digits and not missing, Text("give --symbology auto")),
+        (count == EAN13.digits and not missing, give(kind_remedy(AUTO))),
         (not NOT_SHORT <= count <= EAN13.digits, OTHER_CODES),
-        (missing, Text("give --without-check-digit only if no number has one")),
-        (is_right(digits) and is_auto, Text("give --fill-zeros if leading zeros are lost")),
-        (
-            is_right(digits),
-            Text("give --symbology auto, or --fill-zeros if leading zeros are lost"),
-        ),
+        (missing, ONLY_WITHOUT),
+        (is_right(digits) and is_auto, LOST_ZEROS),
+        (is_right(digits), AUTO_OR_LOST_ZEROS),
         (may_miss, NO_CHECK_DIGITS),
     )
     hint = next((hint for is_so, hint in hints if is_so), OTHER_CODES)

@@ -9,9 +9,8 @@ from typing import Iterable, Sequence
 
 from labeltools.common.column_names import name_of, NUMBER, row_with_names
 from labeltools.common.messages import BAD_ARGUMENTS, quoted, RowError, ToolError
-from labeltools.common.text import Text
+from labeltools.common.text import give, NOTHING, Remedy, Text
 from labeltools.lines.file import MOST_COPIES
-from labeltools.lines.symbologies import SYMBOLOGIES
 from labeltools.sheets.cells import (
     CellKind,
     COPIES,
@@ -34,11 +33,6 @@ LISTED = 40  # columns that a message lists
 COUNT = re.compile("0*[0-9]{1,4}(?:[.,]00?)?")
 # what may be in the name of a column of codes though it has digits
 NAME_WITH_DIGITS = re.compile("(?:EAN|GTIN|UPC|ISBN|Code|QR)[- ]?[0-9]{1,3}", re.IGNORECASE)
-# symbologies by the letters and digits of their names
-NAMED = {
-    **{name: name for name in (*SYMBOLOGIES, "auto")},
-    **{"qrcode": "qr", "gtin13": "ean13", "gtin8": "ean8", "upc": "upca", "gtin12": "upca"},
-}
 MARKS = "\u200e\u200f\u061c"  # of the direction, which spreadsheets put around currencies
 
 
@@ -130,21 +124,6 @@ class Head:
     names: tuple[str, ...]
 
 
-def symbology_in(column: Column, row: Row, default: str) -> str:
-    """Returns the symbology that a cell names, as `EAN-13` or `qr`; the default for an empty one;
-    raises `RowError`.
-    """
-    text = column.mark(row)
-    if not text:
-        return default
-    found = NAMED.get(re.sub("[^a-z0-9]", "", text.casefold()))
-    if found is None:
-        listed = ", ".join(one.title for one in SYMBOLOGIES.values())
-        what = Text("has {}, which is not a symbology", quoted(text))
-        raise column.error(RowError(what, Text("it is one of {}", listed)))
-    return found
-
-
 def columns_of(head: Head, rows: Iterable[Row], options: TableOptions) -> Columns[Column]:
     """Returns the columns that were asked for; raises `ToolError` where one is not sure.
 
@@ -159,9 +138,9 @@ def columns_of(head: Head, rows: Iterable[Row], options: TableOptions) -> Column
         texts = ((row.number, texts_of(row)) for row in islice(rows, ROWS_LOOKED_AT))
         later = row_with_names(texts, asked.asked) if options.file.has_header is not False else 0
         if later:
-            raise ToolError(
-                error.what, Text("the names are in row {}: give --header-row {}", later, later), 2
-            ) from None
+            remedy = Remedy("header-row", str(later), Text("The names are in row {}", later))
+            hint = Text("the names are in row {}: {}", later, give(remedy)).in_window(NOTHING)
+            raise ToolError(error.what, hint, BAD_ARGUMENTS) from None
         raise
 
 
@@ -243,7 +222,11 @@ def check_code(column: Column, head: Head, options: TableOptions) -> None:
     may_be_code = may_be_code or options.codes.is_free and cell != ""
     if options.columns.code.isdecimal() and may_be_code and not is_said:
         what = Text("row {} has {} in column {}", head.row.number, quoted(cell), column.place + 1)
-        hint = Text("give --no-header if that is a code, --header if it is a name")
+        hint = Text(
+            "give {} if that is a code, {} if it is a name",
+            Remedy("no-header", says=Text("It is a code")),
+            Remedy("header", says=Text("It is a name")),
+        ).in_window(NOTHING)
         raise ToolError(what, hint, BAD_ARGUMENTS)
 
 

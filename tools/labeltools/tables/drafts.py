@@ -7,14 +7,16 @@ from typing import Iterator, NamedTuple, Sequence
 
 from labeltools.common.column_names import is_repeated, name_of
 from labeltools.common.messages import quoted, RowError
-from labeltools.common.text import Text
+from labeltools.common.text import NOTHING, Remedy, Text
 from labeltools.lines.file import Label
 from labeltools.lines.symbologies import SYMBOLOGIES
 from labeltools.sheets.rows import Row
 from labeltools.tables.codes import Code, code_of, CodeRules, is_in_brackets
-from labeltools.tables.columns import Column, symbology_in
+from labeltools.tables.columns import Column
+from labeltools.tables.escaped import EscapedTexts
 from labeltools.tables.money import (
     currency_of,
+    currency_remedy,
     Money,
     MOST_DECIMALS,
     NotMoney,
@@ -23,11 +25,11 @@ from labeltools.tables.money import (
     plain_signs,
 )
 from labeltools.tables.once import Once
-from labeltools.tables.prices import ARITHMETIC, MOST_LOST, nearest
+from labeltools.tables.prices import ARITHMETIC, MOST_LOST, nearest, PROGRAM_DECIMALS
 from labeltools.tables.table_options import Columns, TableOptions
 from labeltools.tables.twice import twice_encoded
+from labeltools.tables.variants import Variants
 
-HTML = re.compile("</?[a-z][^<>]*>|&(?:[a-z]{2,8}|#[0-9]{1,6});", re.IGNORECASE)
 OWN_TABLE = Text("make it a table of its own")
 ZERO_HINT = Text("it is a zero, which its number format shows like this")
 HALF = Decimal("0.5")
@@ -35,9 +37,18 @@ KIND_OF_CODES = re.compile(
     r"(?:EAN|GTIN|UPC|ISBN|JAN)(?:[- ]?(?:[0-9]{1,2}|code|A|E))?", re.IGNORECASE
 )
 MONTH = re.compile(r"(?:[1-9]|1[0-2])\.(?:19|20)[0-9]{2}")  # 12.2026, of which Excel makes a date
+MONTH_HINT = Text("give {} if it is none", Remedy("price-as")).in_window(
+    Text("if it is none, choose how prices are printed")
+)
 HAS_DIGIT = re.compile("[0-9]")
 SHOWN_DECIMALS = 6  # of the number of a cell, in a message
-PROGRAM_DECIMALS = 17  # of a number that a program has calculated
+
+
+# symbologies by the letters and digits of their names
+NAMED = {
+    **{name: name for name in (*SYMBOLOGIES, "auto")},
+    **{"qrcode": "qr", "gtin13": "ean13", "gtin8": "ean8", "upc": "upca", "gtin12": "upca"},
+}
 
 
 class Price(NamedTuple):
@@ -74,6 +85,8 @@ class DraftReader:
     other_names: int = 0  # the row that names other columns, or the same in other places
 
     def __post_init__(self) -> None:
+        self.variants = Variants(self.columns, self.once)
+        self.escaped = EscapedTexts(self.once)
         place = self.columns.code.place
         self.code_name = self.names[place] if place < len(self.names) else ""
 
@@ -86,12 +99,14 @@ class DraftReader:
         typed = cell if isinstance(cell, str) else cell.value
         if not typed.isdigit() or typed == self.code_name or self.other_names:  # but most rows
             self.refuse_names(row)
+        self.variants.see(row)
         if not all(column.has(row, value) for column, value in self.columns.where):
             return None
         columns = self.columns
         code = self.code(row)
         self.right_codes += 1
         title = "\n".join(self.texts(columns.title, row, code).values())
+        title = title or self.variants.title(row)
         texts = self.texts(columns.text, row, code)
         currency = self.currency(row)
         copies = columns.copies.copies(row) if columns.copies else 1
@@ -157,7 +172,9 @@ class DraftReader:
             return link
         if link != text:
             said = Text("the code of row {} is a text that leads to an address", row.number)
-            self.once.see("link", said, Text("give --links to draw the address"))
+            remedy = Remedy("links", says=Text("Draw the address"))
+            hint = Text("give {} to draw the address", remedy).in_window(NOTHING)
+            self.once.see("link", said, hint)
         return text
 
     def rules(self, row: Row) -> CodeRules:
@@ -195,9 +212,7 @@ class DraftReader:
         if (before := twice_encoded(text)) != text:
             what = Text("has {}, which was encoded twice, for {}", quoted(text), quoted(before))
             raise column.error(RowError(what, Text("export the table again")))
-        if HTML.search(text):
-            said = Text("row {} has {}, as programs write it", row.number, quoted(text))
-            self.once.see("left", said, Text("it is printed as it is"))
+        self.escaped.see(column, row.number, text)
 
     def see_price(self, price: Price, row: int, number: Decimal) -> None:
         """Looks at a price that is the number of a cell; raises `RowError` where it is shown as
@@ -233,7 +248,8 @@ class DraftReader:
         is_known = currency_of(plain_signs(found), self.options.prices.currency_name) is not None
         if found and not is_known:
             said = Text("row {} has the currency {}, which is not known", row.number, quoted(found))
-            self.once.see("currency", said, Text("if it is right, give it with --currency-name"))
+            hint = Text("if it is right, give {}", currency_remedy(found)).in_window(NOTHING)
+            self.once.see("currency", said, hint)
         return found
 
     def price(self, column: Column | None, row: Row, currency: str | None) -> Price | None:
@@ -248,7 +264,7 @@ class DraftReader:
         rules = self.options.prices
         try:
             if number is None and MONTH.fullmatch(text) and not (rules.is_text or rules.pattern):
-                raise NotMoney(Text("may be a month"), Text("give --price-as if it is none"))
+                raise NotMoney(Text("may be a month"), MONTH_HINT)
             is_unit = column is self.columns.unit_price
             money = self.money(text, is_unit, currency or rules.currency_name)
         except NotMoney as problem:
@@ -276,3 +292,18 @@ class DraftReader:
 def bare_texts(row: Row) -> Iterator[str]:
     """Yields the cells of a row as they were typed."""
     return (cell if isinstance(cell, str) else cell.value for cell in row.cells)
+
+
+def symbology_in(column: Column, row: Row, default: str) -> str:
+    """Returns the symbology that a cell names, as `EAN-13` or `qr`; the default for an empty one;
+    raises `RowError`.
+    """
+    text = column.mark(row)
+    if not text:
+        return default
+    found = NAMED.get(re.sub("[^a-z0-9]", "", text.casefold()))
+    if found is None:
+        listed = ", ".join(one.title for one in SYMBOLOGIES.values())
+        what = Text("has {}, which is not a symbology", quoted(text))
+        raise column.error(RowError(what, Text("it is one of {}", listed)))
+    return found

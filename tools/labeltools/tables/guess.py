@@ -1,38 +1,42 @@
-"""Guesses what the columns of a table are for, by what is in their cells. A window shows the guess,
-label-table proposes it, and the keeper of the shop decides.
+"""Guesses what the columns of a table are for, by their names and by what is in their cells. A
+window shows the guess, label-table proposes it, and the keeper of the shop decides.
 
-A price is proposed where each word of its name is understood, and it alone is left once those are
-taken away that no customer pays; a title where no other name says so as plainly. Else the keeper is
-asked: so a list of words that is too short here costs a question, and no wrong label.
+The plain name wins: a column that is named by nothing but a word for the thing, and has cells of
+that kind, is meant; what has another word beside it, which may be any one, is a price or a title of
+some kind. Where two are named so, the keeper is asked.
 """
 
 import re
 import unicodedata
-from collections.abc import Callable, Mapping, Sequence
+from collections.abc import Callable, Container, Iterator, Mapping, Sequence
 from contextlib import suppress
 from dataclasses import dataclass, field, replace
-from functools import cached_property, partial
+from enum import IntEnum
+from functools import cache, cached_property
 from itertools import islice, takewhile, zip_longest
 from pathlib import Path
 from typing import NamedTuple
 
 from labeltools.common.messages import RowError, Talk
-from labeltools.common.text import NOTHING, Text
 from labeltools.common.word_lists import lists_of
-from labeltools.lines.symbologies import CODE128, QR
 from labeltools.sheets.rows import Row
-from labeltools.tables.codes import AUTO, code_of, CodeRules, has_length
-from labeltools.tables.columns import column_names, texts_of
+from labeltools.tables.code_readings import (
+    CodeReading,
+    has_lost_zeros,
+    is_code,
+    LEAST,
+    passing_share,
+    reading_of,
+)
+from labeltools.tables.codes import AUTO
+from labeltools.tables.columns import column_names, NAME_WITH_DIGITS, texts_of
 from labeltools.tables.money import parse
+from labeltools.tables.prices import are_currencies, pattern_for
 from labeltools.tables.table import head_of
 from labeltools.tables.table_options import TableOptions
+from labeltools.tables.variants import variants_in
 
 COLUMN_WORDS = Path(__file__).with_name("columns.list")
-# words of the names of columns: `ab-` is how one begins, `-ab` how one ends
-WORDS = {
-    name: re.compile("|".join(re.escape(one).replace("\\-", ".*") for one in words))
-    for name, words in lists_of(COLUMN_WORDS).items()
-}
 # what may be the number of an article: three digits and more, but neither a date nor a count
 ARTICLE = re.compile(
     r"(?!\d{1,4}[./-]\d{1,2}[./-]\d{1,4}\Z)(?=(?:.*[0-9]){3})(?:(?=.*[A-Za-z])|(?=[^.]{5}))"
@@ -44,42 +48,100 @@ COUNT = re.compile("[0-9]{1,3}")
 DIGITS = re.compile("[0-9]+")
 FIGURES = re.compile(r"[\W_]*[0-9][\W\d_]*")  # a date or an amount, which is no name
 LETTERS = re.compile(r"(?:[^\W\d][\W\d]*){3}")  # those that a title has
-NO_BARS = re.compile(".*://.*|.{31,}")
-FOLDED = str.maketrans("łøđðı", "loddi")  # letters that Unicode does not take apart
+TAG = re.compile(r"\s*<[a-z][^<>]*>.*", re.DOTALL | re.IGNORECASE)  # what HTML begins with
+HUMP = re.compile("(?<=[a-z]{2})(?=[A-Z])|(?<=[A-Z]{2})(?=[A-Z][a-z]{2})")  # as in `salePrice`
+# letters that Unicode does not take apart, and one that is a letter of its own
+FOLDED = str.maketrans({**dict(zip("łøđðı", "loddi")), "å": "aa", "%": " percent "})
+MOST_IN_ONE = 4  # words that count as one
 SAMPLE = 300  # rows that are looked at
-PAID = ("prices", "paid", "beside-prices")  # what the words are of a name that is understood
-LEAST = 0.5  # the part of the cells of a column that are of its kind
-# how numbers that are no EAN or UPC as they are may be meant
-OTHER_WAYS = (
-    CodeRules(fill_zeros=True),
-    CodeRules(without_check_digit=True),
-    CodeRules(CODE128.name),
-)
+PAID = ("prices", "taxed", "paid", "beside-prices")  # the words of a plain price
+TITLES = ("titles", "parts", "articles", "descriptions")
+
+
+def folded(text: str) -> str:
+    """Returns a text in small letters without accents.
+
+    >>> folded("Prix RÉDUIT"), folded("Κωδικός"), folded("Påris")
+    ('prix reduit', 'κωδικοσ', 'paaris')
+    """
+    letters = unicodedata.normalize("NFD", text.casefold().translate(FOLDED))
+    bare = "".join(one for one in letters if not unicodedata.combining(one))
+    return unicodedata.normalize("NFC", bare)
+
+
+class Words:
+    """Words of the names of columns: `ab-` is how one begins, `-ab` how one ends."""
+
+    def __init__(self, words: Sequence[str]) -> None:
+        self.all = frozenset(map(folded, words))
+        self.starts = tuple(word[:-1] for word in self.all if word[-1] == "-")
+        self.ends = tuple(word[1:] for word in self.all if word[0] == "-")
+
+    def has(self, word: str) -> bool:
+        """Returns whether a word is one of them."""
+        return word in self.all or word.startswith(self.starts) or word.endswith(self.ends)
+
+
+@cache
+def column_words() -> Mapping[str, Words]:
+    """Returns the words by their kinds, and those that are several in one by no kind."""
+    lists = lists_of(COLUMN_WORDS)
+    several = [word for words in lists.values() for word in words if "_" in word]
+    return {"": Words(several), **{kind: Words(words) for kind, words in lists.items()}}
+
+
+def words_in(name: str) -> Iterator[str]:
+    """Yields the words of the name of a column; some that stand together are one.
+
+    >>> [*words_in("Prix de réf. (inkl. MwSt)")]
+    ['prix', 'de', 'ref', 'inkl_mwst']
+    """
+    words = re.findall(r"[^\W\d_]+", folded(HUMP.sub(" ", name)))
+    while words:
+        both = ("_".join(words[:count]) for count in range(MOST_IN_ONE, 1, -1))
+        yield (found := next(filter(column_words()[""].has, both), words[0]))
+        del words[: found.count("_") + 1]
+
+
+class Plainness(IntEnum):
+    """What the name of a column says beside the words for a thing: nothing, a number as `Price 2`,
+    words that names of other columns have, too, or that it is of some kind.
+    """
+
+    PLAIN = 0
+    NUMBERED = 1
+    SHARED = 2
+    OF_SOME_KIND = 3
 
 
 @dataclass(frozen=True)
 class ColumnSample:
-    """A column: its name, its cells that have a text, and the part of its cells that they are."""
+    """A column: its name, its cells, and words of its name that say nothing, as they are in those
+    of others.
+    """
 
     name: str
-    texts: Sequence[str]
-    filled: float = 1.0
+    cells: Sequence[str] = ()
+    shared: frozenset[str] = frozenset()
+
+    @cached_property
+    def texts(self) -> Sequence[str]:
+        """Its cells that have a text."""
+        return [one for one in self.cells if one]
+
+    @property
+    def filled(self) -> float:
+        """The part of its cells that have a text."""
+        return len(self.texts) / max(1, len(self.cells))
 
     @cached_property
     def words(self) -> frozenset[str]:
-        """The words of its name, in small letters without accents.
-
-        >>> sorted(ColumnSample("Prix de réf. (inkl. MwSt)", ()).words)
-        ['de', 'inkl', 'mwst', 'prix', 'ref']
-        """
-        name = re.sub("(?<=[a-z]{3})(?=[A-Z][a-z])", " ", self.name).casefold().translate(FOLDED)
-        letters = unicodedata.normalize("NFD", name)
-        bare = "".join(one for one in letters if not unicodedata.combining(one))
-        return frozenset(re.findall(r"[^\W\d_]+", unicodedata.normalize("NFC", bare)))
+        """The words of its name, in small letters without accents."""
+        return frozenset(words_in(self.name))
 
     def has(self, test: Callable[[str], object]) -> bool:
         """Returns whether most of its texts pass a test; those that it refuses do not."""
-        return bool(self.texts) and passing_share(self.texts, test) >= LEAST
+        return passing_share(self.texts, test) >= LEAST
 
     @cached_property
     def differing(self) -> float:
@@ -89,42 +151,56 @@ class ColumnSample:
     def says(self, *kinds: str) -> frozenset[str]:
         """Returns the words of its name that are in the lists of these kinds.
 
-        >>> sorted(ColumnSample("EK netto, Einkaufspreis, VK, Aktion", ()).says("unpaid"))
+        >>> sorted(ColumnSample("EK netto, Einkaufspreis, VK, Aktion").says("cost", "net"))
         ['einkaufspreis', 'ek', 'netto']
         """
-        lists = [WORDS[kind] for kind in kinds]
-        return frozenset(word for word in self.words if any(one.fullmatch(word) for one in lists))
+        lists = [column_words()[kind] for kind in kinds]
+        return frozenset(word for word in self.words if any(one.has(word) for one in lists))
 
-    def says_only(self, *kinds: str) -> bool:
-        """Returns whether all words of its name are in the lists of these kinds."""
-        return self.words == self.says(*kinds)
+    def plainness(self, *kinds: str) -> Plainness:
+        """Returns how plainly its name says what it is by words of these kinds."""
+        more = self.words - self.says(*kinds)
+        if more:
+            return Plainness.SHARED if more <= self.shared else Plainness.OF_SOME_KIND
+        is_numbered = DIGITS.search(NAME_WITH_DIGITS.sub("", self.name))
+        return Plainness.NUMBERED if is_numbered else Plainness.PLAIN
 
     @property
-    def rank(self) -> int:
-        """How plainly its name says that it has titles: 0 as a name, 1 as an article or a
-        description, 2 not at all.
+    def title_rank(self) -> tuple[int, Plainness]:
+        """How plainly its name says that it has titles: a name, a part of one, an article or a
+        description or a name of some kind, one of these of some kind, or nothing.
         """
-        kinds = ("titles", "articles", "descriptions")
-        if not self.says(*kinds) or not self.says_only(*kinds, "beside-titles"):
-            return 2
-        return 0 if self.says("titles") else 1
+        plainness = self.plainness(*TITLES, "beside-titles")
+        is_plain = plainness is not Plainness.OF_SOME_KIND
+        if self.says("titles"):
+            return (0, plainness) if is_plain else (2, Plainness.PLAIN)
+        if self.says("parts"):
+            return 1, Plainness.PLAIN
+        if self.says("articles", "descriptions"):
+            return 2 if is_plain else 3, plainness
+        return 4, Plainness.OF_SOME_KIND
 
+    @property
+    def code_rank(self) -> Plainness:
+        """How plainly its name says that it has codes, or numbers of single things."""
+        is_named = self.says("codes", "own-numbers")
+        rank = self.plainness("codes", "own-numbers", "beside-codes")
+        return rank if is_named else Plainness.OF_SOME_KIND
 
-@dataclass(frozen=True)
-class CodeReading:
-    """How the codes of a column may be read, of which each way reads most of them; `problem` is why
-    most are no EAN or UPC, if they may be meant as one.
-    """
-
-    rules: Sequence[CodeRules] = (CodeRules(),)
-    problem: Text = NOTHING
+    @property
+    def price_rank(self) -> Plainness:
+        """How plainly its name says that it has prices that customers pay."""
+        is_priced = self.says("prices", "taxed", "paid") or not self.words
+        return self.plainness(*PAID) if is_priced else Plainness.OF_SOME_KIND
 
 
 @dataclass(frozen=True)
 class Guess:
     """The names of the columns; their places, from 0, by the options of label-table; how each
     column may be read that may have the codes; the row of the names, 0 where there is none; a text
-    of each column; the columns of which only the keeper knows the right one, by the same options.
+    of each column; by the same options the columns of which only the keeper knows the right one,
+    and those that may be meant beside one that was found; the columns that others need, such as
+    that of the currency; how prices have to be written that are as programs write numbers.
     """
 
     names: Sequence[str]
@@ -133,6 +209,9 @@ class Guess:
     header: int
     examples: Sequence[str] = ()
     doubts: Mapping[str, Sequence[int]] = field(default_factory=dict)
+    others: Mapping[str, Sequence[int]] = field(default_factory=dict)
+    beside: Mapping[str, int] = field(default_factory=dict)
+    price_as: str = ""
 
     @property
     def symbology(self) -> str:
@@ -166,7 +245,9 @@ def guess_of(data: bytes, name: str, options: TableOptions, talk: Talk) -> Guess
     right = (row for row in shown if not (row.problem or row.is_blank()))
     cells = [texts_of(row) for row in right if column_names(row) != start.head.names]
     columns = list(zip_longest(start.head.names, *cells, fillvalue=""))
-    return guess(columns, 0 if file.has_header is False else head.number)
+    number = 0 if file.has_header is False else head.number
+    seen = guess(columns, number, () if file.hidden else head.hidden_places)
+    return seen if seen.codes else guess(columns, number)
 
 
 def guessed_header(rows: Sequence[Row]) -> Row:
@@ -181,27 +262,51 @@ def guessed_header(rows: Sequence[Row]) -> Row:
     return next(names, wide[0][0])
 
 
-def guess(columns: Sequence[Sequence[str]], header: int) -> Guess:
+def guess(
+    columns: Sequence[Sequence[str]], header: int, hidden_places: Container[int] = ()
+) -> Guess:
     """Returns a guess from columns, each with its name in front, which may be empty."""
     names = [name for name, *_ in columns]
-    filled = []
-    for name, *cells in columns:
-        texts = [one.strip() for one in cells if one.strip()]
-        filled.append(ColumnSample(name, texts, len(texts) / max(1, len(cells))))
+    filled = [
+        ColumnSample("") if at in hidden_places else ColumnSample(name, [*map(str.strip, cells)])
+        for at, (name, *cells) in enumerate(columns)
+    ]
+    filled = with_shared_words(filled)
     codes = code_columns(filled)
     prices = price_columns({at: one for at, one in enumerate(filled) if at not in codes.may_be})
     used = {*codes.may_be, *prices.may_be}
     others = {at: one for at, one in enumerate(filled) if at not in used}
-    titles = title_columns(others)
+    titles = title_columns(others, [one.cells for one in filled])
     counts = {at for at, one in others.items() if passing_share(one.texts, COUNT.fullmatch) == 1}
     of_copies = [at for at in sorted(counts) if others[at].says("copies")]
     copies = Places(of_copies, of_copies[0] if len(of_copies) == 1 else None)
     kinds = {"code": codes, "title": titles, "price": prices, "copies": copies}
     found = {kind: one.surely for kind, one in kinds.items() if one.surely is not None}
-    doubts = {kind: one.may_be for kind, one in kinds.items() if one.may_be and kind not in found}
-    ways = {at: ways_of(filled[at]) for at in codes.may_be}
-    examples = [column.texts[0] if column.texts else "" for column in filled]
-    return Guess(names, found, ways, header, examples, doubts)
+    doubts = {kind: one.may_be for kind, one in kinds.items() if one.is_asked}
+    more = {kind: [at for at in kinds[kind].may_be if at != found[kind]] for kind in found}
+    meant = [found["code"]] if "code" in found else codes.may_be
+    ways = {at: reading_of(filled[at].texts, bool(filled[at].says("codes"))) for at in meant}
+    examples = [next(filter(None, map(str.strip, cells)), "") for _, *cells in columns]
+    beside = {} if titles.variants_of is None else {"variants-of": titles.variants_of}
+    beside |= {"currency": at for at, one in others.items() if are_currencies(one.cells)}
+    price = filled[found["price"]] if "price" in found else ColumnSample("")
+    price_as = pattern_for(price.texts, price.name, "currency" in beside)
+    return Guess(names, found, ways, header, examples, doubts, more, beside, price_as)
+
+
+def with_shared_words(columns: Sequence[ColumnSample]) -> list[ColumnSample]:
+    """Returns columns that know which words of their names are in those of others, too: the shop in
+    `Price Main Street` and `Stock Main Street`. A word that only prices have says which one it is.
+    """
+    beside = []
+    for one in columns:
+        known = one.says(*column_words())
+        is_price = one.says("prices", "priced", "sale", "cost", "net")
+        beside.append(one.words - known if known and not is_price else frozenset())
+    return [
+        replace(one, shared=frozenset().union(*beside[:at], *beside[at + 1 :]) & one.words)
+        for at, one in enumerate(columns)
+    ]
 
 
 class Places(NamedTuple):
@@ -209,53 +314,70 @@ class Places(NamedTuple):
 
     may_be: Sequence[int]
     surely: int | None = None
+    is_none: bool = False  # surely none of them
+    variants_of: int | None = None  # the column of what rows without a title are variants of
+
+    @property
+    def is_asked(self) -> bool:
+        """Whether only the keeper knows the right one."""
+        return bool(self.may_be) and self.surely is None and not self.is_none
 
 
 def code_columns(columns: Sequence[ColumnSample]) -> Places:
-    """Returns the columns that may have the codes: those of surely EAN or UPC, else those that are
-    named so, else those with another number in each row.
+    """Returns the columns that may have the codes: those of surely EAN or UPC and those that are
+    named so, else those with another number in each row. Of several the plain name is meant.
     """
     sure: dict[tuple[str, ...], int] = {}
+    own = []  # numbers of another kind, which are named as codes
     for at, one in enumerate(columns):
         is_constant = len(one.texts) > 1 == len(set(one.texts))  # as the number of one supplier
-        if one.has(is_code) and not is_constant:  # a UPC-A may be there as an EAN-13, too
-            bare = ("".join(filter(str.isalnum, text)).lstrip("0") for text in one.texts)
-            sure.setdefault(tuple(bare), at)
-    named = [at for at, one in enumerate(columns) if one.texts and one.says("codes")]
+        if (one.has(is_code) or has_lost_zeros(one.texts)) and not is_constant:
+            bare = tuple("".join(filter(str.isalnum, it)).lstrip("0") for it in one.texts)
+            both = sure.get(bare, at), at  # a UPC-A may be there as an EAN-13, too
+            sure[bare] = min(both, key=lambda it: columns[it].code_rank)
+        elif one.code_rank is Plainness.PLAIN and one.differing == 1 and one.filled >= LEAST:
+            own.append(at)
+    named = [at for at, one in enumerate(columns) if one.texts and one.says("codes", "own-numbers")]
+    articles = [[*filter(ARTICLE.fullmatch, one.texts)] for one in columns]
     numbers = [
         at
-        for at, one in enumerate(columns)
-        if one.has(ARTICLE.fullmatch)
-        and replace(one, texts=[*filter(ARTICLE.fullmatch, one.texts)]).differing == 1
+        for at, found in enumerate(articles)
+        if len(set(found)) == len(found) >= max(1, LEAST * len(columns[at].texts))
     ]
     numbers = [at for at in numbers if not columns[at].says("others")] or numbers
     short = [at for at, one in enumerate(columns) if one.differing == 1 and one.says("numbers")]
-    may_be = [*sure.values()] or named or numbers or short
-    if len(may_be) != 1:
-        return Places(may_be)
-    one = columns[may_be[0]]
-    is_sure = sure or named or one.says("numbers") or not one.words
-    return Places(may_be, may_be[0] if is_sure else None)
+    found = sorted([*sure.values(), *own]) if sure else named
+    first = min((columns[at].code_rank for at in found), default=0)
+    best = [at for at in found if columns[at].code_rank == first] or numbers or short
+    if len(best) != 1:
+        return Places(best)
+    one = columns[best[0]]
+    is_sure = found or one.says("numbers") or not one.words
+    return Places(found or best, best[0] if is_sure else None)
 
 
 def price_columns(columns: Mapping[int, ColumnSample]) -> Places:
     """Returns the columns that may have the price that customers pay: those that are named so, and
-    those with amounts of money that are not named as something else. One is sure if its name is
-    understood, and those of all others, and most rows have an amount in it. What is advised yields
-    to another one with the same amounts.
+    those with amounts of money that are not named as something else. The one of the plainest name
+    is sure if most rows have an amount in it, and none is for sale. Prices with tax are meant where
+    others do not say it; what is advised yields to another one with the same amounts.
     """
     may_be = {at: one for at, one in columns.items() if may_be_price(one)}
-    paid = {at: one for at, one in may_be.items() if not one.says("unpaid")}
-    own = [one.texts for one in paid.values() if not one.says("advised")]
-    left = [at for at, one in paid.items() if not (one.says("advised") and one.texts in own)]
+    paid = {at: one for at, one in may_be.items() if not one.says("cost", "net")}
+    if not paid:
+        return Places([*may_be], is_none=not any(one.says("net") for one in may_be.values()))
+    first = min(one.price_rank for one in paid.values())
+    left = {at: one for at, one in paid.items() if one.price_rank is first or one.says("sale")}
+    own = [one.texts for one in left.values() if not one.says("advised")]
+    left = {at: one for at, one in left.items() if not (one.says("advised") and one.texts in own)}
+    taxed = [at for at, one in left.items() if one.says("taxed") and not one.says("sale")]
+    if taxed:
+        left = {at: one for at, one in left.items() if at in taxed or one.says("sale", "advised")}
     if len(left) != 1:
         return Places([*may_be])
-    one = paid[left[0]]
-    stocks = [it for at, it in columns.items() if at not in may_be and it.says("stock")]
-    shop = {word for it in stocks for word in it.words - it.says("stock")}  # where it is
-    is_named = one.says("prices", "paid") and one.words <= one.says(*PAID) | shop
-    is_sure = (is_named or not one.words) and one.filled >= LEAST and one.has(is_amount)
-    return Places([*may_be], left[0] if is_sure else None)
+    at, one = next(iter(left.items()))
+    is_sure = first is not Plainness.OF_SOME_KIND and one.filled >= LEAST and one.has(is_amount)
+    return Places([*may_be], at if is_sure else None)
 
 
 def may_be_price(column: ColumnSample) -> bool:
@@ -264,30 +386,39 @@ def may_be_price(column: ColumnSample) -> bool:
     """
     has_one = any(map(ABOVE_ZERO.search, column.texts))
     if column.says("prices", "priced"):
-        return column.says_only(*PAID) or has_one and passing_share(column.texts, is_amount) > 0
+        is_plain = column.price_rank is Plainness.PLAIN and not column.says("sale")
+        return is_plain or has_one and passing_share(column.texts, is_amount) > 0
     return has_one and column.has(is_money) and not column.says("others", "stock")
 
 
-def title_columns(columns: Mapping[int, ColumnSample]) -> Places:
+def title_columns(columns: Mapping[int, ColumnSample], cells: Sequence[Sequence[str]]) -> Places:
     """Returns the columns that may have the title: those that are named so, and those with another
     text in most rows. Those that say it most plainly are meant, and those that have it in far more
-    rows; of a short and a long text the short one is sure.
+    rows, but for variants; of a short and a long text the short one is sure. `cells` are those of
+    all columns.
     """
     texts = {at: one for at, one in columns.items() if may_be_title(one)}
-    first = min((one.rank for one in texts.values()), default=0)
-    filled = max((one.filled for one in texts.values() if one.rank == first), default=1)
-    best = [at for at, one in texts.items() if one.rank == first or one.filled > 2 * filled]
+    first = min((one.title_rank for one in texts.values()), default=())
+    named = {at: one for at, one in texts.items() if one.title_rank == first}
+    groups = {at: variants_in(one.cells, cells) for at, one in named.items()}
+    filled = max((one.filled if groups[at] is None else 1 for at, one in named.items()), default=1)
+    best = [at for at, one in texts.items() if one.title_rank == first or one.filled > 2 * filled]
     short = [at for at in best if texts[at].says("short")]
     short = short or [at for at in best if not texts[at].says("long")] or best
-    return Places(best, short[0] if len(short) == 1 else None)
+    if len(short) != 1:
+        return Places(best)
+    may_be = [at for at, one in texts.items() if one.says(*TITLES) or at in short]
+    return Places(may_be, short[0], variants_of=groups.get(short[0]))
 
 
 def may_be_title(column: ColumnSample) -> bool:
     """Returns whether a column may have titles, by its name and by its texts."""
-    if column.says("others", "numbers") - column.says("articles", "beside-titles"):
+    if column.says("others", "numbers", "own-numbers") - column.says("articles", "beside-titles"):
+        return False
+    if column.has(TAG.fullmatch):
         return False
     differs = column.differing >= LEAST and column.has(LETTERS.search)
-    return column.has(has_letters) and (differs or column.rank < 2)
+    return column.has(has_letters) and (differs or column.title_rank[0] in (0, 2))
 
 
 def has_letters(text: str) -> bool:
@@ -299,40 +430,6 @@ def has_letters(text: str) -> bool:
     with suppress(RowError):
         return not is_money(text)
     return True
-
-
-def ways_of(column: ColumnSample) -> CodeReading:
-    """Returns how the codes of a column may be read."""
-    if column.has(is_code):
-        return CodeReading()
-    if column.has(has_length) or column.says("codes"):
-        rules = [one for one in OTHER_WAYS if column.has(partial(code_of, rules=one))]
-        return CodeReading(rules or [CodeRules()], problem_of(column.texts))
-    return CodeReading([CodeRules(QR.name if column.has(NO_BARS.fullmatch) else CODE128.name)])
-
-
-def problem_of(texts: Sequence[str]) -> Text:
-    """Returns why the first text that is no EAN or UPC is none."""
-    for text in texts:
-        try:
-            code_of(text, CodeRules())
-        except RowError as problem:
-            return problem.what
-    return NOTHING
-
-
-def passing_share(texts: Sequence[str], test: Callable[[str], object]) -> float:
-    """Returns the part of the texts that pass a test; those that it refuses do not."""
-    passed = 0
-    for text in texts:
-        with suppress(RowError):
-            passed += bool(test(text))
-    return passed / max(1, len(texts))
-
-
-def is_code(text: str) -> bool:
-    """Returns whether a text is surely an EAN or UPC; raises `RowError`."""
-    return bool(code_of(text, CodeRules()))
 
 
 def is_amount(text: str) -> bool:

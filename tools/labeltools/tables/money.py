@@ -12,7 +12,7 @@ from functools import lru_cache
 from pathlib import Path
 
 from labeltools.common.messages import RowError
-from labeltools.common.text import NOTHING, Text
+from labeltools.common.text import NOTHING, Remedy, Text
 from labeltools.common.word_lists import lists_of
 
 PRICE_WORDS = Path(__file__).with_name("prices.list")
@@ -22,7 +22,9 @@ MOST_BARE_DIGITS = 8  # of a price; a price that has so many ends in a zero
 MOST_WHOLE_DIGITS = 12
 MOST_DECIMALS = 6  # of a price that is printed as it stands
 OTHER_WORDS = Text("has words that no price tag has")
-OTHER_WORDS_HINT = Text("give --price-text if it is right")
+ANY_TEXT = Remedy("price-text", says=Text("Prices may be any text"))
+OTHER_WORDS_HINT = Text("give {} if it is right", ANY_TEXT).in_window(NOTHING)
+FORMAT_HINT = Text("give {}", Remedy("price-as")).in_window(Text("choose how prices are printed"))
 SEPARATORS = Text("has a number whose separators are not understood")
 SEVERAL = Text("has several numbers")
 # signs that are one for the grammar; NFKC would make 399 of a price with raised decimals
@@ -340,8 +342,13 @@ def check_letters(before: str, amount: Amount, own: str) -> None:
     if not re.search(r"[A-Za-z]\Z", before) or name == own:
         return
     if amount.is_bare and name.isalpha() or currency_of(name) is None:
-        hint = Text("if this is a currency, give it with --currency-name")
+        hint = Text("if this is a currency, give {}", currency_remedy(name)).in_window(NOTHING)
         raise NotMoney(Text("has letters before its digits, as a code has"), hint)
+
+
+def currency_remedy(name: str) -> Remedy:
+    """Returns the choice of a name as that of a currency."""
+    return Remedy("currency-name", name, Text("{} is a currency", name))
 
 
 def without_sign(before: str, behind: str, has_dash: bool) -> tuple[bool, str, str]:
@@ -422,7 +429,7 @@ def check_amount(amount: Amount, has_currency: bool, is_plain: bool, most_decima
             Text("is it a code?"),
         )
     if len(amount.decimals) > most_decimals or len(whole) > MOST_WHOLE_DIGITS:
-        raise NotMoney(Text("has too many digits"), Text("give --price-as"))
+        raise NotMoney(Text("has too many digits"), FORMAT_HINT)
 
 
 def money_of(amount: Amount, currencies: set[str], words: str) -> Money:

@@ -9,17 +9,23 @@ from typing import Iterator, NamedTuple
 from labeltools.common.column_names import said_of_empty
 from labeltools.common.messages import BAD_ARGUMENTS, quoted, RowError, Talk, ToolError
 from labeltools.common.report import listed
-from labeltools.common.text import counted, NOTHING, Text
-from labeltools.lines.symbologies import SYMBOLOGIES
+from labeltools.common.text import counted, give, NOTHING, Remedy, Text
+from labeltools.lines.symbologies import CODE128
 from labeltools.sheets.cells import seen
 from labeltools.sheets.csv_table import csv_table
 from labeltools.sheets.file_options import CsvOptions
-from labeltools.sheets.number_format import Formatter, local_date, local_signs
+from labeltools.sheets.number_format import DATE_HINT, Formatter, local_date, local_signs
 from labeltools.sheets.ods import rows_of_ods
 from labeltools.sheets.rows import Row
 from labeltools.sheets.workbook import is_ods, named_errors, opened
 from labeltools.sheets.xlsx import rows_of_xlsx
-from labeltools.tables.codes import FREE, OTHER_CODES, OtherCode, WrongDigit
+from labeltools.tables.codes import (
+    kind_remedy,
+    OTHER_CODES,
+    OtherCode,
+    WITHOUT_DIGIT,
+    WrongDigit,
+)
 from labeltools.tables.columns import Column, column_names, columns_of, Head
 from labeltools.tables.drafts import DraftReader
 from labeltools.tables.line_writer import LineWriter, shown_by
@@ -36,6 +42,7 @@ PICTURE = re.compile(
 # options that only CSV has, or only workbooks
 OF_CSV = ("delimiter", "encoding")
 OF_WORKBOOKS = ("sheet", "hidden", "date_as", "links")
+SO = Text("Read it all the same")
 MOST_HELD = 1000  # rows that are wrong, before the first one that is right
 BETWEEN = 256  # rows between two calls of `go_on`
 
@@ -126,8 +133,8 @@ def table_rows(
     for option in OF_WORKBOOKS if is_csv else OF_CSV:
         if getattr(options if option == "links" else options.file, option):
             what = Text("{} is CSV", name) if is_csv else Text("{} is not CSV", name)
-            hint = Text("leave out --{}", option.replace("_", "-"))
-            raise ToolError(what, hint, BAD_ARGUMENTS)
+            remedy = Remedy(option.replace("_", "-"), "", SO, is_less=True)
+            raise ToolError(what, Text("leave out {}", remedy).in_window(NOTHING), BAD_ARGUMENTS)
     if is_csv:
         how = CsvOptions(options.file, options.columns.asked, options.codes.is_free)
         return csv_table(data, name, how).rows()
@@ -218,19 +225,19 @@ class TableRun:
         these one in ten is right by chance.
         """
         title = self.columns.code.title
-        offers = [(SYMBOLOGIES[one].title, ["--symbology", one]) for one in FREE]
         others = sum(isinstance(problem, OtherCode) for _, _, problem in self.held)
         if 2 * others > len(self.held):
             what = Text("{}: no row has an EAN or UPC in {}", name, title)
-            raise ToolError(what, OTHER_CODES, offers=offers)
+            raise ToolError(what, OTHER_CODES)
         self.leave_out_held()
         if self.wrong_digits > max(1, self.reader.right_codes):
             what = Text("{}: most codes in {} have a wrong check digit", name, title)
             hint = Text(
-                "if they have none, give --symbology code128, or --without-check-digit if they "
-                "have 12 digits"
-            )
-            raise ToolError(what, hint, offers=offers[:1])
+                "if they have none, give {}, or {} if they have 12 digits",
+                kind_remedy(CODE128.name),
+                WITHOUT_DIGIT,
+            ).in_window(Text("maybe they have none"))
+            raise ToolError(what, hint)
 
     def say_all(self) -> None:
         """Says what there is to say about the whole table."""
@@ -238,11 +245,13 @@ class TableRun:
         self.say_of_prices()
         self.say_of_words()
         self.once.say(self.talk)
+        self.reader.escaped.say(self.talk)
         if self.hidden:
             text = counted(
                 "{} hidden row is not printed", "{} hidden rows are not printed", self.hidden
             )
-            self.talk.say(text, Text("give --hidden to print them"))
+            remedy = Remedy("hidden", says=Text("Print hidden rows too"))
+            self.talk.say(text, Text("give {} to print them", remedy).in_window(NOTHING))
         if self.writer.unchanged:
             text = counted(
                 "{1} of {0} row is as before, and is not printed",
@@ -294,17 +303,13 @@ class TableRun:
         formatter = self.start.formatter
         is_given = self.options.file.decimal is not None or self.options.prices.pattern
         if formatter.first_number and not is_given:
-            self.talk.say(
-                Text(
-                    "numbers are printed as {}: is that right? else give --decimal comma or point",
-                    quoted(formatter.first_number),
-                )
-            )
+            text = Text("numbers are printed as {}: is that right?", quoted(formatter.first_number))
+            looks = [formatter.first_number.replace(*signs) for signs in (".,", ",.")]
+            remedies = [
+                Remedy("decimal", sign, Text("{}", look))
+                for sign, look in zip(("comma", "point"), looks)
+            ]
+            self.talk.say(text, Text("else {}", give(*remedies)).in_window(NOTHING))
         if formatter.first_date and not formatter.date_as:
-            self.talk.say(
-                Text(
-                    "dates are printed as {}: is that right? else give --date-as dd.mm.yyyy,"
-                    " or another format",
-                    quoted(formatter.first_date),
-                )
-            )
+            text = Text("dates are printed as {}: is that right?", quoted(formatter.first_date))
+            self.talk.say(text, Text("else {}", DATE_HINT).in_window(NOTHING))

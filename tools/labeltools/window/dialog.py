@@ -6,7 +6,7 @@ from collections.abc import Callable, Mapping
 from typing import Any
 
 from labeltools.common.language import _
-from labeltools.paper.area import MILLIMETRES, POINTS
+from labeltools.paper.plan import MILLIMETRES, POINTS
 from labeltools.paper.stock import Size
 from labeltools.sending.cups import media_of
 from labeltools.window.gtk import Gtk, within

@@ -16,7 +16,7 @@ from labeltools.common.arguments import words_of
 from labeltools.common.messages import Cancelled, Origin, quoted, ToolError
 from labeltools.common.process import read_input
 from labeltools.common.report import LeftOut
-from labeltools.common.text import NOTHING, Text
+from labeltools.common.text import NOTHING, Remedy, Text
 from labeltools.lines.file import first_remark, label_lines, last_remark, LineRecord, read_lines
 from labeltools.printing.job import planned
 from labeltools.printing.press import labels_of, Prepared
@@ -280,6 +280,31 @@ def print_words(choices: Choices) -> list[str]:
         options["paper"] = f"{choices['width']:g}x{choices['height']:g}"
         del options["stock"], options["first"]
     return [*words_of(options), *option_words(choices["for-print"])]
+
+
+def is_of_table(remedy: Remedy) -> bool:
+    """Returns whether a remedy is an option of label-table, not of label-print."""
+    with suppress(ToolError):
+        table_command.understood(["--code", "1", "--price", "1", *remedy.words])
+        return True
+    return False
+
+
+def typed_with(typed: str, remedy: Remedy) -> str:
+    """Returns options as they are typed, with a remedy, or without its option.
+
+    >>> typed_with("--hidden --decimal point", Remedy("decimal", "comma"))
+    '--hidden --decimal comma'
+    >>> typed_with("--hidden --delimiter tab", Remedy("delimiter", is_less=True))
+    '--hidden'
+    """
+    words = [*option_words(typed)]
+    name, *values = remedy.words
+    while name in words:
+        at = words.index(name)
+        has_value = at + 1 < len(words) and not words[at + 1].startswith("--")
+        del words[at : at + 1 + has_value]
+    return shlex.join([*words, *([] if remedy.is_less else (name, *values))])
 
 
 def option_words(argument: str) -> tuple[str, ...]:

@@ -2,8 +2,7 @@
 printed, and the rows that are left out. Its widgets are those of window.ui.
 """
 
-import shlex
-from collections.abc import Callable, Iterator, Sequence
+from collections.abc import Callable, Iterable, Iterator, Sequence
 from contextlib import contextmanager, suppress
 from functools import partial
 from pathlib import Path
@@ -11,18 +10,33 @@ from typing import Any
 
 from labeltools.common.language import _
 from labeltools.common.messages import ToolError
-from labeltools.common.text import counted, Text, translated
+from labeltools.common.text import (
+    counted,
+    NOTHING,
+    remedies_of,
+    Remedy,
+    Text,
+    translated,
+    windowed,
+)
 from labeltools.designs.svg_design import is_file
-from labeltools.paper.area import ARTICLE
+from labeltools.layout.area import ARTICLE
 from labeltools.paper.stock import list_stock
 from labeltools.printing.press import check_count
 from labeltools.sending.sender import Unfinished
 from labeltools.tables.prices import DECIMAL_HINT
-from labeltools.window import hints
 from labeltools.window.gtk import add_actions, Gdk, Gio, GLib, Gtk
 from labeltools.window.presets import Presets
 from labeltools.window.preview import Preview
-from labeltools.window.shop import Choices, COLUMNS, MadeLabels, price_patterns, Table
+from labeltools.window.shop import (
+    Choices,
+    COLUMNS,
+    is_of_table,
+    MadeLabels,
+    price_patterns,
+    Table,
+    typed_with,
+)
 from labeltools.window.ways import WaysOut
 from labeltools.window.work import Work
 
@@ -36,8 +50,10 @@ CONTROLS = {
 }
 RANGES = {"header-row": (0, 1000), "first": (1, 10_000), "width": (5, 500), "height": (5, 500)}
 Answers = Sequence[tuple[str, Callable[[], object]]]  # what buttons show, and do
+HEADERS = {"no-header": ("header-row", "0"), "header": ("header-row", "1")}
 A_FILE = "file"  # the choice of a design in a file
 MOST_NOTES = 2000
+MOST_HELPS = 3  # buttons below the notes
 USUAL_DPI = {"zpl": "203", "escpos": "203"}  # of the printers of these languages
 LEAST_WRAP = 150  # pixels in which reasons are wrapped
 WRAP_MARGIN = 20  # pixels of the list beside the reasons
@@ -78,8 +94,6 @@ class Window(Gtk.ApplicationWindow):
             },
         )
         self.builder.connect_signals(self)
-        names = {option: self.name_of(control) for option, control in hints.CONTROLS.items()}
-        self.hints = hints.Hints(names)
         self.let_out(False)
         for name, (lowest, highest) in RANGES.items():
             self.control(name).set_range(lowest, highest)
@@ -111,10 +125,6 @@ class Window(Gtk.ApplicationWindow):
         """Returns the control of an option by its name."""
         return getattr(self, name.replace("-", "_"))
 
-    def name_of(self, control: str) -> str:
-        """Returns the name of a control, as it is shown beside it."""
-        return str(self.control(control).list_mnemonic_labels()[0].get_text())
-
     def offer_sheets(self, entry: Any) -> None:
         """Offers the sheets that label-print lists for what is typed, first those that begin so."""
         typed = entry.get_text().lower()
@@ -125,17 +135,37 @@ class Window(Gtk.ApplicationWindow):
                 self.sheets.append([line.partition(": ")[0], line])
 
     def show_problem(self, problem: ToolError, answers: Answers = ()) -> None:
-        """Says why something cannot be done, and offers choices that help, a button for each: words
-        by which the table is read, such as its encoding, or what each of some answers does.
+        """Says why something cannot be done, and offers what helps, a button for each: its
+        remedies, and what each of some answers does.
         """
-        self.problem.set_text(self.hints.text(problem.what, problem.hint))
-        self.offers.foreach(Gtk.Widget.destroy)
-        words = [(shown, partial(self.on_offer, shlex.join(one))) for shown, one in problem.offers]
-        for shown, act in (*words, *self.ways_on(problem), *answers):
+        self.problem.set_text(said(problem.what, problem.hint))
+        ways = self.ways_on(problem)
+        self.offer(self.offers, [*self.remedies([problem.hint]), *ways, *answers])
+        self.info.show()
+
+    def offer(self, box: Any, answers: Answers) -> None:
+        """Offers answers in a box, a button for each."""
+        box.foreach(Gtk.Widget.destroy)
+        for shown, act in answers:
             button = Gtk.Button(label=shown, visible=True)
             button.connect("clicked", self.on_answer, act)
-            self.offers.add(button)
-        self.info.show()
+            box.add(button)
+
+    def remedies(self, texts: Iterable[Text]) -> Answers:
+        """Returns the remedies of some texts as answers, each once."""
+        every = dict.fromkeys(one for text in texts for one in remedies_of(text))
+        found = [one for one in every if one.says and one.option != "after"]
+        return [(translated(one.says), partial(self.follow, one)) for one in found]
+
+    def follow(self, remedy: Remedy) -> None:
+        """Takes a choice that helps: by its control, or else as an option that is typed."""
+        name, value = HEADERS.get(remedy.option, (remedy.option, remedy.value))
+        if name in CONTROLS and not remedy.is_less:
+            self.take({name: type(self.choices()[name] or "")(value)})
+            if str(self.choices()[name]) == value:
+                return
+        entry = self.for_table if is_of_table(remedy) else self.for_print
+        entry.set_text(typed_with(entry.get_text(), remedy))
 
     def ways_on(self, problem: ToolError) -> Answers:
         """Returns how labels go on that a printer took some of."""
@@ -156,10 +186,6 @@ class Window(Gtk.ApplicationWindow):
         """Does what is chosen, and hides the question."""
         self.info.hide()
         act()
-
-    def on_offer(self, words: str) -> None:
-        """Reads the table by other words, such as its encoding."""
-        self.for_table.set_text(words)
 
     def tell(self, text: str, is_wrong: bool = False) -> None:
         """Tells what became of labels."""
@@ -352,15 +378,17 @@ class Window(Gtk.ApplicationWindow):
         self.notes.clear()
         for note in made.notes[:MOST_NOTES]:
             row = str(note.origin.number) if note.origin else ""
-            self.notes.append([row, note.data, self.hints.text(note.reason, note.hint)])
+            self.notes.append([row, note.data, said(note.reason, note.hint)])
         text = translated(counted("{} row is skipped", "{} rows are skipped", made.left_out))
         self.left_out.set_text(text if made.left_out else _("Please look at this"))
         self.below.set_visible(made.notes)
         self.show_view()
         self.result.show()
-        is_asked = any(note.hint == DECIMAL_HINT for note in made.notes)
+        hints = [note.hint for note in made.notes]
+        self.offer(self.helps, self.remedies(hints)[:MOST_HELPS])
+        is_asked = DECIMAL_HINT in hints
         if is_asked:
-            self.show_problem(ToolError(Text("what is 1,234 in the prices?")), self.signs())
+            self.show_problem(ToolError(Text("which sign has the cents?"), DECIMAL_HINT))
         if made.labels.prints or not is_asked:
             check_count(made.labels.job, made.labels.prints)
             self.has_labels = True
@@ -369,17 +397,6 @@ class Window(Gtk.ApplicationWindow):
             self.show_problem(problem)
         if self.table is not None:
             self.ways.look_back(self.table)
-
-    def signs(self) -> Answers:
-        """Returns what the signs of prices may mean, of which only the keeper knows."""
-        typed = self.for_table.get_text()
-        return [
-            (shown, partial(self.for_table.set_text, f"{typed} --decimal {word}".strip()))
-            for shown, word in (
-                (_("One and something: the comma has the cents"), "comma"),
-                (_("A thousand and something: the point has the cents"), "point"),
-            )
-        ]
 
     def redraw(self, _number: Any) -> None:
         """Draws the view again."""
@@ -436,6 +453,11 @@ class Window(Gtk.ApplicationWindow):
             if is_header or control.get_text() != self.words:
                 header = control.get_value_as_int() if is_header else None
                 self.open(self.path, header, is_again=True)
+
+
+def said(what: Text, hint: Text = NOTHING) -> str:
+    """Returns what a window says: a reason, and below it what to do."""
+    return "\n".join(filter(None, (translated(windowed(text)) for text in (what, hint))))
 
 
 def with_example(name: str, example: str) -> str:
