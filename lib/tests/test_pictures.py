@@ -126,8 +126,8 @@ else:
     raise AssertionError
 """
 )
-# The same in PNG, where the module draws the digits: bars are as without, guards are longer by five modules, and each digit
-# is in the seven modules of its own, with as many holes as it has in print, and no other.
+# The same in PNG, where the module draws the digits: bars are as without, guards are longer by five modules, and each
+# digit is in the seven modules of its own, with as many holes as it has in print, and no other.
 DRAWN_DIGITS = (
     LINES
     + """
@@ -251,7 +251,10 @@ class Pictures(WithLibrary):
 
     def test_scales(self) -> None:
         self.run_ok(PYTHON, "-c", SCALES)
-        for right, wrong in (('"1" * scale', '"1" * (scale - 1) + "0"'), ("for _ in range(scale)", "for _ in range(2)")):
+        for right, wrong in (
+            ('"1" * scale', '"1" * (scale - 1) + "0"'),
+            ("for _ in range(scale)", "for _ in range(2)"),
+        ):
             module = self.library.changed(("python/liblabels/_pictures.py", right, wrong)) / "python"
             self.assert_fails(*self.with_module(module), "-c", SCALES)
 

@@ -188,10 +188,11 @@ class Symbol:
         return told.guards, tuple((begin, end, self.data[a:b].decode()) for a, b, begin, end in told.digits)
 
     def png(self, scale: int = 1, dpi: float | None = None, digits: bool = False) -> bytes:
-        """Returns the symbol as PNG with its quiet zones, its modules `scale` dots wide, 1 to 100: that of its `bitmap`.
+        """Returns the symbol as PNG with its quiet zones, its modules `scale` dots wide, 1 to 100.
 
-        With `digits` EAN and UPC have longer guard bars, and their digits below, which takes ten modules more. Raises
-        ValueError for a scale that is not 1 to 100, and what `Bitmap.png` raises.
+        Without digits it is that of the symbol's `bitmap`. With `digits` EAN and UPC have longer guard bars, and their
+        digits below, which takes ten modules more. Raises ValueError for a scale that is not 1 to 100, and what
+        `Bitmap.png` raises.
 
         >>> symbol("qr", "HELLO").png(scale=4)[:8]
         b'\\x89PNG\\r\\n\\x1a\\n'

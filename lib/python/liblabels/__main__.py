@@ -14,7 +14,9 @@ def main() -> None:
     parser.add_argument("data", metavar="DATA")
     parser.add_argument("--svg", action="store_true", help="as SVG, a module one unit wide")
     parser.add_argument("--digits", action="store_true", help="the digits of EAN and UPC below the bars")
-    parser.add_argument("--scale", type=int, default=4, metavar="N", help="PNG: dots of a module, 1 to 100 (default: 4)")
+    parser.add_argument(
+        "--scale", type=int, default=4, metavar="N", help="PNG: dots of a module, 1 to 100 (default: 4)"
+    )
     parser.add_argument("--dpi", type=float, metavar="N", help="PNG: how many dots of an inch it is printed with")
     parser.add_argument("--height", type=int, default=50, metavar="N", help="how many modules high bars are (50)")
     parser.add_argument("--level", choices=LEVELS, default="M", help="of QR (default: M)")
