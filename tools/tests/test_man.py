@@ -3,7 +3,7 @@
 import re
 import subprocess
 import unittest
-from contextlib import nullcontext
+from contextlib import ExitStack
 from unittest import mock
 
 import support
@@ -131,11 +131,13 @@ class Pages(unittest.TestCase):
         for tool, words, lines, status, said in STATUSES:
             page = shown(f"{tool}.1").partition("\nEXIT STATUS\n")[2].partition("\nEXAMPLES\n")[0]
             self.assertIn(said, dict(re.findall(r"(?m)^ +(\d) +(.*)$", page))[str(status)])
-            fault = mock.patch("labeltools.drawing.pen.Pen.draw_modules")
-            with fault if status == 3 and tool == "label-print" else nullcontext():
-                run = support.run if tool == "labels" else support.run_here
-                name = support.labels_program() if tool == "labels" else tool
-                done = run(name, *words, input=lines.encode())
+            with ExitStack() as stack:
+                if status == 3 and tool == "label-print":
+                    stack.enter_context(mock.patch("labeltools.drawing.pen.Pen.draw_modules"))
+                if tool == "labels":
+                    done = support.run(support.labels_program(), *words, input=lines.encode())
+                else:
+                    done = support.run_here(tool, *words, input=lines.encode())
             self.assertEqual(done.returncode, status, (tool, words, done.stderr))
 
     def test_numbers_are_those_of_the_tools(self) -> None:
