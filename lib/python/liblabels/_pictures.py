@@ -15,6 +15,7 @@ _DARK_IS_0 = bytes(255 - byte for byte in range(256))
 _METRES_OF_AN_INCH = 0.0254
 _BELOW_BARS = 10  # modules that digits take there, and how high the font of SVG is
 _LONGER = 5  # modules of guard bars
+_NO_FILTER, _LESS_ABOVE = b"\0", b"\2"  # rows of PNG: as they are, and less the row above, so that an equal one is 0
 PNG_HEAD = b"\x89PNG\r\n\x1a\n"
 
 
@@ -80,13 +81,14 @@ def png_of(width: int, height: int, bits: bytes, dpi: float | None) -> bytes:
         raise ValueError(f"dpi is {dpi}, and has to be 1 to 100000")
     size = (width + 7) // 8
     light_is_1 = bits.translate(_DARK_IS_0)
-    no_filter = b"\0"
-    rows = b"".join(no_filter + light_is_1[start : start + size] for start in range(0, size * height, size))
+    lines = [light_is_1[start : start + size] for start in range(0, size * height, size)]
+    same = _LESS_ABOVE + bytes(size)
+    rows = b"".join(same if line == above else _NO_FILTER + line for above, line in zip([None, *lines], lines))
     chunks = [_chunk(b"IHDR", struct.pack(">2I5B", width, height, 1, 0, 0, 0, 0))]
     if dpi is not None:
         a_metre = round(dpi / _METRES_OF_AN_INCH)
         chunks.append(_chunk(b"pHYs", struct.pack(">2IB", a_metre, a_metre, 1)))
-    chunks += [_chunk(b"IDAT", zlib.compress(rows, 9)), _chunk(b"IEND", b"")]
+    chunks += [_chunk(b"IDAT", zlib.compress(rows)), _chunk(b"IEND", b"")]
     return PNG_HEAD + b"".join(chunks)
 
 
