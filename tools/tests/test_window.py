@@ -483,7 +483,7 @@ class WindowTest(Keeper):
         self.open(TABLE.replace("Soap", long))
         self.look("label")
         notes = self.window.notes
-        (place,) = [number for number, note in enumerate(notes) if "shortened to fit" in note[2]]
+        (place,) = [number for number, note in enumerate(notes) if "a text is too long" in note[2]]
         self.assertEqual(notes[place][0], "3")
         self.window.left_out_list.get_selection().select_path(Gtk.TreePath(place))
         self.until(lambda: self.window.number.get_value_as_int() == 2)
