@@ -59,7 +59,7 @@ class Believed(InCopy):
 
     def test_changes(self) -> None:
         """Another number, table or name of std on the pages; another clause, definition or crate in the files."""
-        number = found_in(r"[\d,]+ lines of \[definitions", read(self.path("README.md")))
+        number = found_in(r"[\d,]+ lines of\s+\[definitions", read(self.path("README.md")))
         row = found_in(r"\| the clause `shows` .*\n", read(self.path(PROOF)))
         held_line, entry = "crates/labelcore/specs/HeldLine.antt", "crates/command/src/entry.rt"
         says, for_take = "as the files give it", "| `take` | the first n elements of a list |\n"
@@ -67,7 +67,7 @@ class Believed(InCopy):
             (PAGE, for_take, "", "does not say what take means"),
             (PAGE, for_take, f"{for_take}| `no` | a name |\n", "says what no means, which is not needed"),
             (PAGE, "| `remaining` |", "| `contents` |", "does not say what remaining means"),
-            ("README.md", number, f"9,{number}", number),
+            ("README.md", number, f"9,{number}", number.split()[0]),
             ("README.md", number, "few lines of [definitions", "has to have one number where"),
             (PROOF, row, row.replace("`program` | ", "`program` | 9,"), says),
             (PROOF, row, "", says),

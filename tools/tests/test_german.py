@@ -52,6 +52,7 @@ IN_WORDS = """--after {}: the first label is {}
 --print: printers do not take {}
 --stream prints each line
 --to {} needs --dpi
+--variants-of needs --title
 --{} may be {}
 CUPS prints an interrupted run again from its beginning; give --print tcp://HOST or /dev/usb/lp0
 a grid needs --columns, --rows and --cell
@@ -71,6 +72,22 @@ def fields_of(text: str) -> list[str]:
     """The places of what differs in a text, such as 0 and 1, in order."""
     names = [name for _, name, _, _ in string.Formatter().parse(text) if name is not None]
     return sorted(str(number) if name == "" else name for number, name in enumerate(names))
+
+
+def judged_of(text: str) -> tuple[dict[str, tuple[str, str]], list[str], list[str]]:
+    """What a text has in each language: the signs before and behind each field, numbers, options."""
+    plain = re.sub(
+        r"[„“”]|« ?|[ ]?»", '"', re.sub(r"[\u00a0\u202f]", " ", text.replace('\\"', '"'))
+    )
+    signs: dict[str, tuple[str, str]] = {}
+    for field in re.finditer(r"\{(\w*)[^}]*\}", plain):
+        before, behind = plain[: field.start()][-1:], plain[field.end() :][:1]
+        signs[field[1] or str(len(signs))] = (
+            before if before in {*'"(%-#'} else "",
+            behind if behind in {*'")%'} else "",
+        )
+    numbers = re.findall(r"\d+", re.sub(r"(?<=\d)[., ](?=\d)|\{.*?\}", "", plain))
+    return signs, sorted(numbers), sorted(re.findall(r"(?<![\w-])--[a-z][a-z-]*", plain))
 
 
 def sources() -> list[Path]:
@@ -167,6 +184,15 @@ class German(unittest.TestCase):
                     self.assertEqual(plurals[text], texts[text])
                     for one in re.findall('"(.+)"', others[text]):
                         self.assertEqual(fields_of(one), fields_of(text), text)
+                        self.assertEqual(judged_of(one), judged_of(text), text)
+
+    def test_a_text_that_says_another_thing_is_seen(self) -> None:
+        """By its fields, a number or an option; that it means the opposite nobody sees but a reader."""
+        text = 'column {} ("{}") has more than 1,000 rows: give --limit'
+        other = "Spalte {} („{}“) hat über 1.000 Zeilen: --limit angeben"
+        self.assertEqual(judged_of(other), judged_of(text))
+        for old, new in (("{}", "{1}"), ("1.000", "100"), ("--limit", "--last"), ("„{}“", "{}")):
+            self.assertNotEqual(judged_of(other.replace(old, new, 1)), judged_of(text))
 
     def test_options_are_remedies(self) -> None:
         """A text has them as remedies, which a window shows as buttons; those that name them in

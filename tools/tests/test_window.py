@@ -448,7 +448,7 @@ class WindowTest(Keeper):
         self.assertEqual(self.window.left_out.get_text(), "1 row is skipped")
         row, cell, why = self.rows()[0]
         self.assertEqual((row, cell), ("4", "4006381333932"))
-        self.assertIn("check digit", why)
+        self.assertIn("a digit is wrong", why)
         self.assertIn("6 labels from 3 rows", self.counted())
         self.assertTrue(self.window.guessed.get_visible())
 
@@ -853,7 +853,8 @@ class WindowTest(Keeper):
         """Its controls, and what it tells."""
         code = "import test_window; test_window.load(); one = test_window.window.Window(); "
         code += "test_window.work.Work.stop(one.work); one.on_stop(None); "
-        code += "print(one.print_button.get_label(), one.name_of('price_as'), one.said.get_text())"
+        code += "(name,) = one.price_as.list_mnemonic_labels(); "
+        code += "print(one.print_button.get_label(), name.get_text(), one.said.get_text())"
         for language, texts in (
             ("en", "_Print… Prices as Stopped: nothing was printed"),
             ("de", "_Drucken … Preise als Abgebrochen: es wurde nichts gedruckt"),
