@@ -45,6 +45,8 @@ IN_WORDS = """--after {}: the first label is {}
 --encoding {} is unknown
 --fill-zeros, --without-check-digit and --symbology code128 or qr do not go together
 --list-stock takes one WORD: put quotes around several
+--only names {}, which the input does not have
+--only-code names {}, which the input does not have
 --price-as needs --price, --unit-price or --old-price
 --price-text and --price-as do not go together
 --print: printers do not take {}
@@ -59,12 +61,10 @@ give --to zpl or escpos
 give a file that label-print --journal has made, or a new name
 leave out --only and --after
 name what to print again with --only or --only-code
-named by --only, but not in the input
 only for --to escpos
 only for a grid of --cell
 the following arguments are required: --code
 {} and --each do not go together
-{}: named by --only-code, but not in the input
 """.splitlines()
 
 
@@ -283,21 +283,21 @@ class German(unittest.TestCase):
             for language, first, second, last in (
                 (
                     "de",
-                    "Zeile 2: 4006381333932: die Prüfziffer ist 2, richtig ist 1",
+                    "Zeile 2: 4006381333932: eine Ziffer ist falsch (zu diesen Ziffern gehört als letzte 1)",
                     'Zeile 3: Spalte 3 ("Preis") hat "1E3", was kein Preis ist',
                     "1 Etikett aus 1 Zeile: 1 EAN-13; Preis 2,50; 1 Preis ohne Währung; "
                     "2 Zeilen übersprungen",
                 ),
                 (
                     "fr",
-                    "ligne 2 : 4006381333932 : le chiffre de contrôle est 2 au lieu de 1",
+                    "ligne 2 : 4006381333932 : un chiffre est faux (avec ces chiffres, le dernier serait 1)",
                     'ligne 3 : colonne 3 ("Preis") a "1E3", qui n\'est pas un prix',
                     "1 étiquette de 1 ligne : 1 EAN-13; prix 2,50; 1 prix sans devise; "
                     "2 lignes ignorées",
                 ),
                 (
                     "en",
-                    "row 2: 4006381333932: the check digit is 2, should be 1",
+                    "row 2: 4006381333932: a digit is wrong (with these digits the last one would be 1)",
                     'row 3: column 3 ("Preis") has "1E3", which is not a price',
                     "1 label from 1 row: 1 EAN-13; price 2,50; 1 price without a currency; "
                     "2 rows skipped",
@@ -305,7 +305,7 @@ class German(unittest.TestCase):
             ):
                 ran = self.ran(language, support.TOOLS / "label-table", *OPTIONS, table)
                 said = ran.stderr.replace("\u00a0", " ").splitlines()
-                self.assertEqual(said[0], f"label-table: {first}")
+                self.assertTrue(said[0].startswith(f"label-table: {first}"), said[0])
                 self.assertTrue(said[1].startswith(f"label-table: {second}"), said[1])
                 self.assertEqual(said[-1], f"label-table: {last}")
                 self.assertEqual("row" in ran.stderr, language == "en")
