@@ -607,7 +607,7 @@ class Codes(unittest.TestCase):
         sheet = Sheet([["EAN"], [CODES[0]], ["4006381333932"]], hidden=(2,))
         for kind in KINDS:
             found = guess_of(kind(sheet), "x", TableOptions(), Silence())
-            self.assertIn("the check digit is 2", found.codes[0].problem)
+            self.assertIn("a digit is wrong", found.codes[0].problem)
 
     def test_numbers_of_articles_are_no_titles(self) -> None:
         columns = [["Item", *NUMBERS[1]], ["UPC", *CODES], ["Desc", "Tea", "Book", "Gum"]]

@@ -28,9 +28,10 @@ from test_table_workbooks import (
 )
 
 NO_PRICE = "which is not a price: it"
-WORDS = "has words that no price tag has; give --price-text if it is right"
+WORDS = "has words that are not part of a price; give --price-text if it is right"
 NUMBER = 400638100000
-HINT = "if they may be old, open the table in the spreadsheet and save it"
+MOVED = "cells may have moved, so compare the row with the table"
+HINT = "open it in the spreadsheet and save it again"
 
 
 class RulesTest(TableTest):
@@ -73,7 +74,7 @@ class Widths(RulesTest):
 
     def test_a_price_cut_in_two_where_row_1_ends_in_an_empty_name(self) -> None:
         text = f"EAN,Name,Price,\n{SMALL},Pen,1.99,\n{PENCIL},Pen,0,80\n"
-        problem = 'row 3: has "80" in column 4, which has no name: have cells moved?'
+        problem = 'row 3: has "80" in column 4, which has no name: ' + MOVED
         self.check(text, self.ARGUMENTS, [f"ean8 {SMALL}"], [problem], 1)
 
     def test_delimiters_at_the_end_of_each_row_but_the_first(self) -> None:
@@ -82,7 +83,7 @@ class Widths(RulesTest):
 
     def test_a_value_under_an_empty_name_leaves_its_row_out(self) -> None:
         text = f"EAN;Name;Price;\n{SMALL};Pen;1,99;order\n{PENCIL};Ink;2,99;\n"
-        problem = 'row 2: has "order" in column 4, which has no name: have cells moved?'
+        problem = 'row 2: has "order" in column 4, which has no name: ' + MOVED
         self.check(text, self.ARGUMENTS, [f"ean13 {PENCIL}"], [problem], 1)
         self.check(text, [*self.ARGUMENTS, "--text", "4"], [f"ean8 {SMALL}", f"ean13 {PENCIL}"])
 
@@ -379,7 +380,8 @@ class Codes(RulesTest):
 
     def test_a_code_unlike_all_others_is_said(self) -> None:
         text = "EAN;Name\nA-1;x\nA-2;y\nA-3;z\nSumme;\n"
-        said = 'the code of row 5, "Summe", has no digit, and others have: is it a code?'
+        said = 'the code of row 5, "Summe", has no digit, and others have: if it is not a code, '
+        said += "delete the row"
         self.check(
             text, self.FREE, [f"code128 {code}" for code in ("A-1", "A-2", "A-3", "Summe")], [said]
         )
@@ -510,9 +512,7 @@ class Marked(RulesTest):
         older.write_bytes(support.run_here("label-table", *arguments, input=text.encode()).stdout)
         changed = text.replace("2,00", "2,20") + f"{SOAP};d;4,00\n"
         status, messages, labels = self.said(changed, *arguments, "--new-since", str(older))
-        self.assertEqual(
-            (status, messages), (0, ["2 of 4 rows are as before, and are not printed"])
-        )
+        self.assertEqual((status, messages), (0, ["2 rows have not changed, and are not printed"]))
         self.assertEqual([label["title"] for label, _ in labels], ["b", "d"])
         for part in ("title", "price"):
             without = [
@@ -563,9 +563,7 @@ class Workbooks(RulesTest):
         self.check(data, arguments, [f"ean13 {BOOK}"], [problem], 1)
         sheet = "xl/worksheets/sheet1.xml"
         saved = {sheet: parts[sheet].replace("<v>0</v>", "<v>3</v>"), "xl/workbook.xml": book}
-        said = (
-            f"the file asks to calculate its formulas again; their saved values are taken: {HINT}"
-        )
+        said = f"the results of formulas in this file may be out of date: {HINT}"
         self.check(
             packed({**parts, **saved}), arguments, [f"ean8 {SMALL}", f"ean13 {BOOK}"], [said], 0
         )

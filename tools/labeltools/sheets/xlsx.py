@@ -61,8 +61,8 @@ PLACES = {"superscript": Mark.RAISED, "subscript": Mark.LOWERED}
 # white by the numbers of themes and of palettes (18.8.3, 18.8.27)
 WHITE_THEME = "0"
 WHITE_INDEXES = ("1", "9", "65")
-STALE = Text("the file asks to calculate its formulas again; their saved values are taken")
-STALE_HINT = Text("if they may be old, open the table in the spreadsheet and save it")
+STALE = Text("the results of formulas in this file may be out of date")
+STALE_HINT = Text("open it in the spreadsheet and save it again")
 
 
 Target = tuple[str, str]  # what a part refers to: its kind, and a part or an address outside
