@@ -21,7 +21,7 @@ import cairo
 import support
 from labeltools.common.messages import ToolError
 from labeltools.common.text import NOTHING, Text
-from labeltools.sending.cups import JobState, Queue
+from labeltools.sending.cups import JobState, Queue, SentJob
 from printers import Printer
 from scheduler import raster_of, Scheduler, WITH_TEST
 
@@ -32,7 +32,7 @@ TABLE = """Nr;EAN;Name;Price;Stock;Labels
 4;96385074;Gum, and a title that is longer than any label;1,20 €;8;1
 """
 PROGRAMS = ("Xvfb", "pdftoppm", "msgfmt")
-WAIT = 300.0  # seconds for work, on a busy machine too
+WAIT = float(os.environ.get("WAIT", 300))  # seconds for work, on a busy machine too
 BEAT = 10  # milliseconds between two looks at the window
 SCALE = 4  # pixels of a millimetre
 # What setUpModule makes.
@@ -40,8 +40,10 @@ screen: Any = None
 scheduler: Any = None
 folder: Any = None
 application: Any = None
+bar: Any = None
 dialog: Any = None
 gtk: Any = None
+questions: Any = None
 ways: Any = None
 window: Any = None
 work: Any = None
@@ -80,11 +82,11 @@ def setUpModule() -> None:
 
 def load() -> None:
     """Loads the window, where there is a screen."""
-    global application, dialog, gtk, ways, window, work, Gdk, Gio, GLib, Gtk
+    global application, bar, dialog, gtk, questions, ways, window, work, Gdk, Gio, GLib, Gtk
     sys.path.insert(0, str(support.TOOLS))
-    application, dialog, ways, window, work, gtk = (
+    application, bar, dialog, questions, ways, window, work, gtk = (
         import_module(f"labeltools.window.{name}")
-        for name in ("application", "dialog", "ways", "window", "work", "gtk")
+        for name in ("application", "bar", "dialog", "questions", "ways", "window", "work", "gtk")
     )
     Gdk, Gio, GLib, Gtk = gtk.Gdk, gtk.Gio, gtk.GLib, gtk.Gtk
     Gtk.init([])
@@ -121,7 +123,7 @@ def inside(widget: Any) -> Any:
 
 
 def answer_dialog(printer: str, response: Any = None, pages: str = "", sheets: int = 0) -> Any:
-    """Chooses a printer in the dialog of the desktop once that has it, types pages, chooses all (0),
+    """Chooses a printer in the dialog of the desktop once that is, types pages, chooses all (0),
     even or odd sheets, and presses a button, Print by itself; returns whether to look again.
     """
     for dialog in Gtk.Window.list_toplevels():
@@ -202,7 +204,7 @@ class Keeper(unittest.TestCase):
         """Opens the table, with another text where one is given, or another file."""
         if text is not None:
             self.table.write_bytes(text if isinstance(text, bytes) else text.encode())
-        self.window.info.hide()
+        self.window.events.hide()
         self.window.open(path or self.table)
         self.until(lambda: self.window.has_labels or self.problem())
 
@@ -210,7 +212,7 @@ class Keeper(unittest.TestCase):
         """Opens a file that is not there, which leaves nothing of the table."""
         self.window.open(self.folder / "none.csv")
         self.until(self.problem)
-        self.window.info.hide()
+        self.window.events.hide()
 
     def counted(self) -> Any:
         """What the window says of its labels."""
@@ -232,24 +234,51 @@ class Keeper(unittest.TestCase):
 
     def remade(self, change: Callable[[], Any]) -> None:
         """Changes something, and waits for other labels than before."""
-        before = self.window.__dict__.get("made")
-        self.window.info.hide()
+        self.window.events.hide()
+        before, old = self.window.__dict__.get("made"), self.problem()
         change()
         self.until(
-            lambda: self.window.has_labels and self.window.made is not before or self.problem()
+            lambda: self.window.has_labels
+            and self.window.made is not before
+            or self.problem() not in ("", old)
         )
 
     def problem(self) -> Any:
-        info = self.window.info
-        return self.window.problem.get_text() if info.get_visible() else ""
+        """What the window asks, or says that it cannot do."""
+        if self.window.stack.get_visible_child_name() == "asking":
+            return f"{self.window.asked.get_text()}\n{self.window.asked_more.get_text()}"
+        asked = [self.window.questions.box(name) for name in questions.BELOW]
+        if texts := [one.text.get_text() for one in asked if one.get_visible()]:
+            return texts[0]
+        event = self.window.events.event
+        is_wrong = self.window.bar.get_visible() and event.kind == "error"
+        return event.sentence if is_wrong else ""
+
+    def said(self) -> Any:
+        """What the bar says; nothing where it is closed."""
+        return self.window.bar_text.get_text() if self.window.bar.get_visible() else ""
+
+    def happened(self) -> Any:
+        """What the list behind the clock says, the newest first."""
+        rows = [row.get_child().get_children() for row in self.window.history_list.get_children()]
+        return [parts[-1].get_text() for parts in rows]
+
+    def answers(self) -> Any:
+        """The buttons that help."""
+        asked = [self.window.questions.box(name) for name in questions.BELOW]
+        boxes = [one.answers for one in asked if one.get_visible()] + [self.window.helps]
+        if self.window.stack.get_visible_child_name() == "asking":
+            boxes = [self.window.answers]
+        found = {one.get_label() or one.get_child().get_text(): one for b in boxes for one in b}
+        act = self.window.bar_act
+        return {**found, act.get_label(): act} if self.said() and act.get_visible() else found
 
     def said_after(self, work: Callable[..., Any], *values: Any) -> Any:
         """What the window says once it has saved, printed or sent labels."""
-        self.window.done.hide()
-        self.window.info.hide()
+        before = len(self.happened())
         work(*values)
-        self.until(lambda: self.window.done.get_visible() or self.problem())
-        return self.problem() or self.window.said.get_text().removeprefix("6 labels ")
+        self.until(lambda: len(self.happened()) > before or self.problem())
+        return self.happened()[-before - 1].removeprefix("6 labels ")
 
     def saved(self, name: str) -> Any:
         """What the window saves."""
@@ -291,7 +320,7 @@ class WindowTest(Keeper):
         self.assertRegex(self.answered("pdf"), "^sent to pdf, at 600 dpi: job [0-9]+")
         page = ("--stock", "Avery L7160", "--dpi", "600")
         self.assertEqual(scheduler.printed("pdf"), self.by_commands(*page))
-        self.until(lambda: self.window.said.get_text().endswith("CUPS reports it as printed"))
+        self.until(lambda: self.said() == "6 labels: printed on pdf")
         self.assertEqual(len(self.printed()), 3)
 
     @mock.patch("labeltools.window.ways.WaysOut.watch", mock.Mock())
@@ -348,23 +377,24 @@ class WindowTest(Keeper):
         subprocess.run(["cupsdisable", "later"], check=True)
         self.open()
         self.assertIn("sent to later", self.answered("later"))
-        self.until(lambda: "it waits in the queue" in self.window.said.get_text())
-        self.assertEqual(self.window.done.get_message_type(), Gtk.MessageType.WARNING)
-        self.window.done.response(Gtk.ResponseType.CLOSE)
-        self.assertFalse(self.window.done.get_visible())
+        self.until(lambda: "waiting in the queue" in self.said())
+        self.assertEqual(self.window.bar.get_message_type(), Gtk.MessageType.WARNING)
+        self.assertEqual([*self.answers()], ["Show the queue"])
+        self.window.bar.response(Gtk.ResponseType.CLOSE)
+        self.assertEqual(self.said(), "")
         self.answered("later")
         self.assertEqual((self.printed(), len(self.waiting())), ([], 2))
         first = min(job.number for job in self.waiting())
         subprocess.run(["cancel", str(first)], check=True)
         self.again()
-        self.until(lambda: "which was sent before" in self.window.said.get_text())
-        self.until(lambda: "it waits in the queue" in self.window.said.get_text())
+        self.until(lambda: "waiting in the queue" in self.said())
+        self.assertIn("which was sent before", self.happened()[1])
         self.assertEqual((self.printed(), len(self.waiting())), ([], 1))
         with mock.patch.object(ways, "WATCH", BEAT):
             subprocess.run(["cupsenable", "later"], check=True)
-            self.until(lambda: "reports it as printed" in self.window.said.get_text())
+            self.until(lambda: "printed on later" in self.said())
         self.assertEqual((len(self.printed()), self.waiting()), (3, {}))
-        self.assertEqual(self.window.done.get_message_type(), Gtk.MessageType.INFO)
+        self.assertEqual(self.window.events.event.kind, "success")
 
     def again(self) -> None:
         """Closes the window, and opens the table in a new one."""
@@ -387,9 +417,8 @@ class WindowTest(Keeper):
             if printed and not number:
                 self.assertEqual(self.printed(), [])
             self.again()
-            self.until(self.problem)
-            self.assertIn("CUPS does not know whether it was printed", self.problem())
-            self.window.offers.get_children()[number].clicked()
+            self.until(lambda: "CUPS does not know whether it was printed" in self.said())
+            self.pressed("Was it printed?", not number)
             self.assertEqual((len(self.printed()), self.waiting()), (printed, {}))
             self.assertEqual(self.problem(), "")
 
@@ -407,9 +436,8 @@ class WindowTest(Keeper):
         self.until(self.problem)
         taken = len(printer.labels)
         self.assertNotIn("--after", self.problem())
-        (button,) = self.window.offers.get_children()
-        self.assertEqual(button.get_label(), f"Go on with label {taken + 1}")
-        self.assertIn(f"taken by {printer.name}", self.said_after(button.clicked))
+        self.pressed(f"Go on with label {taken + 1}", False)
+        self.until(lambda: f"taken by {printer.name}" in self.said())
         printer.wait(40)
         plain = self.by_columns("--paper", "60x40", "--to", "zpl", "--dpi", "203")
         self.assertEqual(b"".join(printer.labels), plain)
@@ -445,12 +473,11 @@ class WindowTest(Keeper):
 
     def test_says_what_is_left_out_and_what_there_is(self) -> None:
         self.open()
-        self.assertEqual(self.window.left_out.get_text(), "1 row is skipped")
+        self.assertEqual(self.window.left_out.get_text(), "1 row is left out")
         row, cell, why = self.rows()[0]
         self.assertEqual((row, cell), ("4", "4006381333932"))
         self.assertIn("a digit is wrong", why)
         self.assertIn("6 labels from 3 rows", self.counted())
-        self.assertTrue(self.window.guessed.get_visible())
 
     def look(self, kind: Any, number: int = 1) -> Any:
         """Looks at a page, or at a label."""
@@ -629,12 +656,10 @@ class WindowTest(Keeper):
         self.open(path=later)
         chosen = self.window.choices()
         self.assertEqual((chosen["price"], chosen["roll"], chosen["sheet"]), ("", True, False))
-        self.assertFalse(self.window.guessed.get_visible())
         for written in ('{"Nr": [1], "EAN": 3}', "[]", "{", '{"Nr\\nEAN": {"price": 7}}'):
             (self.folder / "labels/window.json").write_text(written)
             self.open(path=later)
             self.assertEqual(self.window.choices()["price"], "4")
-            self.assertTrue(self.window.guessed.get_visible())
         names = "Nr\\nEAN\\nName\\nPrice\\nStock\\nLabels"
         wrong = f'{{"{names}": {{"price": 7, "title": "9", "widget": 1, "copies": ""}}}}'
         (self.folder / "labels/window.json").write_text(wrong)
@@ -644,14 +669,14 @@ class WindowTest(Keeper):
     def test_asks_where_only_the_keeper_knows(self) -> None:
         """Of two prices none is taken, and tables without names have nothing in common."""
         self.open("EAN;Name;Preis A;Preis B\n96385074;Gum, red;1,20;0,80\n")
-        self.assertIn("may be in", self.problem())
+        self.assertEqual(self.problem(), "Which column has the price?")
         self.assertFalse(self.window.save_button.is_sensitive())
         self.change(price="4")
         self.assertIn("price 0,80", self.counted())
         for prices in ("0,80;1,20", "1,20;0,80"):
             self.window.has_labels = False
             self.open(f"96385074;Gum, red;{prices}\n")
-            self.assertIn("may be in", self.problem())
+            self.assertEqual(self.problem(), "Which column has the price?")
             self.change(price="3")
             self.saved(f"{prices}.pdf")
 
@@ -726,7 +751,7 @@ class WindowTest(Keeper):
         self.assertEqual(self.window.choices()["dpi"], "300")
 
     def test_a_design_is_a_file(self) -> None:
-        """It is drawn at once, what is said of it is in the list, and it is chosen the next time."""
+        """It is drawn at once, what is said of it is in the list, and it is chosen again."""
         path = self.folder / "own.svg"
         code = '<rect id="code" x="1" y="12" width="52" height="20"/>'
         title = '<rect id="title" x="1" y="1" width="{}" height="10"/>'
@@ -824,37 +849,35 @@ class WindowTest(Keeper):
         self.assertEqual(self.window.dpi.get_active_id(), "203")
 
     def test_what_becomes_of_a_job_is_shown(self) -> None:
-        """By CUPS: a queue that is paused, and jobs that are cancelled; two at once are named both,
-        and a job that is over is not named with the next one.
-        """
+        """By CUPS: a queue that is paused, and jobs that are cancelled; the list has all."""
         scheduler.add("paused", "both")
         subprocess.run(["cupsdisable", "paused"], check=True)
         self.open()
         with mock.patch.object(ways, "WATCH", BEAT):
             said = self.answered("paused")
             self.assertRegex(said, "^sent to paused, at 600 dpi: job [0-9]+")
-            self.until(lambda: "paused: it is paused" in self.window.said.get_text())
+            self.until(lambda: "paused: it is paused" in self.said())
             self.answered("paused")
-            self.until(lambda: self.window.said.get_text().count("it is paused") == 2)
+            self.until(lambda: str(self.happened()).count("it is paused") == 2)
 
             subprocess.run(["cancel", "-a", "paused"], check=True)
-            self.until(lambda: self.window.said.get_text().count("was cancelled") == 2)
+            self.until(lambda: str(self.happened()).count("was cancelled") == 2)
+            self.assertIn("was cancelled", self.problem())
             self.answered("paused")
-            self.until(lambda: "it is paused" in self.window.said.get_text())
-            self.assertNotIn("cancelled", self.window.said.get_text())
+            self.until(lambda: "it is paused" in self.said())
             subprocess.run(["cancel", "-a", "paused"], check=True)
-            self.until(lambda: "was cancelled" in self.window.said.get_text())
+            self.until(lambda: "was cancelled" in self.said())
         state = JobState(Text("The printer is not responding."), "", True)
         future: Any = mock.Mock(exception=lambda: None, result=lambda: state)
-        self.window.ways.show_state(None, "6 labels sent", "", future)
-        self.assertIn("not responding", self.window.said.get_text())
+        self.window.ways.show_state(SentJob("any", 7), 6, future)
+        self.assertEqual(self.said(), "6 labels: not printed: The printer is not responding.")
 
     def test_the_window_speaks_the_language(self) -> None:
         """Its controls, and what it tells."""
         code = "import test_window; test_window.load(); one = test_window.window.Window(); "
         code += "test_window.work.Work.stop(one.work); one.on_stop(None); "
         code += "(name,) = one.price_as.list_mnemonic_labels(); "
-        code += "print(one.print_button.get_label(), name.get_text(), one.said.get_text())"
+        code += "print(one.print_button.get_label(), name.get_text(), one.bar_text.get_text())"
         for language, texts in (
             ("en", "_Print… Prices as Stopped: nothing was printed"),
             ("de", "_Drucken … Preise als Abgebrochen: es wurde nichts gedruckt"),
@@ -887,12 +910,11 @@ class WindowTest(Keeper):
 
     def test_a_table_that_cannot_be_read_shows_nothing_of_the_last_one(self) -> None:
         self.open()
-        self.assertTrue(self.window.guessed.get_visible())
         self.assertEqual(self.window.choices()["symbology"], "auto")
         self.closed()
         shown = self.window.choices()
         self.assertEqual({shown[one] for one in ("code", "price", "symbology")}, {None})
-        for one in ("guessed", "new_only", "result"):
+        for one in ("new_only", "result"):
             self.assertFalse(getattr(self.window, one).get_visible(), one)
 
     def test_what_came_of_work_is_shown_at_once(self) -> None:
@@ -918,7 +940,7 @@ class WindowTest(Keeper):
         self.window.stack.set_visible_child_name("work")
         self.window.on_stop(None)
         self.assertEqual(self.window.stack.get_visible_child_name(), "empty")
-        self.assertTrue(self.window.done.get_visible())
+        self.assertTrue(self.said())
 
     def test_a_sheet_is_looked_for_when_its_name_is_whole(self) -> None:
         self.open()
@@ -964,12 +986,11 @@ class WindowTest(Keeper):
                     self.window.made.left_out, left_out - (words[:8] != "--price-")
                 )
 
-    def pressed(self, button: str) -> None:
-        """Presses the button that has a text."""
-        boxes = (self.window.offers, self.window.helps)
-        found = [one for box in boxes for one in box.get_children()]
-        (wanted,) = (one for one in found if one.get_label() == button)
-        wanted.clicked()
+    def pressed(self, button: str, answer: bool | None = None) -> None:
+        """Presses the button that has a text, and answers what is asked in a dialog then."""
+        how = {} if answer is None else {"return_value": answer}
+        with mock.patch.object(self.window, "asked_in_dialog", create=True, **how):
+            self.answers()[button].clicked()
 
     def test_prices_of_a_spreadsheet_get_a_currency(self) -> None:
         """It is reported that they have none, and chosen from what the column has."""
@@ -992,16 +1013,105 @@ class WindowTest(Keeper):
         """In words, and not by an option, since only the keeper knows."""
         self.open("EAN;Name;Price\n96385074;Gum;1,200\n4006381333931;Pen;2,500\n")
         self.change(price_as="€0.00")
-        self.until(lambda: self.problem() == "which sign has the cents?")
+        self.until(lambda: self.problem() == "Which sign is before the cents?")
         settle(0.5)  # nothing else is under way
         self.assertNotIn("--", "".join(row[2] for row in self.window.notes))
-        self.window.offers.get_children()[1].clicked()
+        self.pressed("The point, as in 1.50")
         self.until(lambda: self.window.words == "--decimal point" and self.window.has_labels)
         self.assertEqual(self.window.made.labels.labels[0].label.record.label.price, "€1200.00")
+
+    def test_the_bar_closes_by_escape_and_the_list_keeps_what_it_said(self) -> None:
+        """The last twenty; what is good does not take the place of what went wrong with another."""
+        self.open()
+        for number in range(25):
+            self.window.events.show(bar.Event("info", str(number), about=number))
+        self.window.events.show(bar.Event("error", "broke off", about=1))
+        self.window.events.show(bar.Event("success", "printed", about=2))
+        self.assertEqual(self.said(), "broke off")
+        self.assertEqual(self.happened()[:3], ["printed", "broke off", "24"])
+        self.assertEqual(len(self.happened()), 20)
+        self.window.events.show(bar.Event("success", "printed after all", about=1))
+        self.assertEqual(self.said(), "printed after all")
+        self.pressed_key(Gdk.KEY_Escape)
+        self.assertEqual(self.said(), "")
+
+    def pressed_key(self, key: Any) -> None:
+        """Presses a key in the window."""
+        event = Gdk.Event.new(Gdk.EventType.KEY_PRESS)
+        event.window = self.window.get_window()
+        event.keyval = key
+        self.window.event(event)
+
+    def test_nothing_is_printed_before_the_answer(self) -> None:
+        """The page is shown; Enter answers, since the focus is on the first answer."""
+        rows = "96385074;Gum;1,20;0,80\n4006381333931;Pen;2,00;1,00\n"
+        self.open("EAN;Name;Preis A;Preis B\n" + rows)
+        self.until(lambda: self.window.has_labels)
+        self.assertFalse(self.window.print_button.is_sensitive())
+        self.assertIn("First answer", self.window.print_button.get_tooltip_text())
+        self.assertEqual(len(self.window.made.labels.labels), 2)
+        first, *_ = self.answers()
+        self.assertIs(self.window.get_focus(), self.answers()[first])
+        self.remade(lambda: self.pressed(first))
+        self.assertTrue(self.window.print_button.is_sensitive())
+
+    def tab(self) -> Any:
+        """The names of the controls of the panel that the Tab key reaches, in order."""
+        found: list[Any] = []
+        self.window.set_focus(None)
+        for _ in range(60):
+            self.window.child_focus(Gtk.DirectionType.TAB_FORWARD)
+            one = self.window.get_focus()
+            if one is None or one in found:
+                break
+            found.append(one)
+        names = [next(self.ids(one), "") for one in found if one.is_ancestor(self.window.panel)]
+        return [name for name in names if name]
+
+    def ids(self, widget: Any) -> Any:
+        """The ids of window.ui of a widget, and of what it is in, up to the panel."""
+        while widget is not self.window.panel:
+            name = Gtk.Buildable.get_name(widget)
+            if name and self.window.builder.get_object(name) is widget:
+                yield name
+            widget = widget.get_parent()
+
+    def test_the_keyboard_goes_down_the_panel(self) -> None:
+        """What is folded is left out; each control has a name."""
+        self.open()
+        of_label = ["code", "title", "price", "copies", "more_of_table"]
+        of_paper = ["to", "sheet", "roll", "stock", "first", "more_of_paper"]
+        self.assertEqual(self.tab(), [*of_label, *of_paper])
+        self.window.roll.set_active(True)
+        self.until(lambda: self.window.has_labels)
+        of_roll = ["to", "sheet", "roll", "width", "height", "more_of_paper"]
+        self.assertEqual(self.tab(), [*of_label, *of_roll])
+        self.window.more_of_table.set_expanded(True)
+        settle(0.3)
+        self.assertEqual(self.tab()[4:7], ["more_of_table", "text", "more"])
+
+    def test_the_panel_fits_a_low_screen(self) -> None:
+        """In each language, with a question; 1024 by 600 pixels leave 554 for it."""
+        code = "import test_window as t; t.load(); t.gtk.add_style(); one = t.window.Window(); "
+        code += "one.stack.set_visible_child_name('work'); one.present(); t.settle(0.3); "
+        code += (
+            "one.questions.ask('price', t.questions.which('price'), [('VK – 19,57', bool)] * 2); "
+        )
+        code += "t.settle(0.3); print(one.panel.get_preferred_height()[1], end=' '); "
+        code += "print(one.panel.get_preferred_width()[1])"
+        for language in ("en", "de", "fr"):
+            environment = support.speaking(language, self.folder / "locale")
+            how: Any = {"cwd": support.TESTS, "env": environment, "capture_output": True}
+            ran = subprocess.run([sys.executable, "-c", code], text=True, check=True, **how)
+            height, width = map(int, ran.stdout.split())
+            self.assertLessEqual(height, 554, language)
+            self.assertLessEqual(width, 420, language)
 
     def test_the_wheel_changes_no_choice(self) -> None:
         """It scrolls what the controls are in."""
         self.open()
+        self.window.more_of_paper.set_expanded(True)
+        settle(0.1)
         before = self.window.choices()
         for name in ("title", "design", "first"):
             control = self.window.control(name)
@@ -1034,10 +1144,9 @@ class WindowTest(Keeper):
     def test_offers_sheets_and_encodings(self) -> None:
         self.open("EAN;Name\n96385074;Füller, blau\n".encode("cp1252"))
         self.assertIn("choose what reads well", self.problem())
-        (offer,) = self.window.offers.get_children()
-        self.window.info.hide()
-        offer.clicked()
-        self.until(lambda: self.window.has_labels or self.problem())
+        self.assertEqual([*self.answers()], ["Füller"])
+        self.pressed("Füller")
+        self.until(lambda: self.window.has_labels)
         self.assertEqual(self.problem(), "")
         self.assertEqual(self.window.choices()["for-table"], "--encoding cp1252")
 
@@ -1121,8 +1230,8 @@ class WindowTest(Keeper):
         with mock.patch.object(ways, "save_to", save_here):
             self.window.ways.save(self.folder / "long.pdf")
             self.window.on_stop(None)
-            self.until(self.window.done.get_visible)
-        self.assertEqual(self.window.said.get_text(), "Stopped: nothing was printed")
+            self.until(self.said)
+        self.assertEqual(self.said(), "Stopped: nothing was printed")
         self.assertNotIn(threading.main_thread(), threads)
         self.assertEqual(list(self.folder.glob("*.pdf")), [])
         self.assertTrue(self.window.print_button.is_sensitive())

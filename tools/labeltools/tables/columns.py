@@ -205,12 +205,8 @@ def refuse_wide_name(place: int, name: str, row: Row) -> None:
     """Raises `ToolError` for a name that is merged over several columns."""
     for merge in row.merges:
         if merge.row == row.number and merge.place == place < merge.last_place:
-            what = Text(
-                "the name {} is over the columns {} to {}",
-                quoted(name),
-                place + 1,
-                merge.last_place + 1,
-            )
+            ends = place + 1, merge.last_place + 1
+            what = Text("the name {} is over the columns {} to {}", quoted(name), *ends)
             raise ToolError(what, Text("give the number of one of these columns"), BAD_ARGUMENTS)
 
 

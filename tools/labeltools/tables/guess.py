@@ -1,19 +1,19 @@
 """Guesses what the columns of a table are for, by their names and by what is in their cells. A
 window shows the guess, label-table proposes it, and the keeper of the shop decides.
 
-The plain name wins: a column that is named by nothing but a word for the thing, and has cells of
-that kind, is meant; what has another word beside it, which may be any one, is a price or a title of
-some kind. Where two are named so, the keeper is asked.
+The plain name wins: what has any other word beside that for the thing is a price or a title of some
+kind. Where two names are plain, the keeper is asked.
 """
 
 import re
 import unicodedata
-from collections.abc import Callable, Container, Iterator, Mapping, Sequence
+from collections.abc import Callable, Container, Iterable, Iterator, Mapping, Sequence
 from contextlib import suppress
 from dataclasses import dataclass, field, replace
 from enum import IntEnum
 from functools import cache, cached_property
 from itertools import islice, takewhile, zip_longest
+from os.path import commonprefix
 from pathlib import Path
 from typing import NamedTuple
 
@@ -53,8 +53,11 @@ HUMP = re.compile("(?<=[a-z]{2})(?=[A-Z])|(?<=[A-Z]{2})(?=[A-Z][a-z]{2})")  # as
 # letters that Unicode does not take apart, and one that is a letter of its own
 FOLDED = str.maketrans({**dict(zip("łøđðı", "loddi")), "å": "aa", "%": " percent "})
 MOST_IN_ONE = 4  # words that count as one
+SHORT = 5  # letters of a word that is never written as several
+MANY = 6  # names that begin alike by no chance
 SAMPLE = 300  # rows that are looked at
 PAID = ("prices", "taxed", "paid", "beside-prices")  # the words of a plain price
+CODES = ("codes", "own-numbers")
 TITLES = ("titles", "parts", "articles", "descriptions")
 
 
@@ -84,28 +87,36 @@ class Words:
 
 @cache
 def column_words() -> Mapping[str, Words]:
-    """Returns the words by their kinds, and those that are several in one by no kind."""
-    lists = lists_of(COLUMN_WORDS)
-    several = [word for words in lists.values() for word in words if "_" in word]
-    return {"": Words(several), **{kind: Words(words) for kind, words in lists.items()}}
+    """Returns the words by their kinds."""
+    return {kind: Words(words) for kind, words in lists_of(COLUMN_WORDS).items()}
+
+
+@cache
+def joined_words() -> Mapping[str, str]:
+    """Returns the words that may be written as several, by their letters."""
+    words = (word for kind in column_words().values() for word in kind.all if "-" not in word)
+    return {word.replace("_", ""): word for word in words if "_" in word or len(word) > SHORT}
 
 
 def words_in(name: str) -> Iterator[str]:
     """Yields the words of the name of a column; some that stand together are one.
 
-    >>> [*words_in("Prix de réf. (inkl. MwSt)")]
-    ['prix', 'de', 'ref', 'inkl_mwst']
+    >>> [*words_in("Prix de réf. (inkl. MwSt)")], [*words_in("Code à barres")]
+    (['prix', 'de', 'ref', 'inkl_mwst'], ['code_a_barres'])
     """
     words = re.findall(r"[^\W\d_]+", folded(HUMP.sub(" ", name)))
     while words:
-        both = ("_".join(words[:count]) for count in range(MOST_IN_ONE, 1, -1))
-        yield (found := next(filter(column_words()[""].has, both), words[0]))
-        del words[: found.count("_") + 1]
+        count = MOST_IN_ONE
+        while count > 1 and "".join(words[:count]) not in joined_words():
+            count -= 1
+        letters = "".join(words[:count])
+        yield joined_words().get(letters, letters)
+        del words[:count]
 
 
 class Plainness(IntEnum):
     """What the name of a column says beside the words for a thing: nothing, a number as `Price 2`,
-    words that names of other columns have, too, or that it is of some kind.
+    words that the name of the stock has, too, or that it is of some kind.
     """
 
     PLAIN = 0
@@ -116,9 +127,7 @@ class Plainness(IntEnum):
 
 @dataclass(frozen=True)
 class ColumnSample:
-    """A column: its name, its cells, and words of its name that say nothing, as they are in those
-    of others.
-    """
+    """A column: its name, its cells, and words of its name that are in that of the stock, too."""
 
     name: str
     cells: Sequence[str] = ()
@@ -167,25 +176,33 @@ class ColumnSample:
 
     @property
     def title_rank(self) -> tuple[int, Plainness]:
-        """How plainly its name says that it has titles: a name, a part of one, an article or a
-        description or a name of some kind, one of these of some kind, or nothing.
+        """How plainly its name says that it has titles: a name, a part of one, a name of some kind
+        or a description, the article's own before others; one of some kind; or nothing.
         """
         plainness = self.plainness(*TITLES, "beside-titles")
         is_plain = plainness is not Plainness.OF_SOME_KIND
-        if self.says("titles"):
-            return (0, plainness) if is_plain else (2, Plainness.PLAIN)
         if self.says("parts"):
             return 1, Plainness.PLAIN
-        if self.says("articles", "descriptions"):
-            return 2 if is_plain else 3, plainness
-        return 4, Plainness.OF_SOME_KIND
+        if self.says("titles") and is_plain:
+            return 0, plainness
+        if self.says("articles") and self.says("titles", "descriptions"):
+            return 2, Plainness.PLAIN
+        if self.says("titles"):
+            return 3, Plainness.PLAIN
+        if self.says(*TITLES):
+            return 3 if is_plain else 4, plainness
+        return 5, Plainness.OF_SOME_KIND
+
+    @property
+    def is_named_code(self) -> bool:
+        """Whether its name says that it has codes, and not that these are of something else."""
+        return bool(self.says(*CODES)) and not self.says("others")
 
     @property
     def code_rank(self) -> Plainness:
         """How plainly its name says that it has codes, or numbers of single things."""
-        is_named = self.says("codes", "own-numbers")
-        rank = self.plainness("codes", "own-numbers", "beside-codes")
-        return rank if is_named else Plainness.OF_SOME_KIND
+        is_named = self.is_named_code
+        return self.plainness(*CODES, "beside-codes") if is_named else Plainness.OF_SOME_KIND
 
     @property
     def price_rank(self) -> Plainness:
@@ -198,9 +215,8 @@ class ColumnSample:
 class Guess:
     """The names of the columns; their places, from 0, by the options of label-table; how each
     column may be read that may have the codes; the row of the names, 0 where there is none; a text
-    of each column; by the same options the columns of which only the keeper knows the right one,
-    and those that may be meant beside one that was found; the columns that others need, such as
-    that of the currency; how prices have to be written that are as programs write numbers.
+    of each column; the `doubts` that only the keeper can settle, and the `others` that may be meant
+    beside what was found; columns that belong to these; the format that the prices need, if any.
     """
 
     names: Sequence[str]
@@ -215,9 +231,7 @@ class Guess:
 
     @property
     def symbology(self) -> str:
-        """The symbology of the codes, or of the first column that may have them, as far as it is
-        sure.
-        """
+        """The symbology of the codes that may be meant first, as far as it is sure."""
         ways = next(iter(self.codes.values()), CodeReading())
         return AUTO if ways.problem else ways.rules[0].symbology
 
@@ -262,23 +276,18 @@ def guessed_header(rows: Sequence[Row]) -> Row:
     return next(names, wide[0][0])
 
 
-def guess(
-    columns: Sequence[Sequence[str]], header: int, hidden_places: Container[int] = ()
-) -> Guess:
+def guess(columns: Sequence[Sequence[str]], header: int, hidden: Container[int] = ()) -> Guess:
     """Returns a guess from columns, each with its name in front, which may be empty."""
     names = [name for name, *_ in columns]
-    filled = [
-        ColumnSample("") if at in hidden_places else ColumnSample(name, [*map(str.strip, cells)])
-        for at, (name, *cells) in enumerate(columns)
-    ]
-    filled = with_shared_words(filled)
+    seen = [("", *()) if at in hidden else one for at, one in enumerate(columns)]
+    filled = samples_of([name for name, *_ in seen], [[*map(str.strip, it)] for _, *it in seen])
     codes = code_columns(filled)
     prices = price_columns({at: one for at, one in enumerate(filled) if at not in codes.may_be})
     used = {*codes.may_be, *prices.may_be}
     others = {at: one for at, one in enumerate(filled) if at not in used}
     titles = title_columns(others, [one.cells for one in filled])
-    counts = {at for at, one in others.items() if passing_share(one.texts, COUNT.fullmatch) == 1}
-    of_copies = [at for at in sorted(counts) if others[at].says("copies")]
+    counts = [at for at, one in others.items() if passing_share(one.texts, COUNT.fullmatch) == 1]
+    of_copies = [at for at in counts if others[at].says("copies")]
     copies = Places(of_copies, of_copies[0] if len(of_copies) == 1 else None)
     kinds = {"code": codes, "title": titles, "price": prices, "copies": copies}
     found = {kind: one.surely for kind, one in kinds.items() if one.surely is not None}
@@ -294,19 +303,17 @@ def guess(
     return Guess(names, found, ways, header, examples, doubts, more, beside, price_as)
 
 
-def with_shared_words(columns: Sequence[ColumnSample]) -> list[ColumnSample]:
-    """Returns columns that know which words of their names are in those of others, too: the shop in
-    `Price Main Street` and `Stock Main Street`. A word that only prices have says which one it is.
+def samples_of(names: Sequence[str], cells: Iterable[Sequence[str]]) -> list[ColumnSample]:
+    """Returns columns by what is said in their names alone: not where all begin alike, nor the shop
+    in `Price Main Street` and `Stock Main Street`.
     """
-    beside = []
-    for one in columns:
-        known = one.says(*column_words())
-        is_price = one.says("prices", "priced", "sale", "cost", "net")
-        beside.append(one.words - known if known and not is_price else frozenset())
-    return [
-        replace(one, shared=frozenset().union(*beside[:at], *beside[at + 1 :]) & one.words)
-        for at, one in enumerate(columns)
-    ]
+    start = commonprefix([one for one in names if one])
+    if len(names) < MANY and start[-1:].isalpha() or names.count("") == len(names) - 1:
+        start = ""
+    found = [ColumnSample(name[len(start) :], texts) for name, texts in zip(names, cells)]
+    stocks = (one for one in found if one.says("stock"))
+    shop = frozenset().union(*(one.words - one.says(*column_words()) for one in stocks))
+    return [replace(one, shared=shop & one.words) for one in found]
 
 
 class Places(NamedTuple):
@@ -337,7 +344,7 @@ def code_columns(columns: Sequence[ColumnSample]) -> Places:
             sure[bare] = min(both, key=lambda it: columns[it].code_rank)
         elif one.code_rank is Plainness.PLAIN and one.differing == 1 and one.filled >= LEAST:
             own.append(at)
-    named = [at for at, one in enumerate(columns) if one.texts and one.says("codes", "own-numbers")]
+    named = [at for at, one in enumerate(columns) if one.texts and one.is_named_code]
     articles = [[*filter(ARTICLE.fullmatch, one.texts)] for one in columns]
     numbers = [
         at
@@ -360,24 +367,23 @@ def price_columns(columns: Mapping[int, ColumnSample]) -> Places:
     """Returns the columns that may have the price that customers pay: those that are named so, and
     those with amounts of money that are not named as something else. The one of the plainest name
     is sure if most rows have an amount in it, and none is for sale. Prices with tax are meant where
-    others do not say it; what is advised yields to another one with the same amounts.
+    others do not say it. What is advised yields to the same amounts, and is sure only alone.
     """
     may_be = {at: one for at, one in columns.items() if may_be_price(one)}
     paid = {at: one for at, one in may_be.items() if not one.says("cost", "net")}
     if not paid:
         return Places([*may_be], is_none=not any(one.says("net") for one in may_be.values()))
+    own = [one.texts for one in paid.values() if not one.says("advised")]
+    paid = {at: one for at, one in paid.items() if not (one.says("advised") and one.texts in own)}
     first = min(one.price_rank for one in paid.values())
     left = {at: one for at, one in paid.items() if one.price_rank is first or one.says("sale")}
-    own = [one.texts for one in left.values() if not one.says("advised")]
-    left = {at: one for at, one in left.items() if not (one.says("advised") and one.texts in own)}
     taxed = [at for at, one in left.items() if one.says("taxed") and not one.says("sale")]
     if taxed:
         left = {at: one for at, one in left.items() if at in taxed or one.says("sale", "advised")}
-    if len(left) != 1:
-        return Places([*may_be])
     at, one = next(iter(left.items()))
-    is_sure = first is not Plainness.OF_SOME_KIND and one.filled >= LEAST and one.has(is_amount)
-    return Places([*may_be], at if is_sure else None)
+    is_alone = len(left) == 1 and not (one.says("advised") and len(paid) > 1)
+    is_named = first is not Plainness.OF_SOME_KIND and one.filled >= LEAST and one.has(is_amount)
+    return Places([*may_be], at if is_alone and is_named else None)
 
 
 def may_be_price(column: ColumnSample) -> bool:
@@ -386,7 +392,7 @@ def may_be_price(column: ColumnSample) -> bool:
     """
     has_one = any(map(ABOVE_ZERO.search, column.texts))
     if column.says("prices", "priced"):
-        is_plain = column.price_rank is Plainness.PLAIN and not column.says("sale")
+        is_plain = column.price_rank is Plainness.PLAIN and not column.says("sale", "advised")
         return is_plain or has_one and passing_share(column.texts, is_amount) > 0
     return has_one and column.has(is_money) and not column.says("others", "stock")
 
@@ -394,8 +400,7 @@ def may_be_price(column: ColumnSample) -> bool:
 def title_columns(columns: Mapping[int, ColumnSample], cells: Sequence[Sequence[str]]) -> Places:
     """Returns the columns that may have the title: those that are named so, and those with another
     text in most rows. Those that say it most plainly are meant, and those that have it in far more
-    rows, but for variants; of a short and a long text the short one is sure. `cells` are those of
-    all columns.
+    rows, but for variants, as the cells of all columns say; of a short and a long text the first.
     """
     texts = {at: one for at, one in columns.items() if may_be_title(one)}
     first = min((one.title_rank for one in texts.values()), default=())
@@ -418,7 +423,7 @@ def may_be_title(column: ColumnSample) -> bool:
     if column.has(TAG.fullmatch):
         return False
     differs = column.differing >= LEAST and column.has(LETTERS.search)
-    return column.has(has_letters) and (differs or column.title_rank[0] in (0, 2))
+    return column.has(has_letters) and (differs or column.title_rank[0] in (0, 3))
 
 
 def has_letters(text: str) -> bool:

@@ -303,6 +303,7 @@ class TableRun:
         is_given = self.options.file.decimal is not None or self.options.prices.pattern
         if formatter.first_number and not is_given:
             text = Text("numbers are printed as {}: is that right?", quoted(formatter.first_number))
+            text = text.in_window(Text("How should numbers look?"))
             looks = [formatter.first_number.replace(*signs) for signs in (".,", ",.")]
             remedies = [
                 Remedy("decimal", sign, Text("{}", look))

@@ -9,7 +9,7 @@ from labeltools.common.arguments import Parser
 from labeltools.common.language import language
 from labeltools.common.messages import ToolError
 from labeltools.common.text import Text
-from labeltools.window.gtk import add_actions, Gio, GLib, Gtk
+from labeltools.window.gtk import add_actions, add_style, Gio, GLib, Gtk
 from labeltools.window.window import Window
 
 ID = "org.labels.Window"
@@ -34,6 +34,7 @@ class Application(Gtk.Application):
     def do_startup(self) -> None:
         """Adds what the keys do."""
         Gtk.Application.do_startup(self)
+        add_style()
         add_actions(self, {"help": self.help, "quit": self.end})
         for action, keys in KEYS.items():
             self.set_accels_for_action(action, [keys])

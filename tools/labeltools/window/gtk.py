@@ -2,7 +2,7 @@
 is not there.
 """
 
-from collections.abc import Callable, Iterator, Mapping
+from collections.abc import Callable, Iterator, Mapping, Sequence
 from typing import Any
 
 import gi
@@ -16,8 +16,26 @@ try:
 except ValueError as error:  # there is no such version
     raise ImportError(str(error)) from error
 
-__all__ = ["Gdk", "Gio", "GLib", "Gtk", "Pango", "add_actions", "within"]
+__all__ = ["Gdk", "Gio", "GLib", "Gtk", "Pango", "add_actions", "add_style", "within"]
 LETTERS = 14  # that a choice shows at least
+SHORT = 13  # letters of answers that are side by side
+# the colours of events and questions, of the desktop's theme; a list of choices opens as a list,
+# since a menu of them has arrows to scroll by where the window is low
+STYLE = b"""
+.is-success > revealer > box { background: mix(@theme_bg_color, @success_color, .28); }
+.is-info > revealer > box { background: mix(@theme_bg_color, @theme_selected_bg_color, .22); }
+.is-warning > revealer > box { background: mix(@theme_bg_color, @warning_color, .35); }
+.is-error > revealer > box { background: mix(@theme_bg_color, @error_color, .28); }
+infobar label, infobar image { color: @theme_fg_color; text-shadow: none; }
+.ask { background: mix(@theme_bg_color, @warning_color, .22); padding: 8px;
+  border: 1px solid @warning_color; border-radius: 4px; }
+.working { padding: 8px; background: mix(@theme_bg_color, @theme_selected_bg_color, .12); }
+button.fold:checked { background: none; border-color: transparent; box-shadow: none; }
+combobox { -GtkComboBox-appears-as-list: 1; }
+image.is-success { color: @success_color; }
+image.is-warning { color: @warning_color; }
+image.is-error { color: @error_color; }
+"""
 
 
 def add_actions(owner: Any, called: Mapping[str, Callable[..., object]], kind: str = "") -> None:
@@ -30,6 +48,16 @@ def add_actions(owner: Any, called: Mapping[str, Callable[..., object]], kind: s
             "activate", lambda _, value, call=call: call(*([value.unpack()] if kind else ()))
         )
         owner.add_action(action)
+
+
+def add_style() -> None:
+    """Adds the colours to those of the desktop."""
+    provider = Gtk.CssProvider()
+    provider.load_from_data(STYLE)
+    screen = Gdk.Screen.get_default()
+    Gtk.StyleContext.add_provider_for_screen(
+        screen, provider, Gtk.STYLE_PROVIDER_PRIORITY_APPLICATION
+    )
 
 
 def leave_wheel(control: Any, _event: Any) -> None:
@@ -65,6 +93,55 @@ class Report(Gtk.InfoBar):
         for part in within(self):
             if isinstance(part, Gtk.Button):
                 part.get_accessible().set_name(_("Close"))
+
+
+class Question(Gtk.Box):
+    """A question below a control, with its answers as buttons."""
+
+    __gtype_name__ = "LabelsQuestion"
+
+    def __init__(self, **properties: Any) -> None:
+        super().__init__(**properties)
+        self.set_properties(orientation=Gtk.Orientation.VERTICAL, spacing=6, no_show_all=True)
+        self.get_style_context().add_class("ask")
+        self.text = Gtk.Label(xalign=0, wrap=True, max_width_chars=30, width_chars=20)
+        self.answers = Gtk.Box(spacing=6, homogeneous=True)
+        icon = Gtk.Image(icon_name="dialog-question-symbolic", valign=Gtk.Align.START)
+        line = Gtk.Box(spacing=8)
+        for box, part in ((line, icon), (line, self.text), (self, line), (self, self.answers)):
+            box.add(part)
+            part.show()
+
+    def ask(self, text: str, answers: Sequence[tuple[str, Callable[[], object]]]) -> None:
+        """Asks, with a button for each answer."""
+        self.text.set_text(text)
+        self.answers.foreach(Gtk.Widget.destroy)
+        is_short = all(len(shown) <= SHORT for shown, _ in answers) and len(answers) < 3
+        kind = Gtk.Orientation.HORIZONTAL if is_short else Gtk.Orientation.VERTICAL
+        self.answers.set_orientation(kind)
+        for shown, act in answers:
+            label = Gtk.Label(label=shown, ellipsize=Pango.EllipsizeMode.END, max_width_chars=30)
+            button = Gtk.Button(child=label)
+            button.connect("clicked", lambda _button, act=act: act())
+            self.answers.add(button)
+            button.show_all()
+        self.show()
+
+
+class Fold(Gtk.Expander):
+    """Controls behind a line that opens them. GTK leaves those of a closed one in the order of the
+    Tab key, unless they are hidden.
+    """
+
+    __gtype_name__ = "LabelsFold"
+
+    def __init__(self, **properties: Any) -> None:
+        super().__init__(**properties)
+        self.connect("notify::expanded", lambda fold, _property: fold.refold())
+
+    def refold(self) -> None:
+        """Shows what is in it, or hides that."""
+        self.get_child().set_visible(self.get_expanded())
 
 
 class Number(Gtk.SpinButton):
@@ -111,7 +188,7 @@ class Heading(Gtk.Label):
     def __init__(self, **properties: Any) -> None:
         super().__init__(**properties)
         self.set_xalign(0)
-        self.set_margin_top(10)
+        self.set_margin_top(2)
         bold = Pango.AttrList()
         bold.insert(Pango.attr_weight_new(Pango.Weight.BOLD))
         self.set_attributes(bold)

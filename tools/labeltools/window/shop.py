@@ -13,7 +13,7 @@ from typing import Any
 
 from labeltools.commands import label_print as print_command, label_table as table_command
 from labeltools.common.arguments import words_of
-from labeltools.common.messages import Cancelled, Origin, quoted, ToolError
+from labeltools.common.messages import Cancelled, Origin, ToolError
 from labeltools.common.process import read_input
 from labeltools.common.report import LeftOut
 from labeltools.common.text import NOTHING, Remedy, Text
@@ -30,12 +30,6 @@ from labeltools.window import memory
 from labeltools.window.memory import FILES, TABLES
 
 COLUMNS = ("code", "title", "text", "text-2", "price", "unit-price", "old-price", "copies")
-OF_KINDS = {
-    "code": Text("the code"),
-    "title": Text("the title"),
-    "price": Text("the price"),
-    "copies": Text("the number of labels"),
-}
 PAPER = ("sheet", "roll", "stock", "width", "height", "design", "to", "dpi", "address")
 WAITING = ".waiting"  # what a file of lines ends with whose job is not over
 PATTERNS = ("0,00 €", "€0.00", "£0.00", "$0.00", "CHF 0.00", "0,00 kr", "0,00 zł")  # of prices
@@ -139,11 +133,6 @@ class Table:
 
     def made(self, choices: Choices, talk: WindowTalk) -> MadeLabels:
         """Returns what is made by choices; raises `ToolError` and `OSError`."""
-        for kind, places in self.guess.doubts.items():
-            if choices[kind] is None:
-                named = ", ".join(quoted(self.guess.names[at] or str(at + 1)) for at in places)
-                hint = Text("choose its column")
-                raise ToolError(Text("{} may be in: {}", OF_KINDS[kind], named), hint)
         to_print = print_words(choices)
         options = print_command.print_options(to_print)
         job = planned(options)

@@ -9,6 +9,7 @@ from dataclasses import replace
 from functools import partial
 from pathlib import Path
 from typing import Any
+from urllib.parse import quote
 
 from labeltools.common.language import _
 from labeltools.common.messages import ToolError
@@ -25,7 +26,15 @@ from labeltools.sending.cups import (
     SentJob,
 )
 from labeltools.sending.network import address_of, SCHEME
-from labeltools.sending.sender import labels_text, print_on, save_to, send_to
+from labeltools.sending.sender import (
+    labels_on_pages,
+    labels_text,
+    print_on,
+    save_to,
+    send_to,
+    Unfinished,
+)
+from labeltools.window.bar import Answer, ERROR, Event, INFO, SUCCESS, WARNING
 from labeltools.window.dialog import ask_printer, Chosen
 from labeltools.window.gtk import Gdk, GLib, Gtk
 from labeltools.window.memory import PRINTERS
@@ -35,7 +44,8 @@ USB = Path("/dev/usb")  # has the printers on USB
 QUEUE = "queue"  # the name by which the last one is kept
 MANY = 1000  # labels above it are asked for before they are printed
 WATCH = 2000  # milliseconds between two looks at a job of CUPS
-Sent = tuple[SentJob | None, Text]  # a job of CUPS, and what is reported of the labels
+Sent = tuple[SentJob | None, Text, int]  # a job of CUPS, what is reported, and of how many labels
+PAGE = "http://localhost:631/printers/"  # of a queue, in the pages of CUPS
 
 
 class WaysOut:
@@ -43,10 +53,8 @@ class WaysOut:
 
     def __init__(self, window: Any) -> None:
         self.window = window
-        self.reports: dict[SentJob | None, str] = {}  # of the last job, and of those before it
-        self.over: list[SentJob | None] = []  # jobs whose reports go when the next one is sent
-        self.wrong: set[SentJob | None] = set()  # jobs that are not printed as it is now
         self.waiting: dict[SentJob, tuple[Table, Path]] = {}  # jobs whose labels may be printed
+        self.told: dict[SentJob, str] = {}  # what was said of each last
 
     def send(
         self,
@@ -66,23 +74,17 @@ class WaysOut:
         """Says which labels went out, and from then on what becomes of a job of CUPS. Keeps them,
         those of a job once it is printed; but not if pages were chosen: these may be a trial.
         """
-        job, text = sent
+        job, text, count = sent
         if not is_all:
             text = Text("{}; pages were chosen, so these labels do not count as printed", text)
         elif job is None:
             table.keep_printed(made)
         else:
             self.waiting[job] = table, table.keep_waiting(made, job)
-        while self.over:
-            old = self.over.pop()
-            self.reports.pop(old, None)
-            self.wrong.discard(old)
-        self.report(job, translated(text))
-        if job is None:
-            self.over.append(job)
-        else:
+        self.report(INFO, text, job)
+        if job is not None:
             PRINTERS.keep(QUEUE, job.queue)
-            self.watch(job, translated(text), "")
+            self.watch(job, count)
 
     def look_back(self, table: Table) -> None:
         """Says which jobs of a table are not over since a window was closed, and looks at them; of
@@ -92,22 +94,28 @@ class WaysOut:
             if job in self.waiting:
                 continue
             self.waiting[job] = table, path
-            sent = translated(Text("job {} of {}, which was sent before", job.number, job.queue))
             future = self.window.work.thread.submit(job.state)
-            future.add_done_callback(partial(GLib.idle_add, self.look_again, job, sent))
+            future.add_done_callback(partial(GLib.idle_add, self.look_again, job))
 
-    def look_again(self, job: SentJob, sent: str, future: "Future[JobState]") -> None:
+    def look_again(self, job: SentJob, future: "Future[JobState]") -> None:
         """Looks at a job that was sent before, or asks the keeper what became of it."""
         if future.exception() is None:
-            self.report(job, sent)
-            self.show_state(job, sent, "", future)
+            self.report(
+                INFO, Text("job {} of {}, which was sent before", job.number, job.queue), job
+            )
+            self.show_state(job, 0, future)
         elif self.window.get_visible():
+            sent = Text("job {} of {}, which was sent before", job.number, job.queue)
             what = Text("{}: CUPS does not know whether it was printed", sent)
-            answers = [
-                (_("It is on paper"), lambda: self.end(job, True)),
-                (_("It is not"), lambda: self.end(job, False)),
-            ]
-            self.window.show_problem(ToolError(what), answers)
+            ask = partial(self.ask_of_job, job, translated(what))
+            self.report(WARNING, what, job, (_("Was it printed?"), ask))
+
+    def ask_of_job(self, job: SentJob, text: str) -> None:
+        """Asks whether a job was printed."""
+        answers = {True: _("It is on paper"), False: _("It is not")}
+        is_printed = self.window.asked_in_dialog(text, answers)
+        if is_printed is not None:
+            self.end(job, is_printed)
 
     def end(self, job: SentJob, is_printed: bool) -> None:
         """Counts the labels of a job as printed, or forgets them."""
@@ -115,32 +123,32 @@ class WaysOut:
             table, path = self.waiting.pop(job)
             table.end_waiting(path, is_printed)
 
-    def report(self, job: SentJob | None, text: str, is_wrong: bool = False) -> None:
-        """Keeps the report of a job, and shows all that are kept, that of the newest job first."""
-        self.reports[job] = text
-        (self.wrong.add if is_wrong else self.wrong.discard)(job)
-        self.window.tell("\n".join([*self.reports.values()][::-1]), bool(self.wrong))
+    def report(
+        self, kind: str, text: Text, job: SentJob | None = None, answer: Answer | None = None
+    ) -> None:
+        """Says what happened to labels."""
+        self.window.events.show(Event(kind, translated(text), answer, job))
 
-    def watch(self, job: SentJob, sent: str, before: str) -> None:
-        """Looks at a job, and shows what CUPS reports of it if that is other than before."""
+    def watch(self, job: SentJob, count: int) -> None:
+        """Looks at a job."""
         future = self.window.work.thread.submit(job.state)
-        future.add_done_callback(partial(GLib.idle_add, self.show_state, job, sent, before))
+        future.add_done_callback(partial(GLib.idle_add, self.show_state, job, count))
 
-    def show_state(self, job: SentJob, sent: str, before: str, future: "Future[JobState]") -> None:
-        """Shows what CUPS reports of a job, and looks again until it is over."""
+    def show_state(self, job: SentJob, count: int, future: "Future[JobState]") -> None:
+        """Shows what CUPS reports of a job of some labels if that is new, and looks again until it
+        is over.
+        """
         if future.exception() is not None or not self.window.get_visible():
             return
         state = future.result()
-        is_known = state.is_over or state.is_waiting
-        text = translated(state.told if is_known else state.trouble) or state.said
-        if text != before:
-            is_wrong = bool(is_known and not state.is_printed or state.trouble)
-            self.report(job, "\n".join(filter(None, (sent, text))), is_wrong)
+        event = event_of(job, count, state)
+        if event is not None and self.told.get(job) != event.sentence:
+            self.told[job] = event.sentence
+            self.window.events.show(event)
         if state.is_over:
-            self.over.append(job)
             self.end(job, state.is_printed)
         else:
-            GLib.timeout_add(WATCH, self.watch, job, sent, text)
+            GLib.timeout_add(WATCH, self.watch, job, count)
 
     def is_meant(self) -> bool:
         """Returns whether labels are meant, which is asked for where they are many."""
@@ -160,7 +168,8 @@ class WaysOut:
 
         def way(labels: Prepared, talk: WindowTalk) -> Sent:
             save_to(labels, path, talk)
-            return None, Text("{} saved as {}", labels_text(len(labels.prints)), path.name)
+            count = len(labels.prints)
+            return None, Text("{} saved as {}", labels_text(count), path.name), count
 
         self.send(way)
 
@@ -193,7 +202,12 @@ class WaysOut:
             self.window.make(problem=ToolError(what, Text("check them, and print again")))
         else:
             is_all = PAGES.isdisjoint(chosen)
-            self.send(lambda labels, talk: print_on(labels, queue, talk, chosen), is_all)
+
+            def way(labels: Prepared, talk: WindowTalk) -> Sent:
+                sent, text = print_on(labels, queue, talk, chosen)
+                return sent, text, labels_on_pages(labels.job, len(labels.prints), chosen)
+
+            self.send(way, is_all)
 
     def ask_way(self, names: list[str]) -> None:
         """Asks for a printer for the file of a printer's own language."""
@@ -205,6 +219,24 @@ class WaysOut:
             menu.append(item)
         south = Gdk.Gravity.SOUTH_WEST
         menu.popup_at_widget(self.window.print_button, south, Gdk.Gravity.NORTH_WEST, None)
+
+    def ask_to_go_on(self, problem: Unfinished) -> None:
+        """Sends the rest of the labels to a printer that took some of them. Whether the next one is
+        on paper is asked where that is in doubt.
+        """
+        done = problem.done
+        if problem.is_doubtful:
+            text = _("Is label {number} on paper?").format(number=done + 1)
+            yes = _("Yes, go on with {number}").format(number=done + 2)
+            is_there = self.window.asked_in_dialog(text, {True: yes, False: _("No, print it")})
+            if is_there is None:
+                return
+            done += is_there
+        labels = self.window.made.labels
+        if done - labels.job.options.after < len(labels.prints):
+            self.go_on(problem.printer, done)
+        else:
+            self.window.table.keep_printed(self.window.made)
 
     def go_on(self, printer: str, done: int) -> None:
         """Sends the labels of a job to a printer that took some of them, behind these."""
@@ -222,7 +254,7 @@ class WaysOut:
 
         def way(labels: Prepared, talk: WindowTalk) -> Sent:
             talk.is_direct = True
-            return None, send_to(labels, printer, talk, talk.stops)
+            return None, send_to(labels, printer, talk, talk.stops), len(labels.prints)
 
         if is_direct(printer):
             self.send(way, labels=labels)
@@ -247,6 +279,24 @@ def confirmed(dialog: Any) -> bool:
     answer = dialog.run()
     dialog.hide()
     return bool(answer == Gtk.ResponseType.OK)
+
+
+def event_of(job: SentJob, count: int, state: JobState) -> Event | None:
+    """Returns what there is to say of a job of some labels (0: not known) in a state; nothing while
+    it goes on.
+    """
+    labels = labels_text(count) if count else Text("job {}", job.number)
+    if state.is_printed:
+        return Event(SUCCESS, translated(Text("{}: printed on {}", labels, job.queue)), None, job)
+    if state.is_over:
+        text = Text("{}: not printed: {}", labels, state.trouble)
+        return Event(ERROR, translated(text), None, job)
+    if state.is_waiting or state.trouble:
+        reason = state.trouble or Text("{}: {}", job.queue, state.said)
+        show = partial(Gtk.show_uri_on_window, None, PAGE + quote(job.queue), Gdk.CURRENT_TIME)
+        text = Text("{}: waiting in the queue: {}", labels, reason)
+        return Event(WARNING, translated(text), (_("Show the queue"), show), job)
+    return None
 
 
 def printers(is_roll: bool, _talk: WindowTalk) -> list[str]:

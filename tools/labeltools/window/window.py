@@ -2,7 +2,7 @@
 printed, and the rows that are left out. Its widgets are those of window.ui.
 """
 
-from collections.abc import Callable, Iterable, Iterator, Sequence
+from collections.abc import Iterable, Iterator, Mapping, Sequence
 from contextlib import contextmanager, suppress
 from functools import partial
 from pathlib import Path
@@ -24,10 +24,11 @@ from labeltools.layout.area import ARTICLE
 from labeltools.paper.stock import list_stock
 from labeltools.printing.press import check_count
 from labeltools.sending.sender import Unfinished
-from labeltools.tables.prices import DECIMAL_HINT
-from labeltools.window.gtk import add_actions, Gdk, Gio, GLib, Gtk
+from labeltools.window.bar import Bar, ERROR, Event, INFO
+from labeltools.window.gtk import add_actions, Caption, Gdk, Gio, GLib, Gtk
 from labeltools.window.presets import Presets
 from labeltools.window.preview import Preview
+from labeltools.window.questions import Answers, asked_at, CENTS, Questions, which
 from labeltools.window.shop import (
     Choices,
     COLUMNS,
@@ -49,11 +50,11 @@ CONTROLS = {
     **dict.fromkeys(("sheet", "roll", "new-only"), "active"),
 }
 RANGES = {"header-row": (0, 1000), "first": (1, 10_000), "width": (5, 500), "height": (5, 500)}
-Answers = Sequence[tuple[str, Callable[[], object]]]  # what buttons show, and do
 HEADERS = {"no-header": ("header-row", "0"), "header": ("header-row", "1")}
 A_FILE = "file"  # the choice of a design in a file
 MOST_NOTES = 2000
-MOST_HELPS = 3  # buttons below the notes
+MOST_HELPS = 3  # buttons above the notes
+LOW = 700  # pixels of a window in which the list of notes is closed at first
 USUAL_DPI = {"zpl": "203", "escpos": "203"}  # of the printers of these languages
 LEAST_WRAP = 150  # pixels in which reasons are wrapped
 WRAP_MARGIN = 20  # pixels of the list beside the reasons
@@ -78,9 +79,12 @@ class Window(Gtk.ApplicationWindow):
         self.last_design = ARTICLE.name
         self.has_labels = False  # that are chosen
         self.is_filling = False  # controls, for labels that are made then
+        self.is_new = False  # a table, whose labels were not shown yet
         self.builder = Gtk.Builder()
         text = FILE.read_bytes()
         self.builder.extend_with_template(self, self.__gtype__, text.decode(), len(text))
+        self.events = Bar(self)
+        self.questions = Questions(self)
         self.work = Work(self)
         self.ways = WaysOut(self)
         self.presets = Presets(self)
@@ -95,12 +99,25 @@ class Window(Gtk.ApplicationWindow):
         )
         self.builder.connect_signals(self)
         self.let_out(False)
+        self.set_up()
+
+    def set_up(self) -> None:
+        """Sets up what window.ui does not say."""
         for name, (lowest, highest) in RANGES.items():
             self.control(name).set_range(lowest, highest)
         for part in (self.head, self.get_child()):
             part.show_all()
-        for part in (self.info, self.done, self.guessed, self.result, self.working):
+        for part in (self.bar, self.notes_box, self.result, self.working):
             part.foreach(Gtk.Widget.show_all)  # but not the part itself
+        for fold in (self.more_of_table, self.more_of_paper):
+            fold.refold()
+        self.names_width = Gtk.SizeGroup(mode=Gtk.SizeGroupMode.HORIZONTAL)
+        for one in (*self.of_label.get_children(), *self.of_paper.get_children()):
+            if isinstance(one, Caption):
+                self.names_width.add_widget(one)
+        self.roll.connect("toggled", self.fit_paper)
+        self.fit_paper()
+        self.connect_after("key-press-event", self.on_key)
         self.completion.set_match_func(lambda *_: True)
         self.drag_dest_set(Gtk.DestDefaults.ALL, [], Gdk.DragAction.COPY)
         self.drag_dest_add_uri_targets()
@@ -113,7 +130,13 @@ class Window(Gtk.ApplicationWindow):
         return found
 
     def let_out(self, is_ready: bool) -> None:
-        """Lets labels go out, or not; while they go out nothing else is chosen."""
+        """Lets labels go out, or not, as while something is asked; while they go out nothing else
+        is chosen.
+        """
+        is_asked = self.questions.is_open
+        is_ready = is_ready and not is_asked
+        hint = _("First answer the question at the left") if is_asked else None
+        self.print_button.set_tooltip_text(hint)
         is_idle = not self.work.talk.is_sending
         self.stack.set_sensitive(is_idle)
         for name in ("open", "preset"):
@@ -135,20 +158,28 @@ class Window(Gtk.ApplicationWindow):
                 self.sheets.append([line.partition(": ")[0], line])
 
     def show_problem(self, problem: ToolError, answers: Answers = ()) -> None:
-        """Says why something cannot be done, and offers what helps, a button for each: its
-        remedies, and what each of some answers does.
+        """Says why something cannot be done, and what helps: one thing by a button beside it,
+        several as a question, below the control that they are about, or in place of the page if
+        the table is not read.
         """
-        self.problem.set_text(said(problem.what, problem.hint))
-        ways = self.ways_on(problem)
-        self.offer(self.offers, [*self.remedies([problem.hint]), *ways, *answers])
-        self.info.show()
+        remedies = [one for one in remedies_of(problem.hint) if one.says and one.option != "after"]
+        found = [*self.remedies([problem.hint]), *self.ways_on(problem), *answers]
+        places = [*filter(None, (asked_at(one.option) for one in remedies))]
+        if self.table is None and remedies:
+            hint = said(NOTHING, problem.hint)
+            self.questions.ask_of_file(said(problem.what), hint, found)
+        elif len(found) > 1 and places:
+            self.questions.ask(places[0], said(problem.what, problem.hint), found)
+        else:
+            text = said(problem.what, problem.hint)
+            self.events.show(Event(ERROR, text, found[0] if found else None))
 
     def offer(self, box: Any, answers: Answers) -> None:
         """Offers answers in a box, a button for each."""
         box.foreach(Gtk.Widget.destroy)
         for shown, act in answers:
             button = Gtk.Button(label=shown, visible=True)
-            button.connect("clicked", self.on_answer, act)
+            button.connect("clicked", lambda _button, act=act: act())
             box.add(button)
 
     def remedies(self, texts: Iterable[Text]) -> Answers:
@@ -171,28 +202,37 @@ class Window(Gtk.ApplicationWindow):
         """Returns how labels go on that a printer took some of."""
         if not isinstance(problem, Unfinished):
             return []
-        next_ones = [problem.done, problem.done + 1] if problem.is_doubtful else [problem.done]
+        text = _("Go on with label {number}").format(number=problem.done + 1)
         count = len(self.made.labels.prints) + self.made.labels.job.options.after
-        return [
-            (
-                _("Go on with label {number}").format(number=done + 1),
-                partial(self.ways.go_on, problem.printer, done),
-            )
-            for done in next_ones
-            if done < count
-        ]
+        is_some = problem.done < count
+        return [(text, partial(self.ways.ask_to_go_on, problem))] if is_some else []
 
-    def on_answer(self, _button: Any, act: Callable[[], object]) -> None:
-        """Does what is chosen, and hides the question."""
-        self.info.hide()
-        act()
+    def asked_in_dialog(self, text: str, answers: Mapping[bool, str]) -> bool | None:
+        """Asks in a dialog; returns what was answered, None if it was closed."""
+        dialog = Gtk.MessageDialog(
+            transient_for=self, modal=True, message_type=Gtk.MessageType.QUESTION, text=text
+        )
+        for answer, shown in answers.items():
+            dialog.add_button(shown, int(answer))
+        found = dialog.run()
+        dialog.destroy()
+        return bool(found) if found in (0, 1) else None
 
-    def tell(self, text: str, is_wrong: bool = False) -> None:
-        """Tells what became of labels."""
-        self.said.set_text(text)
-        kind = Gtk.MessageType.WARNING if is_wrong else Gtk.MessageType.INFO
-        self.done.set_message_type(kind)
-        self.done.show()
+    def tell(self, text: str) -> None:
+        """Tells what happened that is neither good nor bad."""
+        self.events.show(Event(INFO, text))
+
+    def on_key(self, _window: Any, event: Any) -> bool:
+        """Closes the bar by Escape, where nothing else takes that key."""
+        return bool(event.keyval == Gdk.KEY_Escape and self.events.hide())
+
+    def fit_paper(self, _roll: Any = None) -> None:
+        """Shows what a sheet is chosen by, or a roll."""
+        is_roll = self.roll.get_active()
+        for part in (self.size, self.size_caption):
+            part.set_visible(is_roll)
+        for part in (self.stock, self.first, *self.first.list_mnemonic_labels()):
+            part.set_visible(not is_roll)
 
     def on_destroy(self, _window: Any) -> None:
         """Ends work."""
@@ -231,8 +271,9 @@ class Window(Gtk.ApplicationWindow):
             self.columns.clear()
             self.price_as.remove_all()
             self.take({"for-table": self.words, "symbology": None})  # nothing is read yet
-        for part in (self.guessed, self.new_only, self.result):
+        for part in (self.new_only, self.result):
             part.hide()
+        self.questions.clear()
         self.head.set_subtitle(path.name)
         self.stack.set_visible_child_name("work")
         doing = _("reading {file}…").format(file=path.name)
@@ -242,6 +283,7 @@ class Window(Gtk.ApplicationWindow):
         """Makes the labels of a table that was read."""
         with self.filling():
             self.fill(table)
+        self.is_new = self.table is None and not self.chosen
         self.table = table
         Gtk.RecentManager.get_default().add_item(table.path.absolute().as_uri())
         self.make()
@@ -266,7 +308,6 @@ class Window(Gtk.ApplicationWindow):
         self.text_2.set_visible(self.choices()["text-2"])
         self.words = table.text
         self.take({"for-table": self.words, "header-row": guess.header})
-        self.guessed.set_visible(not table.kept)
         since = table.printed_on()
         text = _("Only what is _new or changed since {date}").format(date=since)
         self.new_only.set_label(text)
@@ -294,9 +335,28 @@ class Window(Gtk.ApplicationWindow):
         if self.table is not None and not self.is_filling:
             self.has_labels = False
             self.chosen = self.choices()
+            self.questions.clear()
+            for kind, places in self.table.guess.doubts.items():
+                if self.chosen[kind] is None:
+                    self.ask_column(self.table, kind, places)
+            if self.chosen["code"] is None:
+                self.questions.focus()
+                return
             work = partial(self.table.made, self.chosen)
             doing = _("reading {file}…").format(file=self.table.path.name)
             self.work.start(work, partial(self.show_labels, problem), doing)
+
+    def ask_column(self, table: Table, kind: str, places: Sequence[int]) -> None:
+        """Asks which of some columns has something: only the keeper knows."""
+        guess = table.guess
+        answers = [
+            (
+                with_example(guess.names[place] or str(place + 1), guess.examples[place]),
+                partial(self.control(kind).set_active_id, str(place + 1)),
+            )
+            for place in places
+        ]
+        self.questions.ask(kind, which(kind), answers)
 
     def on_price(self, _price: Any) -> None:
         """Makes the labels with the prices of another column, which are printed as they are."""
@@ -376,27 +436,49 @@ class Window(Gtk.ApplicationWindow):
         self.command.set_text(made.command)
         self.count.set_text(translated(made.summary))
         self.notes.clear()
-        for note in made.notes[:MOST_NOTES]:
+        asked = [one for one in made.notes if is_of_signs(one.hint)]
+        notes = [one for one in made.notes if one.origin or one not in asked]
+        for note in notes[:MOST_NOTES]:
             row = str(note.origin.number) if note.origin else ""
             self.notes.append([row, note.data, said(note.reason, note.hint)])
-        text = translated(counted("{} row is skipped", "{} rows are skipped", made.left_out))
-        self.left_out.set_text(text if made.left_out else _("Please look at this"))
-        self.below.set_visible(made.notes)
+        hints = [note.hint for note in notes if note not in asked]
+        self.offer(self.helps, self.remedies(hints)[:MOST_HELPS])
+        self.helps.set_visible(self.helps.get_children())
+        self.show_left_out(notes, made.left_out)
         self.show_view()
         self.result.show()
-        hints = [note.hint for note in made.notes]
-        self.offer(self.helps, self.remedies(hints)[:MOST_HELPS])
-        is_asked = DECIMAL_HINT in hints
-        if is_asked:
-            self.show_problem(ToolError(Text("which sign has the cents?"), DECIMAL_HINT))
-        if made.labels.prints or not is_asked:
+        if asked:
+            first = asked[0]
+            text = translated(CENTS) if first.origin else said(first.reason)
+            self.questions.ask("price", text, self.remedies([first.hint]))
+        if made.labels.prints or not asked:
             check_count(made.labels.job, made.labels.prints)
             self.has_labels = True
-            self.let_out(True)
+        self.let_out(self.has_labels)
+        if self.is_new:
+            self.is_new = False
+            self.questions.focus()
         if problem is not None:
             self.show_problem(problem)
         if self.table is not None:
             self.ways.look_back(self.table)
+
+    def show_left_out(self, notes: Sequence[Any], count: int) -> None:
+        """Shows how many rows are left out, with their list where there is room for it."""
+        text = translated(counted("{} row is left out", "{} rows are left out", count))
+        self.left_out.set_text(text if count else _("Please look at this"))
+        name = "dialog-warning-symbolic" if count else "dialog-information-symbolic"
+        self.left_out_icon.set_from_icon_name(name, Gtk.IconSize.BUTTON)
+        self.below.set_visible(notes)
+        self.fold.set_active(self.get_size()[1] > LOW)
+        self.on_fold(self.fold)
+
+    def on_fold(self, fold: Any) -> None:
+        """Shows the list of what is left out, or hides it."""
+        is_open = fold.get_active()
+        self.notes_box.set_visible(is_open)
+        name = "pan-down-symbolic" if is_open else "pan-end-symbolic"
+        self.fold_icon.set_from_icon_name(name, Gtk.IconSize.BUTTON)
 
     def redraw(self, _number: Any) -> None:
         """Draws the view again."""
@@ -453,6 +535,11 @@ class Window(Gtk.ApplicationWindow):
             if is_header or control.get_text() != self.words:
                 header = control.get_value_as_int() if is_header else None
                 self.open(self.path, header, is_again=True)
+
+
+def is_of_signs(hint: Text) -> bool:
+    """Returns whether a hint is about the signs of prices, of which only the keeper knows."""
+    return any(one.option == "decimal" for one in remedies_of(hint))
 
 
 def said(what: Text, hint: Text = NOTHING) -> str:

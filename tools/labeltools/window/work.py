@@ -36,8 +36,7 @@ class Work:
         """Does work, and then something with what came of it; nothing goes out until then."""
         self.talk.stop()
         self.talk = WindowTalk(doing, is_sending)
-        self.window.info.hide()
-        self.window.done.hide()
+        self.window.events.hide()
         self.window.working.hide()
         self.window.let_out(False)
         future = self.thread.submit(work, self.talk)

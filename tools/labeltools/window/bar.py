@@ -1,0 +1,91 @@
+"""What happened: one bar with the newest event, and a list of those before it behind a clock."""
+
+import time
+from collections.abc import Callable
+from dataclasses import dataclass
+from typing import Any
+
+from labeltools.window.gtk import Gtk
+
+MOST_EVENTS = 20  # in the list
+ERROR, WARNING, SUCCESS, INFO = "error", "warning", "success", "info"
+# the type of its bar, and its icon
+KINDS = {
+    ERROR: (Gtk.MessageType.ERROR, "dialog-error-symbolic"),
+    WARNING: (Gtk.MessageType.WARNING, "dialog-warning-symbolic"),
+    SUCCESS: (Gtk.MessageType.OTHER, "emblem-ok-symbolic"),
+    INFO: (Gtk.MessageType.INFO, "dialog-information-symbolic"),
+}
+BAD = (ERROR, WARNING)
+Answer = tuple[str, Callable[[], object]]  # what a button shows, and does
+
+
+@dataclass(frozen=True)
+class Event:
+    """What happened: its kind, a sentence, what helps if one thing does, and what it is about, such
+    as a job.
+    """
+
+    kind: str
+    sentence: str
+    answer: Answer | None = None
+    about: object = None
+
+
+class Bar:
+    """The bar of a window, and the list of events."""
+
+    def __init__(self, window: Any) -> None:
+        self.window = window
+        self.event: Event | None = None  # the one that is shown
+        window.bar_act.connect("clicked", lambda _button: self.act())
+
+    def show(self, event: Event) -> None:
+        """Shows an event. One that is bad stays until it is closed or work begins: what is good
+        about something else is only listed.
+        """
+        self.list(event)
+        shown = self.event if self.window.bar.get_visible() else None
+        is_other = shown is not None and shown.about not in (None, event.about)
+        if is_other and shown is not None and shown.kind in BAD and event.kind not in BAD:
+            return
+        self.event = event
+        kind, icon = KINDS[event.kind]
+        self.window.bar.set_message_type(kind)
+        style = self.window.bar.get_style_context()
+        for name in KINDS:
+            (style.add_class if name == event.kind else style.remove_class)(f"is-{name}")
+        self.window.bar_icon.set_from_icon_name(icon, Gtk.IconSize.BUTTON)
+        self.window.bar_text.set_text(event.sentence)
+        self.window.bar_act.set_visible(event.answer)
+        if event.answer:
+            self.window.bar_act.set_label(event.answer[0])
+        self.window.bar.show()
+
+    def hide(self) -> bool:
+        """Closes the bar; returns whether it was there."""
+        was_there = bool(self.window.bar.get_visible())
+        self.window.bar.hide()
+        return was_there
+
+    def act(self) -> None:
+        """Does what helps, and closes the bar."""
+        answer = self.event.answer if self.event else None
+        self.hide()
+        if answer:
+            answer[1]()
+
+    def list(self, event: Event) -> None:
+        """Adds an event to the list, in front of those before it."""
+        rows = self.window.history_list
+        line = Gtk.Box(spacing=8, margin=4)
+        image = Gtk.Image(icon_name=KINDS[event.kind][1])
+        image.get_style_context().add_class(f"is-{event.kind}")
+        text = Gtk.Label(label=event.sentence, xalign=0, wrap=True, max_width_chars=48)
+        for part in (image, Gtk.Label(label=time.strftime("%H:%M"), valign=Gtk.Align.START), text):
+            line.add(part)
+        line.show_all()
+        rows.insert(line, 0)
+        for old in rows.get_children()[MOST_EVENTS:]:
+            old.destroy()
+        self.window.history_button.set_sensitive(True)

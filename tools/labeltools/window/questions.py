@@ -1,0 +1,87 @@
+"""Questions that only the keeper can answer: each is asked below the control that it is about, or
+in place of the page where the file cannot be read without it. Nothing is printed until then.
+"""
+
+from collections.abc import Sequence
+from typing import Any
+
+from labeltools.common.text import Text, translated
+from labeltools.window.bar import Answer
+from labeltools.window.gtk import Gtk
+
+Answers = Sequence[Answer]
+# the controls below which the remedies of a problem are asked for
+CONTROLS = {
+    **dict.fromkeys(("symbology", "without-check-digit", "fill-zeros", "allow-zeros"), "code"),
+    **dict.fromkeys(("decimal", "price-as", "price-text", "currency-name"), "price"),
+    **dict.fromkeys(("dpi", "edge", "to", "first"), "printer"),
+}
+WHICH = {
+    "code": Text("Which column has the code?"),
+    "title": Text("Which column has the title?"),
+    "price": Text("Which column has the price?"),
+    "copies": Text("Which column has the number of labels?"),
+}
+CENTS = Text("Which sign is before the cents?")
+BELOW = ("code", "title", "price", "copies", "printer")
+
+
+class Questions:
+    """The questions of a window."""
+
+    def __init__(self, window: Any) -> None:
+        self.window = window
+
+    @property
+    def is_open(self) -> bool:
+        """Whether one is asked below a control."""
+        return any(self.box(name).get_visible() for name in BELOW)
+
+    def box(self, name: str) -> Any:
+        """Returns where it is asked about a control."""
+        return getattr(self.window, f"ask_{name}")
+
+    def ask(self, name: str, text: str, answers: Answers) -> None:
+        """Asks below a control."""
+        self.box(name).ask(
+            text, [(shown, lambda act=act: self.answer(act)) for shown, act in answers]
+        )
+
+    def answer(self, act: Any) -> None:
+        """Does what was answered."""
+        self.clear()
+        act()
+
+    def clear(self) -> None:
+        """Asks nothing any more."""
+        for name in BELOW:
+            self.box(name).hide()
+
+    def ask_of_file(self, text: str, more: str, answers: Answers) -> None:
+        """Asks in place of the page."""
+        self.window.asked.set_text(text)
+        self.window.asked_more.set_text(more)
+        self.window.asked_more.set_visible(more)
+        box = self.window.answers
+        box.foreach(Gtk.Widget.destroy)
+        for shown, act in answers:
+            button = Gtk.Button(label=shown, visible=True, width_request=260)
+            button.connect("clicked", lambda _button, act=act: act())
+            box.add(button)
+        self.window.stack.set_visible_child_name("asking")
+        box.get_children()[0].grab_focus()
+
+    def focus(self) -> None:
+        """Puts the focus on the first answer, or on Print where nothing is asked."""
+        first = next((self.box(name) for name in BELOW if self.box(name).get_visible()), None)
+        (first.answers.get_children()[0] if first else self.window.print_button).grab_focus()
+
+
+def asked_at(option: str) -> str:
+    """Returns the control below which a remedy is asked for; empty for none."""
+    return CONTROLS.get(option, "")
+
+
+def which(kind: str) -> str:
+    """Returns the question for the column of a kind."""
+    return translated(WHICH[kind])
