@@ -357,7 +357,7 @@ class Names(OwnPages):
     def test_what_has_no_place_and_places_that_have_nothing_are_said_once(self) -> None:
         labels = [("code128 A", {"title": "a", "text": {"Seat": "1"}})] * 3
         found = self.found(f'<rect id="Saet" {WIDE}/>{CODE}', labels)
-        hint = 'give such a column with label-table --text "Saet", or remove the name'
+        hint = "give such a column with label-table --text Saet, or remove the name"
         lost = " has no rectangle for title, Seat: not on the labels"
         self.assertEqual(self.said(found), [lost, f": no label has anything for Saet: {hint}"])
 

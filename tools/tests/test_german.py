@@ -50,6 +50,7 @@ IN_WORDS = """--after {}: the first label is {}
 --print: printers do not take {}
 --stream prints each line
 --to {} needs --dpi
+--variants-of needs --title
 --{} may be {}
 CUPS prints an interrupted run again from its beginning; give --print tcp://HOST or /dev/usb/lp0
 a grid needs --columns, --rows and --cell

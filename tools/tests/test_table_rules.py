@@ -308,6 +308,53 @@ class Titles(RulesTest):
                 (status, len(labels), quoted(title) in messages[0]), (1, 1, True), title
             )
 
+    def test_what_another_program_has_escaped_is_said_once_a_column(self) -> None:
+        words = "--code EAN --title Name --text Text".split()
+        once = "(2 rows): it is printed as it is"
+        for first, other, said in (
+            ("K\\u00e4se", "Br\\u00f6tchen", 'row 2 has "K\\u00e4se", which a program has escaped'),
+            ('Heft \\"A5\\"', "L\\'eau", 'row 2 has "Heft \\"A5\\"", which a program has escaped'),
+            ("Tee", "C:\\temp", ""),
+            ('5" rod', "12'' rod", ""),
+        ):
+            text = f"EAN\tName\tText\n{PENCIL}\t{first}\tx\n{SMALL}\t{other}\ty\n"
+            status, messages, labels = self.said(text, *words, "--delimiter", "tab")
+            self.assertEqual((status, messages), (0, [f"{said} {once}"] if said else []))
+            self.assertEqual([one["title"] for one, _ in labels], [first, other])
+
+    def test_quotes_around_each_text_of_a_column_are_said(self) -> None:
+        said = """each text in column 2 ("Name") is in quotes, as 'Tee' in row 2: it is printed as it is"""
+        for texts, wanted in (
+            (("'Tee'", "'Brot'", "'Tee, grün'"), [said]),
+            (("'Tee'", "Brot", "'Tee, grün'"), []),
+            (("'Tee'",), []),  # one may have them
+        ):
+            rows = "".join(f"{code};{one}\n" for code, one in zip((PENCIL, SMALL, BOOK), texts))
+            done = self.said(f"EAN;Name\n{rows}", *"--code EAN --title Name".split())
+            self.assertEqual(done[1], wanted)
+
+    def test_variants_have_the_title_of_the_first_row(self) -> None:
+        """A row that is left out, or not marked, still gives its title; none is there in silence."""
+        table = (
+            f"Handle;Title;EAN;Sell\na;Shirt;;x\na;;{PENCIL};x\nb;Cap;{SMALL};\nb;;{BOOK};x\n"
+            f"c;;{SOAP.zfill(13)};x\n"
+        )
+        words = "--code EAN --title Title --where Sell=x".split()
+        status, messages, labels = self.said(table, *words)
+        self.assertEqual([one.get("title") for one, _ in labels], [None] * 3)
+        status, messages, labels = self.said(table, *words, "--variants-of", "Handle")
+        self.assertEqual([one.get("title") for one, _ in labels], ["Shirt", "Cap", None])
+        self.assertEqual(
+            messages,
+            [
+                'row 2: column 3 ("EAN") is empty',
+                "row 6 has no title (1 of 3 labels)",
+                'row 3 has the title of row 2, "Shirt" (2 rows)',
+            ],
+        )
+        done = support.run_here("label-table", *"--code EAN --variants-of Handle".split())
+        self.assertIn("--variants-of needs --title", support.messages(done)[0])
+
     def test_tabs_and_marks_of_the_direction_are_white(self) -> None:
         labels = self.labels(
             f"EAN,Name\n{SMALL},a\tb \u200fc\n", *"--code EAN --title Name".split()

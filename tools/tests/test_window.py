@@ -853,7 +853,8 @@ class WindowTest(Keeper):
         """Its controls, and what it tells."""
         code = "import test_window; test_window.load(); one = test_window.window.Window(); "
         code += "test_window.work.Work.stop(one.work); one.on_stop(None); "
-        code += "print(one.print_button.get_label(), one.name_of('price_as'), one.said.get_text())"
+        code += "(name,) = one.price_as.list_mnemonic_labels(); "
+        code += "print(one.print_button.get_label(), name.get_text(), one.said.get_text())"
         for language, texts in (
             ("en", "_Print… Prices as Stopped: nothing was printed"),
             ("de", "_Drucken … Preise als Abgebrochen: es wurde nichts gedruckt"),

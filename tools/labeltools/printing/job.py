@@ -9,7 +9,7 @@ from dataclasses import dataclass, replace
 from typing import Sequence
 
 from labeltools.common.messages import BAD_ARGUMENTS, ToolError
-from labeltools.common.text import counted, give, NOTHING, Remedy, Text
+from labeltools.common.text import counted, NOTHING, Remedy, Text
 from labeltools.designs.design import Design
 from labeltools.designs.framed import FramedDesign
 from labeltools.designs.svg_design import is_file, read_design, size_of_page
@@ -33,7 +33,6 @@ NO_PAPER = Text(
     "one of {}, {}, {} and a {} of SVG is needed",
     *map(Remedy, ("stock", "paper", "cell", "design")),
 ).in_window(Text("the sheet has no name: choose one from the list"))
-FIRST_HINT = give(Remedy("first", "1", Text("Begin with label 1")))
 # options that do something only for a grid, or for receipt printers
 OF_GRID = ("columns", "rows", "page", "margin", "gap")
 OF_RECEIPT = ("dots", "is_cut")
@@ -219,7 +218,7 @@ def sheet_of(options: PrintOptions, form: Form) -> Sheet:
     places = ((0.0, 0.0),) if is_page else sheet.places
     has = counted("a page has {} label", "a page has {} labels", len(places))
     first = Text("{}: {}", Remedy("first", str(options.first)), has).in_window(has)
-    refuse(options.first > len(places), first, FIRST_HINT)
+    refuse(options.first > len(places), first)
     x, y = options.shift
     shifted = tuple((left + x, top + y) for left, top in places)
     return replace(sheet, page=sheet.cell if is_page else sheet.page, places=shifted)

@@ -245,6 +245,7 @@ class TableRun:
         self.say_of_prices()
         self.say_of_words()
         self.once.say(self.talk)
+        self.reader.escaped.say(self.talk)
         if self.hidden:
             text = counted(
                 "{} hidden row is not printed", "{} hidden rows are not printed", self.hidden

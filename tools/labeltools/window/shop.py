@@ -285,7 +285,7 @@ def print_words(choices: Choices) -> list[str]:
 def is_of_table(remedy: Remedy) -> bool:
     """Returns whether a remedy is an option of label-table, not of label-print."""
     with suppress(ToolError):
-        table_command.understood(["--code", "1", *remedy.words])
+        table_command.understood(["--code", "1", "--price", "1", *remedy.words])
         return True
     return False
 
