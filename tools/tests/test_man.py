@@ -159,13 +159,6 @@ class Pages(unittest.TestCase):
         self.assertEqual({*NUMBER.findall(page)} - {*NUMBER.findall(header)}, set())
 
 
-def ran(tool: str, *words: str, input: bytes) -> "support.Finished[bytes]":
-    """What the program or a tool makes of lines."""
-    if tool == "labels":
-        return support.run(support.labels_program(), *words, input=input)
-    return support.run_here(tool, *words, input=input)
-
-
 def calls_in(text: str) -> set[tuple[str, str]]:
     """The calls that a text declares: the name of each, and the words of its line."""
     found = re.findall(r"^ *(?:LABELS_API )?([a-z][\w *]*?\b(labels_\w+)\([^;]*\));", text, re.M)
