@@ -145,11 +145,35 @@ Keller;Riesling trocken;14,90;19,87;4006381333931
 Item;Description;Price;Wholesale;Retail Price;Sale Price;Width;UPC
 Hammer, claw;Steel, 12 oz;24.49;12.10;0.00;0.00;8.25;4006381333931
 ?title ?title ?price ?price ?price - - code
+OXARTNUM;OXEAN;OXTITLE;OXSHORTDESC;OXPRICE;OXSTOCK
+A-201;4006381333931;Pencil, soft;Of cedar wood;0.80;12
+- code title - price -
+STOKKODU;BARKOD;URUNADI;ALISFIYATI;SATISFIYATI;INDIRIMLIFIYAT
+K-301;4006381333931;Kalem, siyah;4,10;8,90;0,00
+- code title - price -
+Item No.;Item Description;Foreign Name;Bar Code;Last Purchase Price;Price
+100231;Pencil, soft;Bleistift;4006381333931;0.40;0.80
+- title - code - price
+Art.-Nr.;Artikel-Bezeichnung;EAN-Code;Verkaufs-Preis;Herstellkosten
+100231;Bleistift, weich;4006381333931;0,80;0,40
+- title code price -
+ISBN13;Title;List Price;Our Price
+978-3-16-148410-0;Herbstlicht;24.00;19.95
+code title ?price ?price
+barcode;itemcallnumber;title;author;isbn
+39087001234567;QA-76;Herbstlicht;K. Lenz;978-3-16-148410-0
+?code - title - ?code
+Order ID;Ticket code;Barcode URL;Name;First name;Event name
+ORD-20041;VK7Q1XH2A;https://t.example/1;Anna Adler;Anna;Autumn concert
+- code - title - -
+Product ID;SKU;Title;Price;MSRP
+81230045;AB-1001;Pencil, soft;0.80;
+- code title price -
 """.splitlines()
 SYMBOLOGIES = {
     "Regal": "qr",
     **dict.fromkeys(("Inventarnummer", "Charge", "Bestellnummer", "Artikelnummer"), "code128"),
-    **dict.fromkeys(("N° billet", "Etikett"), "code128"),
+    **dict.fromkeys(("N° billet", "Etikett", "Order ID", "Product ID"), "code128"),
 }
 
 LANGUAGES = (
