@@ -18,6 +18,7 @@ complete -c label-table -l unit-price -x -d 'the column of the price of a unit, 
 complete -c label-table -l old-price -x -d 'the column of the price before a reduction'
 complete -c label-table -l currency -x -d 'the column of the currency of the prices'
 complete -c label-table -l copies -x -d 'the column of the number of labels, 0 to 9999'
+complete -c label-table -l variants-of -x -d 'rows with the same value there have the title of the first one'
 complete -c label-table -l where -x -d 'print only rows that have this value'
 complete -c label-table -l new-since -r -F -d 'print only what is new or has changed since these lines'
 complete -c label-table -l hidden -d 'print hidden rows too'

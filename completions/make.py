@@ -17,7 +17,7 @@ HERE = Path(__file__).resolve().parent
 sys.path.insert(0, str(HERE.parent / "tools"))
 
 PROGRAM = os.environ.get("LABELS") or HERE.parent / "crates/labels/out/labels"
-TOOLS = {"label-table": "commands.label_table", "label-print": "commands.label_print"}
+TOOLS = {"label-table": "label_table.table_parser", "label-print": "label_print.print_parser"}
 NAMES = " ".join(["labels", *TOOLS])
 # What takes the name of a file, and what is proposed where a parser takes any number.
 FILES = ("--new-since", "--each", "--journal", "--design")
@@ -129,9 +129,10 @@ def options_of(parser: argparse.ArgumentParser) -> list[Option]:
 def all_options() -> dict[str, list[Option]]:
     """Returns the options of each command."""
     found = {"labels": options_of_labels()}
-    for tool, module in TOOLS.items():
-        command = __import__(f"labeltools.{module}", fromlist=["new_parser"])
-        found[tool] = options_of(command.new_parser())
+    for tool, place in TOOLS.items():
+        module, _, parser = place.partition(".")
+        command = __import__(f"labeltools.commands.{module}", fromlist=[parser])
+        found[tool] = options_of(getattr(command, parser)())
     return found
 
 

@@ -89,11 +89,23 @@ static inline int are_bad(const void *data, size_t size, const void *to, size_t 
     return !data || !to || size > PTRDIFF_MAX || room > PTRDIFF_MAX || written - read < size || read - written < room;
 }
 
-/* Ends the message of an answer. Where the proved call put none, it is what the code means. */
+/* What an answer without a message says: the option that is wrong, at its number, or what the code means. */
+static const char *text_of(const labels_answer *answer) {
+    static const char *const options[] = {
+        "format has to be 0 or 1",  "scale has to be 1 to 8",        "height has to be 1 to 500",
+        "level has to be 0 to 3",   "min_version has to be 1 to 10", "mask has to be 0 to 8",
+        "escapes has to be 0 or 1", "reserved words have to be 0",
+    };
+    size_t option = answer->at - 1;
+    int is_told = answer->code == LABELS_BAD_OPTION && option < sizeof options / sizeof *options;
+    return is_told ? options[option] : labels_code_text((int)answer->code);
+}
+
+/* Ends the message of an answer. Where the proved call put none, it says what the code means. */
 static inline int finish(labels_answer *answer) {
     size_t end = answer->message_length < MESSAGE_ROOM ? answer->message_length : MESSAGE_ROOM;
     if (end == 0 && answer->code != LABELS_OK)
-        for (const char *text = labels_code_text((int)answer->code); text[end]; end++)
+        for (const char *text = text_of(answer); text[end]; end++)
             answer->message[end] = text[end];
     answer->message[end] = 0;
     answer->message_length = end;

@@ -36,7 +36,7 @@ extern "C" {
 #define LABELS_VERSION "1.2.0"
 #define LABELS_VERSION_NUMBER 0x010200 /* for #if: two digits each of major, minor and patch */
 
-enum labels_symbology { LABELS_EAN13, LABELS_EAN8, LABELS_UPCA, LABELS_CODE128, LABELS_QR };
+enum labels_symbology { LABELS_NO_SYMBOLOGY = -1, LABELS_EAN13, LABELS_EAN8, LABELS_UPCA, LABELS_CODE128, LABELS_QR };
 enum labels_format { LABELS_PBM, LABELS_ASCII };
 enum labels_level { LABELS_LEVEL_L, LABELS_LEVEL_M, LABELS_LEVEL_Q, LABELS_LEVEL_H };
 enum { LABELS_MASK_AUTO = 8 };      /* the mask with the lowest penalty */
@@ -48,11 +48,20 @@ enum { LABELS_MESSAGE_ROOM = 96 };  /* bytes of a message, its NUL among them */
 /* Bytes that are enough for the plain PBM of a picture w pixels wide and h high. */
 #define LABELS_PICTURE_ROOM(w, h) (14 + (size_t)(h) * ((size_t)(w) + ((size_t)(w) + 69) / 70))
 
+/* A symbology that a call is given. In C it is the enum, which is as large as an int and mixes with it: so gcc -Wextra and
+ * clang warn where a level is given for it (-Wenum-conversion). C++ would refuse an int for the enum. */
+#if defined(__GNUC__) && !defined(__cplusplus)
+typedef enum labels_symbology labels_symbology_number;
+#else
+typedef int labels_symbology_number;
+#endif
+
 /* What a call returns. */
 enum labels_code {
     LABELS_OK,                     /* done */
     LABELS_NO_ROOM,                /* the room is too small: the answer has the length that is needed */
-    LABELS_BAD_OPTION,             /* an option is out of its range, or a reserved word is not 0: `at` says which */
+    LABELS_BAD_OPTION,             /* an option is out of its range, or a reserved word is not 0: `at` and the message
+                                      say which */
     LABELS_BAD_SYMBOLOGY,          /* the number or the name is that of no symbology */
     LABELS_NO_DATA,                /* there is no data */
     LABELS_NOT_A_DIGIT,            /* EAN, UPC: a byte is not a digit */
@@ -158,16 +167,17 @@ LABELS_API const char *labels_code_text(int code);
 
 /* Returns the name that labels(1) has for a symbology, as "ean13", or for a level, as "Q"; NULL where the number is that of
  * none. It is not to be freed. LABELS_EAN13 is the first symbology: names come until NULL does. */
-LABELS_API const char *labels_symbology_name(int symbology);
+LABELS_API const char *labels_symbology_name(labels_symbology_number symbology);
 LABELS_API const char *labels_level_name(int level);
 
-/* Returns the symbology, or the level, that has this name, letter for letter; -1 where there is none, or with NULL. */
+/* Returns the symbology, or the level, that has this name, letter for letter; -1 where there is none, or with NULL: of
+ * symbologies that is LABELS_NO_SYMBOLOGY. */
 LABELS_API int labels_symbology_named(const char *name);
 LABELS_API int labels_level_named(const char *name);
 
 /* Sets `layout` to that of a symbology. Returns LABELS_OK; LABELS_BAD_SYMBOLOGY where the number is that of none, and then
  * all of it is 0; LABELS_BAD_ARGUMENT with NULL. */
-LABELS_API int labels_symbology_layout(int symbology, labels_layout *layout);
+LABELS_API int labels_symbology_layout(labels_symbology_number symbology, labels_layout *layout);
 
 /* Sets the options to their defaults: those of LABELS_DEFAULTS. With NULL it does nothing. */
 LABELS_API void labels_defaults(labels_options *options);
@@ -178,15 +188,16 @@ LABELS_API void labels_defaults(labels_options *options);
 
 /* Draws one symbol as a picture. Puts its bytes into `out`, as many as there is room for, and nothing after them; the
  * picture has no NUL at its end. `answer->length` is that of the whole picture: a call without room asks for it. */
-LABELS_API int labels_draw(const labels_options *options, int symbology, const void *data, size_t size, char *out,
-                           size_t room, labels_answer *answer);
+LABELS_API int labels_draw(const labels_options *options, labels_symbology_number symbology, const void *data,
+                           size_t size, char *out, size_t room, labels_answer *answer);
 
 /* Draws one symbol as modules. Puts them into `modules` where there is room for all, row by row from the top, a byte
  * each, 1 where dark, else 0, without quiet zones. Room that they do not take may be set to 0, up to LABELS_MAX_MODULES
  * bytes in all. `info` is set where the code is LABELS_OK or LABELS_NO_ROOM; else each number in it is 0, and its data
  * is "". What is behind the NUL of the data is left as it was. */
-LABELS_API int labels_symbol(const labels_options *options, int symbology, const void *data, size_t size,
-                             unsigned char *modules, size_t room, labels_symbol_info *info, labels_answer *answer);
+LABELS_API int labels_symbol(const labels_options *options, labels_symbology_number symbology, const void *data,
+                             size_t size, unsigned char *modules, size_t room, labels_symbol_info *info,
+                             labels_answer *answer);
 
 /* Draws what labels(1) draws for one line, as "qr,level=Q HELLO", as a picture. The line comes without its line feed. */
 LABELS_API int labels_draw_line(const labels_options *options, const void *text, size_t size, char *out, size_t room,
@@ -203,8 +214,9 @@ LABELS_API int labels_line(const labels_options *options, const void *text, size
  * less than `answer->length`, or `stride` less than a row and not 0, nothing is put and the code is LABELS_NO_ROOM; the
  * length is that for the given stride. So a call with stride 0 and without room asks for `dots` and the length. `height` 1
  * gives bars in `scale` rows. For a format in which 0 is dark, turn each byte: ~byte. */
-LABELS_API int labels_bitmap(const labels_options *options, int symbology, const void *data, size_t size,
-                             unsigned char *bits, size_t stride, size_t room, labels_dots *dots, labels_answer *answer);
+LABELS_API int labels_bitmap(const labels_options *options, labels_symbology_number symbology, const void *data,
+                             size_t size, unsigned char *bits, size_t stride, size_t room, labels_dots *dots,
+                             labels_answer *answer);
 
 /* Draws a line as bits, as labels_bitmap() puts them. */
 LABELS_API int labels_bitmap_line(const labels_options *options, const void *text, size_t size, unsigned char *bits,
@@ -213,40 +225,42 @@ LABELS_API int labels_bitmap_line(const labels_options *options, const void *tex
 /* Reads the dots of one symbol, and puts its data into `out`, as many bytes as there is room for, and nothing after
  * them: no NUL. `answer->length` is that of the whole data, at most LABELS_MAX_DATA. It has no options.
  *
- * `dots` has `width` times `height` bytes, row by row from the top: the digit '1' where a dot is dark, '0' where it is
- * light, as in plain PBM without its head and its white space. They are the symbol in its quiet zone, to a dot: each
- * module is a square of `scale` dots, from 1 on, and the quiet zone has the width that labels_symbol() gives in `info`.
- * Bars are any number of modules high, all rows are equal, and no quiet zone is above and below them.
+ * The dots are those of a region of bits, exactly the symbol in its quiet zone: each module is a square of dots, and the
+ * quiet zone has the width that labels_symbol() gives in `info`. Bars are any number of modules high, all rows are equal,
+ * and no quiet zone is above and below them. Neither the symbology nor the scale is told: they are found, and `found` has
+ * them; its numbers are 0 where nothing is read. Where the region is read by no symbology at any scale it is turned, by as
+ * few quarter turns as it is read after. No two symbologies, and no two scales, read the same upright dots.
  *
  * Nothing is corrected or guessed: with one dot of the wrong colour they are not read. Only the colour of the seven
  * remainder modules of QR versions 2 to 6, which hold no data, does not matter (ISO/IEC 18004, table 1). The data is
  * what the symbol says, of EAN and UPC with the check digit, which is checked. A UPC-A symbol of 12 digits has the bars
  * of the EAN-13 symbol of a 0 and these digits. Their quiet zones differ: 9 and 9 modules of UPC-A, 11 and 7 of EAN-13.
  *
- * The code is LABELS_OK; LABELS_NO_ROOM where the data is longer than the room; LABELS_BAD_OPTION where the scale is 0;
- * LABELS_BAD_SYMBOLOGY; LABELS_NOT_READ where the dots are no such symbol, or a byte of them is another; or
- * LABELS_BAD_ARGUMENT. `dots` may be NULL where width or height is 0. */
-LABELS_API int labels_read(int symbology, uint32_t scale, const void *dots, uint32_t width, uint32_t height, char *out,
-                           size_t room, labels_answer *answer);
-
-/* Reads a region of bits as labels_read() reads dots, and is told neither the symbology nor the scale: they are found, and
- * `found` has them; its numbers are 0 where nothing is read. Where the region is read by no symbology at any scale it is
- * turned, by as few quarter turns as it is read after. No two symbologies, and no two scales, read the same upright dots.
- *
  * The time grows with the number of dots alone, whatever they show: each symbology is tried at one scale in each direction,
  * at which its quiet zone ends at the first dark dot. A region without a dark dot is looked at once.
  *
  * `bits` has `size` bytes; those from the end of the last row of the region on may be left out. The bits around the region
- * do not matter. The codes are those of labels_read(), LABELS_BAD_OPTION where the region is not within the bits, its rows
- * overlap, `dark` is neither 0 nor 1, or a reserved word is not 0. */
+ * do not matter. The code is LABELS_OK; LABELS_NO_ROOM where the data is longer than the room; LABELS_BAD_OPTION where the
+ * region is not within the bits, its rows overlap, `dark` is neither 0 nor 1, or a reserved word is not 0; LABELS_NOT_READ
+ * where the dots are no symbol; or LABELS_BAD_ARGUMENT. */
 LABELS_API int labels_read_bits(const labels_region *region, const void *bits, size_t size, labels_found *found,
                                 char *out, size_t room, labels_answer *answer);
 
-/* Reads the modules of one symbol, as labels_symbol() puts them, as labels_read() reads its dots. `modules` has `width` times
- * `rows` bytes, row by row from the top, 1 where dark, else 0, without quiet zones; a linear symbol has one row, or more
- * that are equal. */
-LABELS_API int labels_read_modules(int symbology, const void *modules, uint32_t width, uint32_t rows, char *out,
-                                   size_t room, labels_answer *answer);
+/* Superseded by labels_read_bits(), which is told neither symbology nor scale, and takes bits as they lie; this call stays
+ * as long as the library is liblabels.so.1. It reads dots of a byte each in the same way, as a symbol of this symbology
+ * whose modules are `scale` dots wide, from 1 on. It does not turn them.
+ *
+ * `dots` has `width` times `height` bytes, row by row from the top: the digit '1' where a dot is dark, '0' where it is
+ * light, as in plain PBM without its head and its white space. It may be NULL where width or height is 0. The codes are
+ * those of labels_read_bits(), LABELS_BAD_OPTION where the scale is 0, and LABELS_BAD_SYMBOLOGY. */
+LABELS_API int labels_read(labels_symbology_number symbology, uint32_t scale, const void *dots, uint32_t width,
+                           uint32_t height, char *out, size_t room, labels_answer *answer);
+
+/* Superseded by labels_read_bits(), as labels_read() is. It reads the modules of one symbol, as labels_symbol() puts them.
+ * `modules` has `width` times `rows` bytes, row by row from the top, 1 where dark, else 0, without quiet zones; a linear
+ * symbol has one row, or more that are equal. */
+LABELS_API int labels_read_modules(labels_symbology_number symbology, const void *modules, uint32_t width,
+                                   uint32_t rows, char *out, size_t room, labels_answer *answer);
 
 #ifdef __cplusplus
 }

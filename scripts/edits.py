@@ -20,12 +20,14 @@ import os
 import re
 import sys
 from dataclasses import dataclass
-from typing import Mapping, Sequence
+from typing import Collection, Mapping, Sequence
 
 import reader
 import sources
 
 GHOST = ("Head", "Antt", "Text", "End")
+# What is in quotes, and what is no code.
+NO_CODE = re.compile(r"""("(?:[^"\\]|\\.)*"|'(?:[^'\\]|\\.)')|//.*|\s+""")
 
 
 @dataclass(frozen=True)
@@ -131,8 +133,8 @@ def file_at(folder: str, name: str) -> reader.File:
 
 
 def code_of(text: str) -> str:
-    """Returns a text without its comments and white space."""
-    return re.sub(r"^\s*//.*$|\s+", "", text, flags=re.M)
+    """Returns a text without its comments and white space, but for that in quotes."""
+    return NO_CODE.sub(lambda found: found[1] or "", text)
 
 
 @functools.lru_cache(maxsize=None)
@@ -157,43 +159,86 @@ def changed(texts: Mapping[str, str], body: Body, folder: str) -> dict[str, str]
 
 
 @dataclass(frozen=True)
-class Record:
-    """A record of specs/: its file, its text before the fields, and these, each with its text."""
+class Word:
+    """A record of specs/, or a word by cases: its file, its text before the fields or the cases, and these, each with
+    its text; cases are numbered from 1 on."""
 
     module: str
     head: str
     fields: dict[str, str]
 
+    @property
+    def text(self) -> str:
+        """Its whole text."""
+        return self.head + "\n".join(self.fields.values())
+
     def values(self) -> set[str]:
         """Returns the names of the fields that later ones speak of: values, and no statements."""
-        later = [" ".join([*self.fields.values()][place + 1 :]) for place in range(len(self.fields))]
-        return {it for it, said in zip(self.fields, later) if re.search(rf"(?<![\w.]){it}\b", said)}
+        texts = [*self.fields.values()]
+        names = [it for it in self.fields if not it.isdigit()]
+        return {it for place, it in enumerate(names, 1) if re.search(rf"(?<![\w.]){it}\b", " ".join(texts[place:]))}
+
+    def alone(self, kept: Collection[str]) -> str:
+        """Returns it with these fields alone, and the values that they speak of, or with these cases: nothing is said
+        in the others. A record without a field is one of nothing."""
+        if self.head.startswith("pub record"):
+            names = [it for it in self.fields if it in kept or it in self.values()]
+            lines = [f"  pub {it} : {self.fields[it]}\n" for it in names] or ["  pub nothing : Unit {0}\n"]
+            return self.head + "".join(lines)
+        cases = [it if name in kept else f"{it.partition(' =')[0]} = ⊤" for name, it in self.fields.items()]
+        return "\n".join([self.head.rstrip("\n"), *cases, ""])
 
 
-def records_in(text: str, module: str = "") -> dict[str, Record]:
+def records_in(text: str, module: str = "") -> dict[str, Word]:
     """Returns the records of a file of specs/, by their names."""
     found = re.findall(r"^(pub record (\w+)\b.*? where\n)(.*?)(?:\n\n|\Z)", text, re.M | re.S)
     fields = re.compile(r"^  pub (\w+) : (.*(?:\n    .*)*)", re.M)
-    return {name: Record(module, head, dict(fields.findall(inner))) for head, name, inner in found}
+    return {name: Word(module, head, dict(fields.findall(inner))) for head, name, inner in found}
 
 
-def with_fields(fields: Sequence[str], ending: str, folder: str) -> tuple[str, dict[str, str]]:
-    """Returns a file of specs/ that has the records of these fields once more, with these alone and the values that
-    they speak of, and the names that they have there. A record without a field is one of nothing. Stops where one is
-    not there."""
+def words_in(text: str, module: str = "") -> dict[str, Word]:
+    """Returns the records of a file of specs/, and the words by cases, by their names."""
+    found = re.findall(r"^((?:abbrev|unfoldable) pub (\w+) :.*\n(?: .*\n)*)((?:\2\b.*\n(?: .*\n?)*)+)", text, re.M)
+    cases = {name: re.findall(rf"^{name}\b.*(?:\n .*)*", inner, re.M) for _, name, inner in found}
+    by_cases = {it: Word(module, head, dict(zip(map(str, range(1, 99)), cases[it]))) for head, it, _ in found}
+    return records_in(text, module) | by_cases
+
+
+def between(words: Mapping[str, Word], wanted: Collection[str], head: str) -> list[str]:
+    """Returns the words by which a head speaks of some, and these, each behind those that it speaks of."""
+    found: dict[str, bool] = {}
+
+    def speaks(name: str) -> bool:
+        if name not in found:
+            found[name] = False
+            said = {*re.findall(r"\w+", words[name].text)} & {*words} - {name}
+            is_found = any([speaks(it) for it in sorted(said)]) or name in wanted
+            del found[name]
+            found[name] = is_found
+        return found[name]
+
+    for name in (*re.findall(r"\w+", head), *wanted):
+        if name in words:
+            speaks(name)
+    return [name for name, is_found in found.items() if is_found]
+
+
+def with_fields(fields: Sequence[str], ending: str, folder: str, head: str = "") -> tuple[str, dict[str, str]]:
+    """Returns a file of specs/ that has the words of these fields once more, with these alone, and those by which a
+    head speaks of them; and the names that they have there. Stops where one is not there."""
     files = {path: sources.read(path) for path in sources.files_below(f"{folder}/specs", ".antt")}
-    records = {name: one for path, text in files.items() for name, one in records_in(text, path).items()}
+    words = {name: one for path, text in files.items() for name, one in words_in(text, path).items()}
     wanted = [name.partition(".")[::2] for name in fields]
-    gone = [f"{name}.{it}" for name, it in wanted if name not in records or it not in ("", *records[name].fields)]
+    gone = [f"{name}.{it}" for name, it in wanted if name not in words or it not in ("", *words[name].fields)]
     if gone:
         sys.exit(f"{folder}/specs has no {gone[0]}")
-    names = {name: f"{name}_{ending}" for name, _ in wanted}
-    uses, texts = list[str](), list[str]()
-    for name in reversed(names):
-        one = records[name]
-        kept = [it for it in one.fields if (name, it) in wanted or it in one.values()]
-        lines = [f"  pub {it} : {one.fields[it]}\n" for it in kept] or ["  pub nothing : Unit {0}\n"]
-        texts.append(re.sub(rf"\b({'|'.join(names)})\b", lambda it: names[it[1]], one.head + "".join(lines)))
+    kept = {name: {it for of, it in wanted if of == name} for name, _ in wanted}
+    names = {name: f"{name}_{ending}" for name in between(words, kept, head)}
+    uses, texts = ["use Rattle.std.specs.Prelude.{⊤}"], list[str]()
+    for name in names:
+        one = words[name]
+        text = one.alone(kept.get(name, one.fields))
+        texts.append(re.sub(rf"\b({'|'.join(names)})\b", lambda it: names[it[1]], text))
         for path, inner in re.findall(r"^use ([\w.]+)\.\{(.*?)\}", files[one.module], re.M | re.S):
             uses += [f"use {path}.{{{it.strip()}}}" for it in inner.split(",")]
         module = one.module[len(folder) + 1 : -len(".antt")].replace(os.sep, ".")
@@ -294,7 +339,7 @@ def copy_of(body: Body, ending: str, folder: str) -> Copy | None:
     for name, (start, last) in clauses_of(one).items():
         if body.clause not in ("", name):
             head = head.replace(file.text[start:last], "")
-    specs, names = with_fields(body.fields, ending, folder) if body.fields else ("", {})
+    specs, names = with_fields(body.fields, ending, folder, head) if body.fields else ("", {})
     for name, other in names.items():
         head = re.sub(rf"\b{name}\b", other, head)
     renamed = dataclasses.replace(body, function=f"{body.function}_{ending}")

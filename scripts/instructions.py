@@ -110,6 +110,7 @@ LIBRARY_CALLS = {
     "labels_line": SOME,
     "labels_draw, scale 3": SOME,
     "labels_bitmap, scale 3": SOME,
+    "labels_read_bits, scale 3": SOME,
 }
 # The call that is compared with those of other libraries.
 COMPARED_CALL = "labels_symbol"

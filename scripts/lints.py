@@ -32,7 +32,7 @@ INTERPRETERS = {
 ENDINGS = {".py": "python", ".bash": "completion", ".1": "manual", ".3": "manual"}
 # The most that a function may have: ways through it, as McCabe counts them, and statements without its docstring.
 MOST_WAYS, MOST_STATEMENTS = 15, 30
-# The tools: the most lines and parameters of a function there, what each command has by one name, names of types.
+# The tools: the most lines and parameters of a function there, how each command starts, names of types.
 PACKAGE, MOST_LINES, MOST_PARAMETERS, ENTRY = "tools/labeltools/", 40, 6, "run"
 TYPE = re.compile("[A-Z].*[a-z]")
 # The merge after which subjects of commits have at most so many letters.

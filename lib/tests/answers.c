@@ -32,6 +32,35 @@ static void the_first_wrong_option_is_told(void) {
     }
 }
 
+/* What a call says of default options of which one word is another. */
+static int code_with(size_t word, uint32_t number, labels_answer *answer) {
+    labels_options options = LABELS_DEFAULTS;
+    uint32_t words[sizeof options / sizeof(uint32_t)];
+    memcpy(words, &options, sizeof options);
+    words[word] = number;
+    memcpy(&options, words, sizeof options);
+    return labels_draw(&options, LABELS_EAN8, "7351353", 7, NULL, 0, answer);
+}
+
+/* The message names the option, and what it may be: the first and the last such number are taken, those beside are not. */
+static void the_wrong_option_is_named(void) {
+    static const char *const names[] = {"format", "scale", "height", "level", "min_version", "mask", "escapes"};
+    labels_answer answer;
+    for (size_t option = 0; option < sizeof names / sizeof *names; option++) {
+        char name[16];
+        unsigned lowest, highest;
+        SEE(code_with(option, 1000, &answer) == LABELS_BAD_OPTION);
+        SEE(sscanf(answer.message, "%15s has to be %u %*[tor] %u", name, &lowest, &highest) == 3);
+        SEE(strcmp(name, names[option]) == 0);
+        SEE(code_with(option, lowest, &answer) == LABELS_NO_ROOM);
+        SEE(code_with(option, highest, &answer) == LABELS_NO_ROOM);
+        SEE(code_with(option, lowest - 1, &answer) == LABELS_BAD_OPTION);
+        SEE(code_with(option, highest + 1, &answer) == LABELS_BAD_OPTION);
+    }
+    SEE(code_with(sizeof names / sizeof *names, 1, &answer) == LABELS_BAD_OPTION);
+    SEE(strcmp(answer.message, "reserved words have to be 0") == 0);
+}
+
 static void the_defaults_are_set(void) {
     const labels_options wanted = LABELS_DEFAULTS;
     labels_options options;
@@ -148,6 +177,7 @@ static void the_header_is_right(void) {
 
 int main(void) {
     the_first_wrong_option_is_told();
+    the_wrong_option_is_named();
     the_defaults_are_set();
     a_wrong_region_is_refused();
     longer_bars_and_printed_digits_are_told();

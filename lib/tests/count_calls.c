@@ -57,12 +57,28 @@ static const labels_options of_scale_3 = {LABELS_PBM, 3, 50, LABELS_LEVEL_M, 1, 
 static int by_draw_3(const struct label *label) {
     return labels_draw(&of_scale_3, label->symbology->labels, label->data, strlen(label->data), room, ROOM, &answer);
 }
-
 static int by_bitmap_3(const struct label *label) {
     enum { STRIDE = 128 };
     labels_dots dots;
     return labels_bitmap(&of_scale_3, label->symbology->labels, label->data, strlen(label->data), (unsigned char *)room,
                          STRIDE, ROOM, &dots, &answer);
+}
+
+/* Reads the same bits back. They are drawn once: the first call is not counted. */
+static int by_read_bits_3(const struct label *label) {
+    enum { STRIDE = 128 };
+    static labels_region region = {STRIDE, 0, 0, 0, 0, 1, {0, 0, 0}};
+    static const char *drawn;
+    static char data[LABELS_MAX_DATA];
+    labels_dots dots;
+    if (drawn != label->data) {
+        drawn = label->data;
+        labels_bitmap(&of_scale_3, label->symbology->labels, label->data, strlen(label->data), (unsigned char *)room,
+                      STRIDE, ROOM, &dots, &answer);
+        region.width = dots.width;
+        region.height = dots.height;
+    }
+    return labels_read_bits(&region, room, ROOM, NULL, data, sizeof data, &answer);
 }
 
 static int by_line(const struct label *label) {
@@ -156,6 +172,7 @@ static const struct {
     {"labels_draw", by_draw, 0},
     {"labels_draw, scale 3", by_draw_3, 0},
     {"labels_bitmap, scale 3", by_bitmap_3, 0},
+    {"labels_read_bits, scale 3", by_read_bits_3, 0},
     {"labels_line", by_line, 0},
     {"libzint, no picture", by_zint_again, 0},
     {"libzint, picture", by_zint_again, 1},

@@ -1,12 +1,12 @@
 /* Reads a picture once, for callgrind to count the instructions: read_cost PICTURE SIDE [each]
  *
- * The picture is SIDE by SIDE dots; those of a symbol are as large as the symbol. It prints the code of the call, and the
+ * The picture is SIDE by SIDE dots; of one of a symbol SIDE is the scale instead. It prints the code of the call, and the
  * dots. With `each` the picture is read at each scale by each symbology instead, as labels_read() does it. */
 #include "labels_of_test.h"
 #include <stdio.h>
 #include <stdlib.h>
 
-enum { MOST = 1024, STRIDE = MOST / 8, SCALE = 8 };
+enum { MOST = 1024, STRIDE = MOST / 8 };
 
 static unsigned char bits[MOST * STRIDE], turned[MOST * STRIDE];
 static char digits[MOST * MOST], out[LABELS_MAX_DATA];
@@ -43,10 +43,10 @@ static int in_picture(const char *name, uint32_t x, uint32_t y) {
                                           : 0;
 }
 
-static void draw(int symbology, const char *data) {
+static void draw(int symbology, const char *data, uint32_t scale) {
     labels_options options = LABELS_DEFAULTS;
     labels_dots dots;
-    options.scale = SCALE;
+    options.scale = scale;
     if (labels_bitmap(&options, symbology, data, strlen(data), bits, STRIDE, sizeof bits, &dots, NULL) != LABELS_OK)
         exit(2);
     width = dots.width;
@@ -67,8 +67,8 @@ static void turn(void) {
 }
 
 /* Puts a finder pattern into the corner of a QR symbol that has none: each direction begins as one that is read. */
-static void put_finder(void) {
-    uint32_t first = 4 * SCALE, size = 7 * SCALE;
+static void put_finder(uint32_t scale) {
+    uint32_t first = 4 * scale, size = 7 * scale;
     for (uint32_t y = first; y < first + size; y++)
         for (uint32_t x = first; x < first + size; x++) {
             uint32_t right = width - 1 - x, below = height - 1 - y;
@@ -82,18 +82,19 @@ int main(int count, char **words) {
     if (count < 3)
         return 2;
     const char *name = words[1];
-    width = height = (uint32_t)atoi(words[2]);
+    const uint32_t side = (uint32_t)atoi(words[2]);
+    width = height = side;
     if (strncmp(name, "ean8-", 5) == 0)
-        draw(LABELS_EAN8, "7351353");
+        draw(LABELS_EAN8, "7351353", side);
     else if (strncmp(name, "qr-", 3) == 0)
-        draw(LABELS_QR, "HELLO");
+        draw(LABELS_QR, "HELLO", side);
     else
         for (uint32_t y = 0; y < height; y++)
             for (uint32_t x = 0; x < width; x++)
                 if (in_picture(name, x, y))
                     put_dark(bits, x, y);
     if (strcmp(name, "qr-finders") == 0)
-        put_finder();
+        put_finder(side);
     for (int turns = atoi(name + strcspn(name, "123")); turns > 0; turns--)
         turn();
     labels_dots dots = {width, height, {0}};

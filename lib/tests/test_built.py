@@ -20,6 +20,7 @@ FILES = {
     f"{PYTHONDIR}/liblabels/__init__.py",
     f"{PYTHONDIR}/liblabels/__main__.py",
     f"{PYTHONDIR}/liblabels/_binding.py",
+    f"{PYTHONDIR}/liblabels/_digits.py",
     f"{PYTHONDIR}/liblabels/_pictures.py",
     f"{PYTHONDIR}/liblabels/_reading.py",
     f"{PYTHONDIR}/liblabels/py.typed",

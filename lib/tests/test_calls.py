@@ -131,6 +131,19 @@ class Calls(WithLibrary):
             done = run(compiler, *flags, "-", given=header.replace(end, wrong + end))
             self.assertNotEqual(done.returncode, 0, f"{language} {wrong!r}")
 
+    def test_level_as_symbology(self) -> None:
+        """A C compiler warns of it, and of no number that is an int."""
+        text = "#include <labels.h>\nextern int number;\nextern labels_symbol_info info;\nint f(void);\n"
+        text += "int f(void) { return labels_draw(NULL, %s, NULL, 0, NULL, 0, NULL); }\n"
+        right = ("LABELS_QR", "number", "(int)info.symbology", 'labels_symbology_named("qr")', "3")
+        for compiler, language in (("gcc", "c"), ("g++", "c++")):
+            words = ("-Wall", "-Wextra", "-Wconversion", "-Wsign-conversion", "-Werror", f"-I{LIB}", "-fsyntax-only")
+            for given, is_right in (*((given, True) for given in right), ("LABELS_LEVEL_H", language == "c++")):
+                with self.subTest(compiler=compiler, given=given):
+                    done = run(compiler, *words, "-x", language, "-", given=(text % given).encode())
+                    self.assertEqual(done.returncode == 0, is_right, text_of(done))
+                    self.assertIn("" if is_right else "enum-conversion", text_of(done))
+
 
 if __name__ == "__main__":
     unittest.main()

@@ -9,10 +9,12 @@ from support import LIB, PROVED, WithLibrary, run, text_of
 
 FLAGS = ("-std=c11", "-O2", "-g", "-Wall", "-Wextra", "-Werror", f"-I{LIB}", f"-I{LIB}/tests")
 PICTURES = "blank row column dot last corner dark rows columns squares noise below".split()
-SYMBOLS = [f"{symbol}-{turns}" for symbol in ("ean8", "qr") for turns in range(4)]
+SYMBOLS = [*(f"{symbol}-{turns}" for symbol in ("ean8", "qr") for turns in range(4)), "qr-finders"]
 # The number of divisors of a side is that of the scales that it has room for.
 MANY_DIVISORS, PRIME = 360, 359
-MOST_FOR_A_DOT = 150
+MOST_FOR_A_DOT = 75
+# In a QR symbol whose modules are single dots each of them is a bit that is read.
+MOST_FOR_A_MODULE = 120
 NOT_READ = 17
 
 
@@ -23,7 +25,7 @@ class Cost(WithLibrary):
         self.assertEqual(done.returncode, 0, text_of(done))
 
     def counted(self, picture: str, side: int, *words: str) -> tuple[int, float]:
-        """The code of the call, and the instructions that it takes for each dot of a picture."""
+        """The code of the call, and the instructions for each dot of a picture: of its side, or at this scale."""
         tool = ("valgrind", "--tool=callgrind", "--toggle-collect=labels_read*", "--callgrind-out-file=/dev/null")
         done = run(*tool, self.program, picture, str(side), *words)
         collected = re.search(rb"Collected : (\d+)", done.stderr)
@@ -33,18 +35,19 @@ class Cost(WithLibrary):
         return code, int(collected[1]) / dots
 
     def test_pictures_without_a_symbol(self) -> None:
-        for picture in [*PICTURES, "qr-finders"]:
+        for picture in PICTURES:
             with self.subTest(picture):
                 code, cost = self.counted(picture, MANY_DIVISORS)
                 self.assertEqual(code, NOT_READ)
                 self.assertLess(cost, MOST_FOR_A_DOT)
 
     def test_symbols_in_each_direction(self) -> None:
-        for picture in SYMBOLS:
-            with self.subTest(picture):
-                code, cost = self.counted(picture, 0)
-                self.assertEqual(code, 0)
-                self.assertLess(cost, MOST_FOR_A_DOT)
+        for scale, most in ((1, MOST_FOR_A_MODULE), (2, MOST_FOR_A_DOT), (8, MOST_FOR_A_DOT)):
+            for picture in SYMBOLS:
+                with self.subTest(picture, scale=scale):
+                    code, cost = self.counted(picture, scale)
+                    self.assertEqual(code, NOT_READ if picture == "qr-finders" else 0)
+                    self.assertLess(cost, most)
 
     def test_divisors_of_the_side_cost_nothing(self) -> None:
         for picture in ("blank", "row", "column"):

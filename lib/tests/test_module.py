@@ -53,6 +53,7 @@ def program(*words):
 for words, picture in (
     ("--level H --scale 3 --dpi 300", symbol.png(3, 300)),
     ("--level H", symbol.png(4)),
+    ("--level H --scale 30", symbol.png(30)),
     ("--level H --svg", symbol.svg().encode()),
 ):
     done = program("qr", "gr\u00fcn", *words.split())
@@ -60,7 +61,8 @@ for words, picture in (
 number = liblabels.symbol("ean8", "7351353", height=9)
 assert program("ean8", "7351353", "--height", "9").stdout == number.png(4)
 assert program("ean8", "7351353", *"--height 9 --svg --digits".split()).stdout == number.svg(digits=True).encode()
-WRONG = (("ean13 4006381333930", b"check digit is 0"), ("qr x --scale 9", b"scale is 9"), ("pdf x", b"choice"))
+assert program("ean8", "7351353", *"--height 9 --digits".split()).stdout == number.png(4, digits=True)
+WRONG = (("ean13 4006381333930", b"check digit is 0"), ("qr x --scale 101", b"scale is 101"), ("pdf x", b"choice"))
 for words, said in WRONG:
     done = program(*words.split())
     assert (done.returncode, done.stdout) == (2, b"") and said in done.stderr, done

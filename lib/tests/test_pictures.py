@@ -41,7 +41,7 @@ for line in LINES:
         area[y : y + high, x : x + wide] = True
     rows = numpy.frombuffer(symbol.modules, bool).reshape(symbol.rows, symbol.width)
     assert (area == numpy.repeat(rows, symbol.height // symbol.rows, 0)).all()
-for wrong in ({"scale": 9}, {"scale": 0}, {"dpi": 0}, {"dpi": float("nan")}):
+for wrong in ({"scale": 101}, {"scale": 0}, {"dpi": 0}, {"dpi": float("nan")}):
     try:
         symbol.png(**wrong)
     except ValueError as why:
@@ -126,6 +126,84 @@ else:
     raise AssertionError
 """
 )
+# The same in PNG, where the module draws the digits: bars are as without, guards are longer by five modules, and each
+# digit is in the seven modules of its own, with as many holes as it has in print, and no other.
+DRAWN_DIGITS = (
+    LINES
+    + """
+import io, liblabels, numpy, subprocess
+from PIL import Image, ImageDraw
+HOLES = (1, 0, 0, 0, 0, 0, 1, 0, 2, 1)
+def dark_of(png):
+    return ~numpy.array(Image.open(io.BytesIO(png)))
+def holes_of(dark):
+    image = Image.fromarray(numpy.pad(~dark, 1, constant_values=True).astype(numpy.uint8)).copy()
+    found = -1  # what is around it is none
+    while image.getbbox():
+        found += 1
+        ImageDraw.floodfill(image, tuple(map(int, numpy.argwhere(numpy.array(image).T == 1)[0])), 0)
+    return found
+for line, (name, data) in LINES.items():
+    symbol = liblabels.line(line)
+    of = liblabels.layout(symbol.symbology)
+    for scale in (2, 5, 11):
+        plain, png = dark_of(symbol.png(scale)), symbol.png(scale, digits=True)
+        dark = dark_of(png)
+        if not of.digits:
+            assert numpy.array_equal(plain, dark), line
+            continue
+        height, width = plain.shape
+        assert dark.shape == (height + 10 * scale, width) and numpy.array_equal(dark[:height], plain)
+        columns = numpy.arange(width) // scale
+        guards = plain[0] & numpy.any([(first <= columns) & (columns < last) for first, last in of.guards], 0)
+        below = dark[height:]
+        for row in below[: 5 * scale]:
+            assert (row & guards).sum() == guards.sum()
+        below[: 5 * scale] &= ~guards
+        assert not below[:scale].any() and not below[-scale:].any()
+        drawn = {}
+        for first, last, begin, end in of.digits:
+            for place in range(first, last):
+                middle = begin + end + 7 * (2 * place - first - last + 1)
+                left = (middle - 7) * scale // 2
+                digit = below[:, left : left + 7 * scale].copy()
+                below[:, left : left + 7 * scale] = False
+                assert numpy.array_equal(drawn.setdefault(data[place], digit), digit), line
+        assert not below.any(), line
+        assert len({digit.tobytes() for digit in drawn.values()}) == len(drawn), line
+        for digit, dots in drawn.items():
+            assert holes_of(dots) == HOLES[int(digit)], (digit, scale)
+        words = ["zbarimg", "-q", "--raw", "-Supca.enable", "-"]
+        assert data in subprocess.run(words, input=png, capture_output=True).stdout.decode(), (line, scale)
+"""
+)
+# A scale that the module draws is one that the library draws, dot for dot, where it has both; a larger one is read.
+SCALES = (
+    LINES
+    + """
+import io, liblabels, subprocess
+for line, (name, data) in LINES.items():
+    once = liblabels.bitmap_line(line)
+    for scale in range(1, 9):
+        assert once.enlarged(scale) == liblabels.bitmap_line(line, scale=scale), (line, scale)
+    for scale in (9, 40, 100):
+        drawn = liblabels.bitmap_line(line, scale=scale)
+        found = liblabels.read(drawn)
+        assert (found.scale, found.data) == (scale, data.encode()), (line, scale)
+    symbol = liblabels.line(line)
+    assert symbol.png(40) == liblabels.bitmap_line(line, scale=40).png(), line
+    words = ["zbarimg", "-q", "--raw", "-Supca.enable", "-"]
+    assert data in subprocess.run(words, input=symbol.png(9), capture_output=True).stdout.decode(), line
+for wrong in (0, 101):
+    for call, given in ((liblabels.bitmap, ("qr", "x")), (liblabels.bitmap_line, ("qr x",))):
+        try:
+            call(*given, scale=wrong)
+        except ValueError as why:
+            assert str(why) == f"scale is {wrong}, and has to be 1 to 100", why
+        else:
+            raise AssertionError(wrong)
+"""
+)
 
 
 class Pictures(WithLibrary):
@@ -158,6 +236,27 @@ class Pictures(WithLibrary):
             ("5 * any", "4 * any"),
         ):
             self.assert_fails(*self.with_module(self.wrong_module(right, wrong)), "-c", DIGITS)
+
+    def test_digits_drawn(self) -> None:
+        self.run_ok(PYTHON, "-c", DRAWN_DIGITS)
+        for file, right, wrong in (
+            ("_pictures.py", "_LONGER = 5", "_LONGER = 4"),
+            ("_pictures.py", "rows[-1] & guarded", "rows[-1]"),
+            ("_pictures.py", "(begin + end -", "(begin + end + 2 -"),
+            ("_digits.py", "1.8, 3.2, 0, 360", "1.8, 3.2, 0, 270"),
+            ("_digits.py", "1.85, 1.7, 0, 360", "1.85, 1.7, 0, 270"),
+        ):
+            module = self.library.changed((f"python/liblabels/{file}", right, wrong)) / "python"
+            self.assert_fails(*self.with_module(module), "-c", DRAWN_DIGITS)
+
+    def test_scales(self) -> None:
+        self.run_ok(PYTHON, "-c", SCALES)
+        for right, wrong in (
+            ('"1" * scale', '"1" * (scale - 1) + "0"'),
+            ("for _ in range(scale)", "for _ in range(2)"),
+        ):
+            module = self.library.changed(("python/liblabels/_pictures.py", right, wrong)) / "python"
+            self.assert_fails(*self.with_module(module), "-c", SCALES)
 
 
 if __name__ == "__main__":

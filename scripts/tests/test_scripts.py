@@ -110,6 +110,7 @@ def of_copies(*lines: str) -> str:
     return said(**dict(zip(("one_0", "one_1", "one_calling_itself"), lines)))
 
 
+BLANK, BLANKS = 'let _ = " ";', 'let _ = "  ";'
 CLAUSE = "old:     ensures { result ≡ 1 }\nnew:     ensures { result ≡ result }\n"
 TWO_TEXTS = {WRONG: body("one() + 1"), "wrong-bodies/two.edit": body("one() + 2")}
 TWO_FUNCTIONS = {LIB: ONE + OTHER, WRONG: edit("2"), "wrong-bodies/other.edit": edit("8", "7", "other")}
@@ -150,6 +151,7 @@ TRIED: tuple[tuple[dict[str, str], list[str], tuple[int, int, list[str]]], ...] 
     ),
     ({WRONG: edit("2") + CLAUSE}, [], (0, 0, ["one: it changes a clause, a ghost item or an attribute"])),
     ({WRONG: edit(" 1")}, [], (0, 0, ["one: it changes no code"])),
+    ({LIB: ONE.replace("    1\n", f"    {BLANK}\n    1\n"), WRONG: edit(BLANKS, BLANK)}, [said(one=NOT)], (1, 0, [])),
     # A text is tried in a copy of the function, beside a control in which nothing may be wrong.
     ({WRONG: body("one() + 1")}, [said(one_0=NOT, one_calling_itself="proved")], (1, 1, [])),
     ({WRONG: body("one() + 1")}, [said(one_0=HOLES, one_calling_itself=HOLES)], (0, 1, ACCEPTED)),
@@ -236,6 +238,17 @@ class Outcomes(InFolder):
                 self.assertIn(wanted, text)
         with self.assertRaises(SystemExit):
             edits.with_fields(["All.later"], "0", folder)
+
+    def test_a_case_alone(self) -> None:
+        """The copy's clause has the word with that case alone, and so has each word by which it speaks of it."""
+        cases = "abbrev pub Cases : (a : N)\n    → N\nCases zero =\n    zero\nCases (suc n) = n\n\n"
+        says = "abbrev pub Says : N → N\nSays a = Cases a\n\nabbrev pub Other : N\nOther = Says zero\n"
+        folder = self.crate({"specs/Lib.antt": "", "specs/Run.antt": f"use A.{{B}}\n\n{cases}{says}"}).folder
+        text, names = edits.with_fields(["Cases.2"], "7", folder, "ensures { Says zero }")
+        self.assertEqual(names, {"Cases": "Cases_7", "Says": "Says_7"})
+        alone = "Cases_7 : (a : N)\n    → N\nCases_7 zero = ⊤\nCases_7 (suc n) = n\n"
+        self.assertIn(f"abbrev pub {alone}\nabbrev pub Says_7 : N → N\nSays_7 a = Cases_7 a\n", text)
+        self.assertNotIn("Other", text)
 
     def test_bodies_of_no_form(self) -> None:
         for text in (body("2") + edit("2").partition("\n")[2], "refused: one\n", "body: 2\n"):

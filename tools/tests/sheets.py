@@ -78,12 +78,15 @@ class Cell:
 
 @dataclass(frozen=True)
 class Sheet:
-    """Rows of cells, or of their values; the numbers of those that are hidden."""
+    """Rows of cells, or of their values; the numbers of those that are hidden, and of columns, from
+    1.
+    """
 
     lines: Sequence[Any]
     name: str = "Tabelle1"
     hidden: Collection[int] = ()
     is_visible: bool = True
+    hidden_columns: Collection[int] = ()
 
     @property
     def cells(self) -> list[list[Cell]]:
@@ -127,7 +130,9 @@ def of_xlsx(*sheets: Sheet) -> bytes:
         if one.span != (1, 1)
     )
     after = f"<mergeCells>{merges}</mergeCells>" if merges else ""
-    return xlsx(texts[0][2], *texts[1:], formats=forms, styles=styles, after=after)
+    hidden = "".join(f'<col min="{at}" max="{at}" hidden="1"/>' for at in sheets[0].hidden_columns)
+    before = f"<cols>{hidden}</cols>" if hidden else ""
+    return xlsx(texts[0][2], *texts[1:], formats=forms, styles=styles, before=before, after=after)
 
 
 def ods_text(one: Cell) -> str:
@@ -156,6 +161,9 @@ def of_ods(*sheets: Sheet) -> bytes:
     for sheet in sheets:
         kind = 1 if sheet.is_visible else 2
         texts += f'<table:table table:name="{sheet.name}" table:style-name="ta{kind}">'
+        for at in range(1, max(sheet.hidden_columns, default=0) + 1):
+            seen = "collapse" if at in sheet.hidden_columns else "visible"
+            texts += f'<table:table-column table:visibility="{seen}"/>'
         for number, row in enumerate(sheet.cells, 1):
             looks |= {look for one in row for look in (one.look, *(own for _, own in one.runs))}
             hides = "filter" if number % 2 else "collapse"

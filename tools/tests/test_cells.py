@@ -568,11 +568,13 @@ class Prices(CellTest):
         found, said = self.priced(["8.330000000000002"], "--price-as", "0.00 €")
         self.assertEqual((found, said), (["8.33 €"], []))
 
-    def test_an_old_price_below_the_price_is_said_once(self) -> None:
-        lines = ["1.00\t0.90", "2.00\t1.00", "3.00\t4.00"]
+    def test_an_old_price_that_is_not_above_the_price_is_said_once(self) -> None:
+        lines = ["1.00\t0.90", "2.00\t2.00", "3.00\t4.00"]
         said = self.priced(lines, "--old-price", "Old")[1]
         self.assertEqual(said, ["row 2 has the old price 0.90, below the price 1.00 (2 rows)"])
-        for line in ("1.00\t1.00", "2.00 €\t1.00 $", "1.234\t1.00", "1.00\t"):
+        said = self.priced(lines[1:], "--old-price", "Old")[1]
+        self.assertEqual(said, ["row 2 has 2.00 as the old price and as the price"])
+        for line in ("2.00 €\t1.00 $", "1.234\t1.00", "1.00\t"):
             self.assertEqual(self.priced([line], "--old-price", "Old")[1], [], line)
 
     def test_a_pattern_keeps_the_words_about_values(self) -> None:

@@ -352,7 +352,7 @@ class Names(OwnPages):
             self.assertEqual(self.said(found)[0], " has no rectangle for Other: not on the labels")
             found = self.found(place, [("code128 A", {"text": {"Seat": text}})])
             said = [*self.said(found), *reasons_of(found)]
-            self.assertRegex(said[0], "^no font has|shortened to fit")
+            self.assertRegex(said[0], "^no font has|a text is too long")
 
     def test_what_has_no_place_and_places_that_have_nothing_are_said_once(self) -> None:
         labels = [("code128 A", {"title": "a", "text": {"Seat": "1"}})] * 3
@@ -449,7 +449,10 @@ class Texts(OwnPages):
         self.assertGreater(text.style.lines, 1)
         self.assertEqual(self.said(found), [])
         found = self.found(place.format(", lines=1"), [("code128 A", {"title": words})])
-        self.assertEqual(self.said(found), ["line 2: shortened to fit, with an ellipsis"])
+        self.assertEqual(
+            self.said(found),
+            ["line 2: a text is too long, so it ends in “…”: shorten it, or choose a larger label"],
+        )
         self.assertAlmostEqual(self.sizes(found)[0], 1.8, delta=0.13)
 
     def test_a_text_in_another_font_is_cut(self) -> None:
@@ -459,7 +462,12 @@ class Texts(OwnPages):
         title = "A very long title of an article that has to be wrapped into several lines, or cut"
         for form in ("pdf", "png"):
             found = self.found(place, [("code128 A", {"title": title})], to=form, dpi=600)
-            self.assertEqual(self.said(found), ["line 2: shortened to fit, with an ellipsis"])
+            self.assertEqual(
+                self.said(found),
+                [
+                    "line 2: a text is too long, so it ends in “…”: shorten it, or choose a larger label"
+                ],
+            )
 
     def test_a_number_is_not_parted(self) -> None:
         """In two lines it would be two numbers."""
@@ -474,7 +482,7 @@ class Texts(OwnPages):
             (f"999999 {words}", 1, 1),
         ):
             found = self.found(place, [("code128 A", {"text": {"Count": count}})])
-            shortened = [one for one in self.said(found) if "shortened" in one]
+            shortened = [one for one in self.said(found) if "too long" in one]
             self.assertEqual((texts_of(found)[0].style.lines, len(shortened)), (lines, said), count)
 
     def test_one_long_text_makes_no_others_small(self) -> None:
@@ -487,7 +495,9 @@ class Texts(OwnPages):
             self.assertEqual(sizes[0], sizes[1])
             self.assertGreater(sizes[0], 10)
             self.assertTrue(least - 0.13 < sizes[2] < least + 0.5, sizes)
-            said = ["line 6: shortened to fit, with an ellipsis"]
+            said = [
+                "line 6: a text is too long, so it ends in “…”: shorten it, or choose a larger label"
+            ]
             self.assertEqual(self.said(found), said * (least == 4))
 
     def test_signs_are_as_small_as_letters(self) -> None:
@@ -515,7 +525,9 @@ class Texts(OwnPages):
             (text,) = texts_of(found)
             self.assertEqual(text.text.strip(), wanted.strip(), words)
             self.assertGreaterEqual(self.sizes(found)[0], 1.67)
-            cut = ["line 2: shortened to fit, with an ellipsis"] * is_cut
+            cut = [
+                "line 2: a text is too long, so it ends in “…”: shorten it, or choose a larger label"
+            ] * is_cut
             self.assertEqual(self.said(found), cut)
 
     def test_labels_that_are_the_same_once_shortened_are_said(self) -> None:
@@ -523,7 +535,10 @@ class Texts(OwnPages):
         titles = [f"A long title that has many words and ends in {end}" for end in ("red", "blue")]
         found = self.found(place, [("code128 A", {"title": title}) for title in titles])
         (shortened, same) = self.said(found)
-        self.assertEqual(shortened, "lines 2, 4: shortened to fit, with an ellipsis")
+        self.assertEqual(
+            shortened,
+            "lines 2, 4: a text is too long, so it ends in “…”: shorten it, or choose a larger label",
+        )
         self.assertRegex(same, "^lines 2, 4: alike once shortened, .*: put what differs in front")
 
     def test_scripts_without_spaces_wrap(self) -> None:
@@ -663,8 +678,8 @@ class Drawings(OwnPages):
         letters is no such part.
         """
         place = f'<rect id="title" x="2" y="2" width="56" height="10"/>{CODE}'
-        hint = "the drawing behind letters has to be light or dark: move the place"
-        why = f"the drawing is light and dark in the place title: {hint}"
+        why = "behind title the drawing is partly light and partly dark, so letters of no colour "
+        why += "can be read there; move the rectangle, or the drawing"
         for shape, said, left_out in (
             ("M40 0H60V14H40Z", 0, 1),
             ("M0 0H60V14H0Z M5 0H45V14H5Z", 0, 1),

@@ -65,7 +65,9 @@ class Chosen(Desk):
             done = printed("--journal", self.path, input=line)
             self.assertEqual(done.returncode, 0, done.stderr)
         self.assertEqual(self.events(), ["sending", "taken"])
-        self.said(printed("--only-code", "00360002914", input=lines), 1, "but not in the input")
+        self.said(
+            printed("--only-code", "00360002914", input=lines), 1, "which the input does not have"
+        )
 
     def test_a_last_line_that_may_be_cut_off(self) -> None:
         done = printed(input=b"code128 PALLET-4711\ncode128 PALLET-47")
@@ -136,7 +138,7 @@ class Journals(Desk):
         for count in (30, 0):
             done = printed("--journal", self.path)
             self.assertEqual((done.returncode, len(labels_in(done))), (0, count))
-        self.said(done, 0, "0 labels; 30 labels in .*/journal already")
+        self.said(done, 0, "nothing to print: 30 labels are in .*/journal already")
         done = printed("--journal", self.path, "--only", "5-6", "--again", "standard output")
         self.assertEqual((done.returncode, len(labels_in(done))), (0, 2), done.stderr)
         self.assertEqual(self.events(), ["sending", "taken"] * 32)
@@ -186,7 +188,7 @@ class Journals(Desk):
         lines = text.splitlines()[1:]
         line = next(line for line in lines if text.count(line.split("\t")[-1] + "\n") == 1)
         Path(self.path).write_text(text.replace(line, line.replace("sending", "taken")))
-        self.said(printed(*words), 0, "30 labels in")  # it was looked at, and is there
+        self.said(printed(*words), 0, "30 labels are in")  # it was looked at, and is there
 
     def test_lines_that_are_cut_off(self) -> None:
         """A label whose line is cut was not sent, unless it lacks its end alone; one whose mark is
@@ -312,7 +314,13 @@ class Streams(Desk):
         self.assertEqual(firsts, [note, note, "taken", "taken", note, "taken"], said)
         self.assertEqual(sum(": not on the labels" in line for line in said), 1)
         self.assertEqual(
-            sum(line.endswith(": shortened to fit, with an ellipsis") for line in said), 2
+            sum(
+                line.endswith(
+                    ": a text is too long, so it ends in “…”: shorten it, or choose a larger label"
+                )
+                for line in said
+            ),
+            2,
         )
 
     def test_the_status(self) -> None:
@@ -351,7 +359,7 @@ class Streams(Desk):
         self.assertRegex(found[1], "^doubtful 3 tcp://.*: the printer broke off$")
         known, doubtful = self.answers(b"qr T1\nqr T2\n", *words)
         self.assertEqual(known, "known 1 qr T1")
-        self.assertRegex(doubtful, "^doubtful 2 may be on paper, from tcp://.*; if it is not there")
+        self.assertRegex(doubtful, "^doubtful 2 may be on paper, from tcp://.*; if not, print")
         printer.off()
         said = self.answers(b"qr NEW\nqr T1\n", *words)
         self.assertRegex(said[0], "^unsent 1 tcp://.*refused; is it switched on")

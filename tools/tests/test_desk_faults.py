@@ -257,7 +257,7 @@ class Editors(Desk):
             ([b"\xef\xbb\xbf" + head, first, *lines, b""], "journal is not a journal"),
         ):
             journal.write_bytes(b"\n".join(changed))
-            self.said(self.done_again(), int(bool(said)), said or "30 labels in .* already")
+            self.said(self.done_again(), int(bool(said)), said or "30 labels are in .* already")
             self.assertEqual(journal.read_bytes(), b"\n".join(changed))
 
     def test_a_journal_of_version_1_1_0(self) -> None:
@@ -265,7 +265,7 @@ class Editors(Desk):
         self.journal(entry("taken", "upca 036000291452"))
         for code in (b"upca 03600029145", b"ean13 0036000291452"):
             done = printed("--journal", self.path, input=code + b"\n")
-            self.said(done, 0, "^label-print: 0 labels; 1 label in .* already\n$")
+            self.said(done, 0, "^label-print: nothing to print: 1 label is in .* already\n$")
 
     def test_blanks_at_the_end_of_a_code_are_its_own(self) -> None:
         lines = b"qr A\nqr A \nqr A  \n"
@@ -321,7 +321,9 @@ class Editors(Desk):
         for pattern in ("^$", "journal has labels of an earlier file: with > that file has lost"):
             self.said(self.written_to(f"{self.folder}/labels"), 0, pattern)
         os.unlink(f"{self.folder}/labels")
-        self.said(self.written_to(f"{self.folder}/labels", "ab"), 0, "^label-print: 0 labels; ")
+        self.said(
+            self.written_to(f"{self.folder}/labels", "ab"), 0, "^label-print: nothing to print: "
+        )
 
 
 class Lanes(Desk):

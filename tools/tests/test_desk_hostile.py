@@ -162,11 +162,13 @@ class Doubts(Desk):
         """Each run names all of a journal, until they are printed or their lines say `taken`."""
         for words in (("--only", "3-"), ("--only-code", "T00002"), ()):
             done = printed("--journal", self.waiting("tcp://a"), *words)
-            hint = "if it is not there, print only it with --only 1 --again tcp://a"
+            hint = "if it is there, .*; if not, print only it with --only 1 --again tcp://a"
             self.said(done, 1, f"line 1: may be on paper, from tcp://a: look for it; {hint}")
         done = printed("--journal", self.path, "--only", "1", "--again", "tcp://a")
         self.assertNotIn(b"may be on paper", done.stderr)
-        self.said(printed("--journal", self.path, "--only", "3-"), 0, "28 labels in .* already\n$")
+        self.said(
+            printed("--journal", self.path, "--only", "3-"), 0, "28 labels are in .* already\n$"
+        )
 
     def test_a_line_that_was_cut_within_its_code(self) -> None:
         """A label that there never was. Where the input has the whole code, nothing is said; else
@@ -185,7 +187,7 @@ class Doubts(Desk):
             text = Path(self.path).read_bytes()
             self.assertIn(change[0], text)
             Path(self.path).write_bytes(text.replace(*change, 1))
-            self.said(printed("--journal", self.path), 0, "30 labels in .* already\n$")
+            self.said(printed("--journal", self.path), 0, "30 labels are in .* already\n$")
 
     def test_one_whose_data_stands_in_two_symbologies(self) -> None:
         """What the message says prints that label alone."""
@@ -512,7 +514,7 @@ class Choices(Desk):
         done = printed("--only", "1", *codes)
         named = ", ".join(f"X{number:02}" for number in range(10))
         self.said(
-            done, 1, rf"\Alabel-print: {named} .. \(12 in all\): named by --only-code, but not"
+            done, 1, rf"\Alabel-print: --only-code names {named} .. \(12 in all\), which the input"
         )
 
 

@@ -45,11 +45,14 @@ IN_WORDS = """--after {}: the first label is {}
 --encoding {} is unknown
 --fill-zeros, --without-check-digit and --symbology code128 or qr do not go together
 --list-stock takes one WORD: put quotes around several
+--only names {}, which the input does not have
+--only-code names {}, which the input does not have
 --price-as needs --price, --unit-price or --old-price
 --price-text and --price-as do not go together
 --print: printers do not take {}
 --stream prints each line
 --to {} needs --dpi
+--variants-of needs --title
 --{} may be {}
 CUPS prints an interrupted run again from its beginning; give --print tcp://HOST or /dev/usb/lp0
 a grid needs --columns, --rows and --cell
@@ -58,12 +61,10 @@ give --to zpl or escpos
 give a file that label-print --journal has made, or a new name
 leave out --only and --after
 name what to print again with --only or --only-code
-named by --only, but not in the input
 only for --to escpos
 only for a grid of --cell
 the following arguments are required: --code
 {} and --each do not go together
-{}: named by --only-code, but not in the input
 """.splitlines()
 
 
@@ -71,6 +72,22 @@ def fields_of(text: str) -> list[str]:
     """The places of what differs in a text, such as 0 and 1, in order."""
     names = [name for _, name, _, _ in string.Formatter().parse(text) if name is not None]
     return sorted(str(number) if name == "" else name for number, name in enumerate(names))
+
+
+def judged_of(text: str) -> tuple[dict[str, tuple[str, str]], list[str], list[str]]:
+    """What a text has in each language: the signs before and behind each field, numbers, options."""
+    plain = re.sub(
+        r"[„“”]|« ?|[ ]?»", '"', re.sub(r"[\u00a0\u202f]", " ", text.replace('\\"', '"'))
+    )
+    signs: dict[str, tuple[str, str]] = {}
+    for field in re.finditer(r"\{(\w*)[^}]*\}", plain):
+        before, behind = plain[: field.start()][-1:], plain[field.end() :][:1]
+        signs[field[1] or str(len(signs))] = (
+            before if before in {*'"(%-#'} else "",
+            behind if behind in {*'")%'} else "",
+        )
+    numbers = re.findall(r"\d+", re.sub(r"(?<=\d)[., ](?=\d)|\{.*?\}", "", plain))
+    return signs, sorted(numbers), sorted(re.findall(r"(?<![\w-])--[a-z][a-z-]*", plain))
 
 
 def sources() -> list[Path]:
@@ -167,6 +184,15 @@ class German(unittest.TestCase):
                     self.assertEqual(plurals[text], texts[text])
                     for one in re.findall('"(.+)"', others[text]):
                         self.assertEqual(fields_of(one), fields_of(text), text)
+                        self.assertEqual(judged_of(one), judged_of(text), text)
+
+    def test_a_text_that_says_another_thing_is_seen(self) -> None:
+        """By its fields, a number or an option; that it means the opposite nobody sees but a reader."""
+        text = 'column {} ("{}") has more than 1,000 rows: give --limit'
+        other = "Spalte {} („{}“) hat über 1.000 Zeilen: --limit angeben"
+        self.assertEqual(judged_of(other), judged_of(text))
+        for old, new in (("{}", "{1}"), ("1.000", "100"), ("--limit", "--last"), ("„{}“", "{}")):
+            self.assertNotEqual(judged_of(other.replace(old, new, 1)), judged_of(text))
 
     def test_options_are_remedies(self) -> None:
         """A text has them as remedies, which a window shows as buttons; those that name them in
@@ -257,21 +283,21 @@ class German(unittest.TestCase):
             for language, first, second, last in (
                 (
                     "de",
-                    "Zeile 2: 4006381333932: die Prüfziffer ist 2, richtig ist 1",
+                    "Zeile 2: 4006381333932: eine Ziffer ist falsch (zu diesen Ziffern gehört als letzte 1)",
                     'Zeile 3: Spalte 3 ("Preis") hat "1E3", was kein Preis ist',
                     "1 Etikett aus 1 Zeile: 1 EAN-13; Preis 2,50; 1 Preis ohne Währung; "
                     "2 Zeilen übersprungen",
                 ),
                 (
                     "fr",
-                    "ligne 2 : 4006381333932 : le chiffre de contrôle est 2 au lieu de 1",
+                    "ligne 2 : 4006381333932 : un chiffre est faux (avec ces chiffres, le dernier serait 1)",
                     'ligne 3 : colonne 3 ("Preis") a "1E3", qui n\'est pas un prix',
                     "1 étiquette de 1 ligne : 1 EAN-13; prix 2,50; 1 prix sans devise; "
                     "2 lignes ignorées",
                 ),
                 (
                     "en",
-                    "row 2: 4006381333932: the check digit is 2, should be 1",
+                    "row 2: 4006381333932: a digit is wrong (with these digits the last one would be 1)",
                     'row 3: column 3 ("Preis") has "1E3", which is not a price',
                     "1 label from 1 row: 1 EAN-13; price 2,50; 1 price without a currency; "
                     "2 rows skipped",
@@ -279,7 +305,7 @@ class German(unittest.TestCase):
             ):
                 ran = self.ran(language, support.TOOLS / "label-table", *OPTIONS, table)
                 said = ran.stderr.replace("\u00a0", " ").splitlines()
-                self.assertEqual(said[0], f"label-table: {first}")
+                self.assertTrue(said[0].startswith(f"label-table: {first}"), said[0])
                 self.assertTrue(said[1].startswith(f"label-table: {second}"), said[1])
                 self.assertEqual(said[-1], f"label-table: {last}")
                 self.assertEqual("row" in ran.stderr, language == "en")

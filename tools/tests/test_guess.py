@@ -4,6 +4,7 @@ import itertools
 import shlex
 import tempfile
 import unittest
+from dataclasses import replace
 from pathlib import Path
 
 import support
@@ -144,11 +145,35 @@ Keller;Riesling trocken;14,90;19,87;4006381333931
 Item;Description;Price;Wholesale;Retail Price;Sale Price;Width;UPC
 Hammer, claw;Steel, 12 oz;24.49;12.10;0.00;0.00;8.25;4006381333931
 ?title ?title ?price ?price ?price - - code
+OXARTNUM;OXEAN;OXTITLE;OXSHORTDESC;OXPRICE;OXSTOCK
+A-201;4006381333931;Pencil, soft;Of cedar wood;0.80;12
+- code title - price -
+STOKKODU;BARKOD;URUNADI;ALISFIYATI;SATISFIYATI;INDIRIMLIFIYAT
+K-301;4006381333931;Kalem, siyah;4,10;8,90;0,00
+- code title - price -
+Item No.;Item Description;Foreign Name;Bar Code;Last Purchase Price;Price
+100231;Pencil, soft;Bleistift;4006381333931;0.40;0.80
+- title - code - price
+Art.-Nr.;Artikel-Bezeichnung;EAN-Code;Verkaufs-Preis;Herstellkosten
+100231;Bleistift, weich;4006381333931;0,80;0,40
+- title code price -
+ISBN13;Title;List Price;Our Price
+978-3-16-148410-0;Herbstlicht;24.00;19.95
+code title ?price ?price
+barcode;itemcallnumber;title;author;isbn
+39087001234567;QA-76;Herbstlicht;K. Lenz;978-3-16-148410-0
+?code - title - ?code
+Order ID;Ticket code;Barcode URL;Name;First name;Event name
+ORD-20041;VK7Q1XH2A;https://t.example/1;Anna Adler;Anna;Autumn concert
+- code - title - -
+Product ID;SKU;Title;Price;MSRP
+81230045;AB-1001;Pencil, soft;0.80;
+- code title price -
 """.splitlines()
 SYMBOLOGIES = {
     "Regal": "qr",
     **dict.fromkeys(("Inventarnummer", "Charge", "Bestellnummer", "Artikelnummer"), "code128"),
-    **dict.fromkeys(("N° billet", "Etikett"), "code128"),
+    **dict.fromkeys(("N° billet", "Etikett", "Order ID", "Product ID"), "code128"),
 }
 
 LANGUAGES = (
@@ -328,6 +353,72 @@ class Guesses(unittest.TestCase):
             said, done = self.proposed_and_run(f"{names}\n{row[:-5]}\n")  # two that may be paid
             self.assertIn("; --price may be ", said, names)
             self.assertNotIn(b'"price"', done.stdout)
+
+    def test_variants_of_a_shop(self) -> None:
+        """Programs of shops write the title into the first row of an article alone."""
+        rows = [
+            f"shirt;Shirt, blue;<p>Soft</p>;S;19.95;{CODES[0]}",
+            f"shirt;;;M;19.95;{CODES[1]}",
+            f"shirt;;;L;21.95;{CODES[2]}",
+            "cap;Cap, wool;<p>Warm</p>;;9.95;96385074",
+        ]
+        names = "Handle;Title;Body (HTML);Option1 Value;Variant Price;Variant Barcode"
+        said, done = self.proposed_and_run("\n".join([names, *rows, ""]))
+        self.assertIn(" --title Title --price 'Variant Price' --variants-of Handle ", said)
+        self.assertEqual(done.stdout.count(b'"title":"Shirt, blue"'), 3)
+        self.assertIn(b'row 3 has the title of row 2, "Shirt, blue" (2 rows)', done.stderr)
+        for other in ("cap;;;;9.95;96385074", "shirt;Shirt;;;9.95;96385074"):
+            said, _ = self.proposed_and_run("\n".join([names, *rows[:3], other, ""]))
+            self.assertNotIn("--variants-of", said)  # the rows do not say it
+
+    def test_html_is_no_title(self) -> None:
+        names = "EAN;Description;Text"
+        row = "4006381333931;<p>A <b>mild</b> tea</p>;Tea, mild\n"
+        self.assertEqual(guessed(f"{names}\n{row}").columns["title"], 2)
+
+    def test_prices_of_programs_get_two_decimals_if_their_currency_is_known(self) -> None:
+        for names, price, proposed, wanted in (
+            ("EAN;Price (EUR);x", "0.8;y", "--price-as '0.00 EUR'", "0.80 EUR"),
+            (
+                "EAN;Price;Currency",
+                "34.000000;EUR",
+                "--currency Currency --price-as '0.00 ¤'",
+                "34.00",
+            ),
+            ("EAN;Preis;x", '"0,8 €";y', "--price-as '0,00 ¤'", "0,80 €"),
+            ("EAN;Price;x", "0.8;y", "", "0.8"),
+            ("EAN;Price (EUR);x", "0.80;y", "", "0.80"),
+        ):
+            said, done = self.proposed_and_run(f"{names}\n4006381333931;{price}\n")
+            self.assertIn(proposed, said)
+            self.assertEqual("--price-as" in said, bool(proposed), names)
+            self.assertIn(f'"price":"{wanted}', done.stdout.decode())
+
+    def test_of_several_sheets_the_one_with_codes_is_proposed(self) -> None:
+        goods = Sheet([["EAN", "Name"], [CODES[0], "Tea"]], "Goods")
+        notes = Sheet([["Rate", "VAT"], ["full", "19"]], "Notes")
+        old = replace(goods, name="Tabelle1")
+        for kind, first in itertools.product(KINDS, (notes, old)):
+            with tempfile.TemporaryDirectory() as folder:
+                path = Path(folder, "table.xlsx")
+                path.write_bytes(kind(first, goods))
+                said = support.messages(support.run_here("label-table", path))[-1]
+            if first is notes:
+                self.assertIn("try label-table --code EAN --title Name --sheet Goods ", said)
+            else:
+                self.assertIn("give --sheet Tabelle1 or Goods", said)
+
+    def test_hidden_columns_are_not_proposed(self) -> None:
+        """A hidden price is that of the shop; with `--hidden` it is one like others."""
+        lines = [["EAN", "VK", "Preis"], [CODES[0], "1,20", "0,80"]]
+        for kind in KINDS:
+            data = kind(Sheet(lines, hidden_columns=(3,)))
+            found = guess_of(data, "x", TableOptions(), Silence())
+            self.assertEqual(found.columns, {"code": 0, "price": 1})
+            shown = TableOptions(file=FileOptions(hidden=True))
+            self.assertEqual(guess_of(data, "x", shown, Silence()).doubts, {"price": [1, 2]})
+            codes = kind(Sheet(lines, hidden_columns=(1, 3)))  # it is the only one
+            self.assertEqual(guess_of(codes, "x", TableOptions(), Silence()).columns["code"], 0)
 
     def test_names_of_many_languages(self) -> None:
         """Each has a price that customers pay, and one that the shop pays, or without its tax."""
@@ -516,7 +607,7 @@ class Codes(unittest.TestCase):
         sheet = Sheet([["EAN"], [CODES[0]], ["4006381333932"]], hidden=(2,))
         for kind in KINDS:
             found = guess_of(kind(sheet), "x", TableOptions(), Silence())
-            self.assertIn("the check digit is 2", found.codes[0].problem)
+            self.assertIn("a digit is wrong", found.codes[0].problem)
 
     def test_numbers_of_articles_are_no_titles(self) -> None:
         columns = [["Item", *NUMBERS[1]], ["UPC", *CODES], ["Desc", "Tea", "Book", "Gum"]]

@@ -136,7 +136,7 @@ class Frames(unittest.TestCase):
         self.assertEqual(frame.lines, 1)
         self.assertEqual(
             [remark.reason for remark in laid.prepared.remarks],
-            ["row 9: shortened to fit, with an ellipsis"],
+            ["row 9: a text is too long, so it ends in “…”: shorten it, or choose a larger label"],
         )
 
     def test_a_wide_price_among_many_equal_labels(self) -> None:
@@ -247,7 +247,9 @@ class Words(unittest.TestCase):
         laid = laid_out(data, (60.0, 40.0), 300)
         self.assertEqual(
             [remark.reason for remark in laid.prepared.remarks],
-            ["rows 3-4: shortened to fit, with an ellipsis"],
+            [
+                "rows 3-4: a text is too long, so it ends in “…”: shorten it, or choose a larger label"
+            ],
         )
 
     def test_labels_that_are_the_same_once_shortened_are_said(self) -> None:
@@ -257,7 +259,10 @@ class Words(unittest.TestCase):
         other = {"title": f"Roter {long}1 kg"}
         laid = laid_out(filed(kilos, grams, other, other), (60.0, 40.0), 300)
         first, second = [remark.reason for remark in laid.prepared.remarks]
-        self.assertEqual(first, "rows 2-5: shortened to fit, with an ellipsis")
+        self.assertEqual(
+            first,
+            "rows 2-5: a text is too long, so it ends in “…”: shorten it, or choose a larger label",
+        )
         self.assertRegex(second, '^rows 2-3: alike once shortened, "Pfefferminztee lose')
         (shown,) = {laid.pen.shown_texts(item) for item in laid.labels[:2]}
         self.assertTrue(f"{long}1 kg".startswith(shown[0].removesuffix("…")), shown)

@@ -3,6 +3,8 @@
 import re
 import subprocess
 import unittest
+from contextlib import ExitStack
+from unittest import mock
 
 import support
 from labeltools.commands import label_print, label_table
@@ -46,6 +48,22 @@ NUMBERS = (
     (r"CSV of more than (\d+) MB", csv_table.LARGEST_FILE >> 20),
     (r"than (\d+) rows or", workbook.MOST_ROWS),
     (r"rows or (\d+) columns", workbook.MOST_COLUMNS),
+)
+
+# What a page says of a status: the tool, its arguments, its lines, and words of that paragraph.
+ROLL, CODE = ("--paper", "60x40", "--to", "svg"), ("--code", "EAN")
+STATUSES = (
+    ("labels", (), "ean8 7351353\n", 0, "No line was refused"),
+    ("labels", (), "ean8 1\n", 1, "one line was refused"),
+    ("labels", ("--no",), "", 2, "arguments are bad"),
+    ("labels", ("/no/file",), "", 3, "could not be opened"),
+    ("label-table", CODE, "EAN\n96385074\n", 0, "has become a line"),
+    ("label-table", CODE, "EAN\n96385074\n1\n", 1, "row was skipped"),
+    ("label-table", ("--no",), "", 2, "arguments are wrong"),
+    ("label-print", ROLL, "ean8 7351353\n", 0, "Each label was written"),
+    ("label-print", ROLL, "ean8 7351353\nean8 1\n", 1, "label was skipped"),
+    ("label-print", ("--no",), "", 2, "Bad arguments"),
+    ("label-print", ROLL, "ean8 7351353\n", 3, "differed from its line"),
 )
 
 
@@ -107,6 +125,18 @@ class Pages(unittest.TestCase):
         helps = re.findall(r"(--[a-z-]+) .*\[default: (\w+)\]", support.help_of("labels"))
         self.assertEqual(defaults_of("labels.1"), dict(helps))
 
+    def test_statuses_are_those_of_the_tools(self) -> None:
+        """The last of label-print is that of a fault: its modules are not drawn."""
+        support.needs("mandoc")
+        for tool, words, lines, status, said in STATUSES:
+            page = shown(f"{tool}.1").partition("\nEXIT STATUS\n")[2].partition("\nEXAMPLES\n")[0]
+            self.assertIn(said, dict(re.findall(r"(?m)^ +(\d) +(.*)$", page))[str(status)])
+            with ExitStack() as stack:
+                if status == 3 and tool == "label-print":
+                    stack.enter_context(mock.patch("labeltools.drawing.pen.Pen.draw_modules"))
+                done = ran(tool, *words, input=lines.encode())
+            self.assertEqual(done.returncode, status, (tool, words, done.stderr))
+
     def test_numbers_are_those_of_the_tools(self) -> None:
         support.needs("mandoc")
         text = " ".join(f"{shown('label-print.1')} {shown('label-table.1')}".split())
@@ -127,6 +157,13 @@ class Pages(unittest.TestCase):
         names = page.partition(" - draw and read")[0].partition("NAME")[2]
         self.assertEqual({*re.findall(r"\w+", names)}, {name for name, _ in declared})
         self.assertEqual({*NUMBER.findall(page)} - {*NUMBER.findall(header)}, set())
+
+
+def ran(tool: str, *words: str, input: bytes) -> "support.Finished[bytes]":
+    """What the program or a tool makes of lines."""
+    if tool == "labels":
+        return support.run(support.labels_program(), *words, input=input)
+    return support.run_here(tool, *words, input=input)
 
 
 def calls_in(text: str) -> set[tuple[str, str]]:

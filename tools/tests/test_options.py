@@ -61,7 +61,7 @@ class Rows(unittest.TestCase):
     def test_only(self) -> None:
         codes = [line.split()[1] for line, _ in SHELF]
         self.assertEqual(self.zpl("--only", "3,5-6"), (0, [codes[1], *codes[3:5]], []))
-        said = ["rows 20-21: named by --only, but not in the input"]
+        said = ["--only names rows 20-21, which the input does not have"]
         self.assertEqual(self.zpl("--only", "2,20-21"), (1, codes[:1], said))
         plain = b"# remark\n\nean8 7351353\nean8 9638507\n"
         self.assertEqual(self.zpl("--only", "4", data=plain), (0, ["96385074"], []))

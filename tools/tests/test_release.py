@@ -4,6 +4,9 @@ installs them.
 
 import hashlib
 import os
+import re
+import shutil
+import subprocess
 import tempfile
 import unittest
 from pathlib import Path
@@ -114,6 +117,57 @@ class Release(unittest.TestCase):
         self.assertEqual(files, {*committed, "debian/changelog"})
         for name in sorted(committed):
             self.assertEqual((source / name).read_bytes(), (clone / name).read_bytes(), name)
+
+
+# A word at the place of a command: first in a line of a recipe, or behind what ends a command.
+COMMAND = re.compile(r"(?:^\t[@-]?|[;&|{][ \t]+|\b(?:do|then) )([a-z][\w-]*)(?= )", re.M)
+
+
+class Rules(unittest.TestCase):
+    """What debian/ says of a build, beside what is built."""
+
+    def test_each_program_of_a_build_is_asked_for(self) -> None:
+        """Each that a recipe calls is of Debian's base, of build-essential, or of a package that
+        debian/control names.
+        """
+        recipes = [read(name) for name in ("Makefile", "lib/Makefile")]
+        recipes[0] = recipes[0].split("\ninstall: all")[1].split("\ndebian/changelog:")[0]
+        calls = {*COMMAND.findall("\n".join(recipes).replace("\\\n", " "))}
+        paths = {str(Path(path).resolve()) for it in calls if (path := shutil.which(it))}
+        self.assertIn("/usr/bin/msgfmt", paths)
+        found = subprocess.run(["dpkg", "-S", *paths], capture_output=True, text=True).stdout
+        owners = {line.partition(":")[0] for line in found.splitlines()}
+        base = command_of("dpkg-query", "-W", "-f", "${Essential} ${Package}\n")
+        given = {*re.findall(r"(?m)^yes (.*)$", base)}
+        named = re.findall(r"(?m)^Build-Depends: (.*)$", read("debian/control"))[0]
+        given |= {*re.findall(r"[\w.+-]+", named), "binutils", "gcc", "make"}  # of build-essential
+        self.assertEqual({it for it in owners if it.partition("-x86")[0] not in given}, set())
+
+    def test_a_package_is_made_of_what_was_checked(self) -> None:
+        """Without a library its check fails, and so does the build."""
+        support.needs("dpkg-buildpackage")
+        folder = self.enterContext(tempfile.TemporaryDirectory())
+        for name in ("debian/rules", "lib/check.sh", "lib/exports.txt"):
+            Path(folder, name).parent.mkdir(exist_ok=True)
+            shutil.copy(support.TOP / name, Path(folder, name))
+        done = subprocess.run(
+            ["debian/rules", "override_dh_auto_test"], cwd=folder, capture_output=True, text=True
+        )
+        self.assertNotEqual(done.returncode, 0)
+        self.assertIn("lib/check.sh: there is no out/lib/", done.stderr)
+
+    def test_each_call_has_the_version_that_brought_it(self) -> None:
+        """As the library's own map has it."""
+        rows = re.findall(r"(?m)^ (\S+)@LABELS_(\S+) (\S+)$", read("debian/liblabels1.symbols"))
+        parts = re.findall(r"LABELS_(\S+) \{\s+global:([^}]*?)(?:local|\})", read("lib/labels.map"))
+        wanted = {(name, of) for of, names in parts for name in re.findall(r"\w+", names)}
+        wanted |= {(f"LABELS_{of}", of) for of, _ in parts}
+        self.assertEqual({(name, of) for name, of, _ in rows}, wanted)
+        self.assertEqual([row for row in rows if row[2].rstrip("~") != f"{row[1]}.0"], [])
+
+
+def read(name: str) -> str:
+    return (support.TOP / name).read_text(encoding="utf-8")
 
 
 if __name__ == "__main__":

@@ -46,10 +46,17 @@ def parts_of(output: bytes) -> tuple[Label, list[tuple[Label, str]], Label]:
     return remarks[0], list(zip(remarks[1:-1], texts[2::2])), remarks[-1]
 
 
-AROUND = (
-    "has a setting, space, quote or asterisk around the data, which would be drawn: remove it; "
-)
-AROUND += "settings are given with --settings"
+WRONG = "a digit is wrong (with these digits the last one would be 7); compare the number with "
+WRONG += "the article"
+BECOMES = "which would become part of the code"
+AROUND = {
+    "setting": f"begins with a setting, {BECOMES}: delete it, and give it with --settings",
+    "before": f"begins with a space, {BECOMES}: delete the space",
+    "after": f"ends in a space, {BECOMES}: delete the space",
+    "quotes": f"is in quotes, {BECOMES}: delete the quotes",
+    "apostrophe": f"begins with an apostrophe, {BECOMES}: delete the apostrophe",
+    "asterisks": f"is between asterisks, {BECOMES}: delete the asterisks",
+}
 OTHER = "a code that is not an EAN or UPC needs --symbology code128 (bars) or qr"
 
 
@@ -268,7 +275,7 @@ class Cells(TableTest):
         self.check(f'size 5"\tcode\n3"\t{SMALL}\n', ["--code", "code"], [f"ean8 {SMALL}"])
 
     def test_line_that_names_the_delimiter_to_excel(self) -> None:
-        problem = "row 3: 73513538: the check digit is 8, should be 7"
+        problem = f"row 3: 73513538: {WRONG}"
         self.check(
             f"sep=;\r\ncode;a\r\n{SMALL};b\r\n73513538;c\r\n",
             ["--code", "code"],
@@ -301,7 +308,7 @@ class Cells(TableTest):
         table = f'code;note\n{PENCIL};"two\r\nlines\n"\n;x\n{SMALL};y\n73513538;"a\nb"\n'
         problems = [
             'row 3: column 1 ("code") is empty',
-            "row 5: 73513538: the check digit is 8, should be 7",
+            f"row 5: 73513538: {WRONG}",
         ]
         self.check(table, ["--code", "code"], [f"ean13 {PENCIL}", f"ean8 {SMALL}"], problems, 1)
 
@@ -352,7 +359,7 @@ class Cells(TableTest):
     def test_rows_of_other_lengths(self) -> None:
         rows = [f"{PENCIL};a;b", PENCIL, f"{PENCIL};1,20;a;b", f"{SMALL};a;b;;", f"{SMALL};;"]
         problems = [
-            "row 3: the row has 1 of 3 cells: is it cut off?",
+            "row 3: the row has 1 of 3 cells: the file may be cut off, so export it again",
             (
                 "row 4: the row has 4 cells and row 1 has 3: a cell that contains the delimiter has"
                 " to be in quotes"
@@ -410,7 +417,7 @@ class Cells(TableTest):
         for end in ("\n", "\r\n", "\r"):
             self.check_cells([], {f"{SMALL}{end}": f"ean8 {SMALL}"})
             seen = f"LOT 7{end}".replace("\r", "<U+000D>").replace("\n", "<U+000A>")
-            problem = f'refused: "{seen}" {AROUND}'
+            problem = f'refused: "{seen}" {AROUND["after"]}'
             self.check_cells(["--symbology", "code128"], {f"LOT 7{end}": problem})
 
 
@@ -451,7 +458,7 @@ class Columns(TableTest):
 
     def test_no_header(self) -> None:
         table = f"{PENCIL};a\n73513538;b\n"
-        problem = "row 2: 73513538: the check digit is 8, should be 7"
+        problem = f"row 2: 73513538: {WRONG}"
         self.check(table, "--code 1 --no-header".split(), [f"ean13 {PENCIL}"], [problem], 1)
         self.check(f"ean;b\n{SMALL};c\n", "--code 1 --header".split(), [f"ean8 {SMALL}"])
         for column in ("code", "3"):
@@ -508,7 +515,7 @@ class Texts(TableTest):
             input=table.encode(),
         )
         problems = [
-            "label-table: row 3: 73513538: the check digit is 8, should be 7",
+            f"label-table: row 3: 73513538: {WRONG}",
             (
                 'label-table: row 5: column 5 ("copies") is "x": copies are a whole number from 0'
                 " to 9999"
@@ -660,8 +667,10 @@ class Texts(TableTest):
 
 # what messages say in several places
 SAID = {
+    "wrong": "a digit is wrong (with these digits the last one would be",
     "lengths": "ean8 has 8, upca has 12, ean13 has 13",
     "lost": "if leading zeros are lost",
+    "compare": "compare the number with the article",
     "none": "if the column has no check digits, give --without-check-digit",
     "case": "a GTIN-14 is drawn as ITF-14, which labels does not draw",
     "isbn": "is an ISBN of ten digits: its EAN-13 is",
@@ -690,10 +699,10 @@ NUMBERS = """\
 7351 3537 -> ean8 73513537
 0 36000 29145 2 -> upca 036000291452
 00036000291452 -> ean13 0036000291452
-4006381333932 | 4006381333932.0 | '4006381333932 -> ! 4006381333932: the check digit is 2, should be 1
-9780306406158 | 978-0-306-40615-8 -> ! 9780306406158: the check digit is 8, should be 7
-73513530 -> ! {}: the check digit is 0, should be 7
-036000291453 -> ! {}: the check digit is 3, should be 2; {none}
+4006381333932 | 4006381333932.0 | '4006381333932 -> ! 4006381333932: {wrong} 1); {compare}
+9780306406158 | 978-0-306-40615-8 -> ! 9780306406158: {wrong} 7); {compare}
+73513530 -> ! {}: {wrong} 7); {compare}
+036000291453 -> ! {}: {wrong} 2); {compare}; {none}
 36000291452 -> ! {} has 11 digits, {lengths}: give --fill-zeros {lost}
 36000291453 -> ! {} has 11 digits, {lengths}: {none}
 7351353 -> ! {} has 7 digits, {lengths}: {none}
@@ -732,7 +741,7 @@ NUMBERS = """\
 36000291452 | 036000291452 -> ean13 0036000291452
 4006381333931 -> ean13 {}
 73513537 -> ean8 {}
-36000291453 -> ! 0036000291453: the check digit is 3, should be 2
+36000291453 -> ! 0036000291453: {wrong} 2); {compare}
 0 | 00000000 | 0000000000 | 0000000000000 -> ! "{}" has only zeros, and is not an article number
 600029145 -> ! {} has 9 digits, {lengths}: {other}
 36000300000 -> ! 0036000300000 {looks}
@@ -740,7 +749,7 @@ NUMBERS = """\
 0306406152 | 0-306-40615-2 -> ! {} {isbn} 9780306406157
 --fill-zeros --symbology ean13
 36000291452 | 036000291452 -> ean13 0036000291452
-36000291453 -> ! 0036000291453: the check digit is 3, should be 2
+36000291453 -> ! 0036000291453: {wrong} 2); {compare}
 73513537 -> ! {} has 8 digits, ean13 has 13: give --symbology auto, or --fill-zeros {lost}
 --fill-zeros --symbology upca
 36000291452 | 036000291452 -> upca 036000291452
@@ -864,12 +873,22 @@ class Data(TableTest):
         self.check_cells(arguments, {"Käse 日本": "qr,level=Q,mask=auto Käse 日本"})
 
     def test_drawn_though_unmeant(self) -> None:
-        around: tuple[str, ...] = (" LOT 7", "LOT 7 ", "“LOT 7”", "'LOT 7'", "'00123", "*LOT 9*")
-        around += ("level=H abc", "height=30 LOT", "mask=2 1", "min-version=3 x")
+        around = {
+            " LOT 7": "before",
+            "LOT 7 ": "after",
+            "“LOT 7”": "quotes",
+            "'LOT 7'": "quotes",
+            "'00123": "apostrophe",
+            "*LOT 9*": "asterisks",
+            "level=H abc": "setting",
+            "height=30 LOT": "setting",
+            "mask=2 1": "setting",
+            "min-version=3 x": "setting",
+        }
         wanted = {
-            **{cell: f'refused: "{cell}" {AROUND}' for cell in around},
-            "LOT 7\u00a0": f'refused: "LOT 7<U+00A0>" {AROUND}',
-            '""LOT 7""': f'refused: ""LOT 7"" {AROUND}',
+            **{cell: f'refused: "{cell}" {AROUND[what]}' for cell, what in around.items()},
+            "LOT 7\u00a0": f'refused: "LOT 7<U+00A0>" {AROUND["after"]}',
+            '""LOT 7""': f'refused: ""LOT 7"" {AROUND["quotes"]}',
             "=A1": 'refused: column 1 ("code") has "=A1", a formula: export its value',
             '=""00123""': "{symbology} 00123",
             '=""say """"hi"""" now""': '{symbology} say "hi" now',

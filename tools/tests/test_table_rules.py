@@ -28,9 +28,10 @@ from test_table_workbooks import (
 )
 
 NO_PRICE = "which is not a price: it"
-WORDS = "has words that no price tag has; give --price-text if it is right"
+WORDS = "has words that are not part of a price; give --price-text if it is right"
 NUMBER = 400638100000
-HINT = "if they may be old, open the table in the spreadsheet and save it"
+MOVED = "cells may have moved, so compare the row with the table"
+HINT = "open it in the spreadsheet and save it again"
 
 
 class RulesTest(TableTest):
@@ -73,7 +74,7 @@ class Widths(RulesTest):
 
     def test_a_price_cut_in_two_where_row_1_ends_in_an_empty_name(self) -> None:
         text = f"EAN,Name,Price,\n{SMALL},Pen,1.99,\n{PENCIL},Pen,0,80\n"
-        problem = 'row 3: has "80" in column 4, which has no name: have cells moved?'
+        problem = 'row 3: has "80" in column 4, which has no name: ' + MOVED
         self.check(text, self.ARGUMENTS, [f"ean8 {SMALL}"], [problem], 1)
 
     def test_delimiters_at_the_end_of_each_row_but_the_first(self) -> None:
@@ -82,7 +83,7 @@ class Widths(RulesTest):
 
     def test_a_value_under_an_empty_name_leaves_its_row_out(self) -> None:
         text = f"EAN;Name;Price;\n{SMALL};Pen;1,99;order\n{PENCIL};Ink;2,99;\n"
-        problem = 'row 2: has "order" in column 4, which has no name: have cells moved?'
+        problem = 'row 2: has "order" in column 4, which has no name: ' + MOVED
         self.check(text, self.ARGUMENTS, [f"ean13 {PENCIL}"], [problem], 1)
         self.check(text, [*self.ARGUMENTS, "--text", "4"], [f"ean8 {SMALL}", f"ean13 {PENCIL}"])
 
@@ -308,6 +309,53 @@ class Titles(RulesTest):
                 (status, len(labels), quoted(title) in messages[0]), (1, 1, True), title
             )
 
+    def test_what_another_program_has_escaped_is_said_once_a_column(self) -> None:
+        words = "--code EAN --title Name --text Text".split()
+        once = "(2 rows): it is printed as it is"
+        for first, other, said in (
+            ("K\\u00e4se", "Br\\u00f6tchen", 'row 2 has "K\\u00e4se", which a program has escaped'),
+            ('Heft \\"A5\\"', "L\\'eau", 'row 2 has "Heft \\"A5\\"", which a program has escaped'),
+            ("Tee", "C:\\temp", ""),
+            ('5" rod', "12'' rod", ""),
+        ):
+            text = f"EAN\tName\tText\n{PENCIL}\t{first}\tx\n{SMALL}\t{other}\ty\n"
+            status, messages, labels = self.said(text, *words, "--delimiter", "tab")
+            self.assertEqual((status, messages), (0, [f"{said} {once}"] if said else []))
+            self.assertEqual([one["title"] for one, _ in labels], [first, other])
+
+    def test_quotes_around_each_text_of_a_column_are_said(self) -> None:
+        said = """each text in column 2 ("Name") is in quotes, as 'Tee' in row 2: it is printed as it is"""
+        for texts, wanted in (
+            (("'Tee'", "'Brot'", "'Tee, grün'"), [said]),
+            (("'Tee'", "Brot", "'Tee, grün'"), []),
+            (("'Tee'",), []),  # one may have them
+        ):
+            rows = "".join(f"{code};{one}\n" for code, one in zip((PENCIL, SMALL, BOOK), texts))
+            done = self.said(f"EAN;Name\n{rows}", *"--code EAN --title Name".split())
+            self.assertEqual(done[1], wanted)
+
+    def test_variants_have_the_title_of_the_first_row(self) -> None:
+        """A row that is left out, or not marked, still gives its title; none is there in silence."""
+        table = (
+            f"Handle;Title;EAN;Sell\na;Shirt;;x\na;;{PENCIL};x\nb;Cap;{SMALL};\nb;;{BOOK};x\n"
+            f"c;;{SOAP.zfill(13)};x\n"
+        )
+        words = "--code EAN --title Title --where Sell=x".split()
+        status, messages, labels = self.said(table, *words)
+        self.assertEqual([one.get("title") for one, _ in labels], [None] * 3)
+        status, messages, labels = self.said(table, *words, "--variants-of", "Handle")
+        self.assertEqual([one.get("title") for one, _ in labels], ["Shirt", "Cap", None])
+        self.assertEqual(
+            messages,
+            [
+                'row 2: column 3 ("EAN") is empty',
+                "row 6 has no title (1 of 3 labels)",
+                'row 3 has the title of row 2, "Shirt" (2 rows)',
+            ],
+        )
+        done = support.run_here("label-table", *"--code EAN --variants-of Handle".split())
+        self.assertIn("--variants-of needs --title", support.messages(done)[0])
+
     def test_tabs_and_marks_of_the_direction_are_white(self) -> None:
         labels = self.labels(
             f"EAN,Name\n{SMALL},a\tb \u200fc\n", *"--code EAN --title Name".split()
@@ -332,7 +380,8 @@ class Codes(RulesTest):
 
     def test_a_code_unlike_all_others_is_said(self) -> None:
         text = "EAN;Name\nA-1;x\nA-2;y\nA-3;z\nSumme;\n"
-        said = 'the code of row 5, "Summe", has no digit, and others have: is it a code?'
+        said = 'the code of row 5, "Summe", has no digit, and others have: if it is not a code, '
+        said += "delete the row"
         self.check(
             text, self.FREE, [f"code128 {code}" for code in ("A-1", "A-2", "A-3", "Summe")], [said]
         )
@@ -463,9 +512,7 @@ class Marked(RulesTest):
         older.write_bytes(support.run_here("label-table", *arguments, input=text.encode()).stdout)
         changed = text.replace("2,00", "2,20") + f"{SOAP};d;4,00\n"
         status, messages, labels = self.said(changed, *arguments, "--new-since", str(older))
-        self.assertEqual(
-            (status, messages), (0, ["2 of 4 rows are as before, and are not printed"])
-        )
+        self.assertEqual((status, messages), (0, ["2 rows have not changed, and are not printed"]))
         self.assertEqual([label["title"] for label, _ in labels], ["b", "d"])
         for part in ("title", "price"):
             without = [
@@ -516,9 +563,7 @@ class Workbooks(RulesTest):
         self.check(data, arguments, [f"ean13 {BOOK}"], [problem], 1)
         sheet = "xl/worksheets/sheet1.xml"
         saved = {sheet: parts[sheet].replace("<v>0</v>", "<v>3</v>"), "xl/workbook.xml": book}
-        said = (
-            f"the file asks to calculate its formulas again; their saved values are taken: {HINT}"
-        )
+        said = f"the results of formulas in this file may be out of date: {HINT}"
         self.check(
             packed({**parts, **saved}), arguments, [f"ean8 {SMALL}", f"ean13 {BOOK}"], [said], 0
         )

@@ -506,7 +506,7 @@ class WindowTest(Keeper):
         self.assertEqual(self.window.left_out.get_text(), "1 row is left out")
         row, cell, why = self.rows()[0]
         self.assertEqual((row, cell), ("4", "4006381333932"))
-        self.assertIn("check digit", why)
+        self.assertIn("a digit is wrong", why)
         self.assertIn("6 labels from 3 rows", self.counted())
 
     def look(self, kind: Any, number: int = 1) -> Any:
@@ -540,7 +540,7 @@ class WindowTest(Keeper):
         self.open(TABLE.replace("Soap", long))
         self.look("label")
         notes = self.window.notes
-        (place,) = [number for number, note in enumerate(notes) if "shortened to fit" in note[2]]
+        (place,) = [number for number, note in enumerate(notes) if "a text is too long" in note[2]]
         self.assertEqual(notes[place][0], "3")
         self.window.left_out_list.get_selection().select_path(Gtk.TreePath(place))
         self.until(lambda: self.window.number.get_value_as_int() == 2)

@@ -1,6 +1,7 @@
 -- Modules that are wider than any symbol are not read, and others are read by their rule.
-use Rattle.std.proofs.Common.{◌≡◌, ℕ, zero, suc, ◌<◌, ◌≤◌, Bool, true, false, Option, None, List, [], length, map, refl, arith}
-use Rattle.std.specs.Prelude.{if◌then◌else◌, nat_le, option_and_then, slice_index_or}
+use Rattle.std.proofs.Common.{◌≡◌, ℕ, zero, suc, ◌<◌, ◌≤◌, Bool, true, false, Option, Some, None}
+use Rattle.std.proofs.Common.{List, [], length, map, refl, arith}
+use Rattle.std.specs.Prelude.{if◌then◌else◌, nat_le, option_and_then, option_map, slice_index_or}
 use Rattle.std.specs.Bool.{beq, then_some}
 use Rattle.std.specs.Cmp.Lexicographic.{pointwise}
 use Rattle.std.specs.List.{list_all, range_with_len}
@@ -46,3 +47,19 @@ pub none_if_short : (reading : List (List Bool) → Option (List ℕ)) (rows : L
 none_if_short reading rows none =
     elim (nat_le (length (slice_index_or rows 0 [])) MAX_MODULES) as (λ b. (if b then reading rows else None) ≡ None)
     [ true ↦ none | false ↦ refl ]
+
+-- a test before a rule is one after it
+pub test_after : {A B : Type 0} (rule : A → Option B) (it : A) (passes : Bool) → option_and_then rule (then_some passes it)
+    ≡ option_and_then (then_some passes) (rule it)
+test_after {B = B} rule it passes = at passes (rule it) refl
+  where
+    at : (b : Bool) (o : Option B) → rule it ≡ o → option_and_then rule (then_some b it) ≡ option_and_then (then_some b) (rule it)
+    at true None e = rw e refl
+    at true (Some found) e = rw e refl
+    at false None e = rw e refl
+    at false (Some found) e = rw e refl
+
+pub told_if : {A B : Type 0} (told : A → B) (it : A) (passes : Bool)
+    → option_map told (then_some passes it) ≡ then_some passes (told it)
+told_if told it true = refl
+told_if told it false = refl

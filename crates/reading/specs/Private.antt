@@ -12,10 +12,6 @@ use Rattle.picture.specs.Text.{below}
 use Rattle.picture.specs.declared.quiet_zone.QuietZone.{QuietZone}
 use Rattle.reading.specs.Found.{Found, reading_as}
 
--- the rows before one have the pixels of the first
-abbrev pub AreAlike : Picture → ℕ → Type 0
-AreAlike p end = (x k : ℕ) → x < p.width → k < end → p.dark x k ≡ p.dark x 0
-
 -- a row before another is of the same cells as the one before it, or no quiet zone is above and below
 abbrev pub IsAgain : ℕ → QuietZone → ℕ → ℕ → Type 0
 IsAgain scale zone equal y = (y < equal) × (((zone.top ≡ 0) × (zone.bottom ≡ 0)) ⊎ (y % scale ≢ 0))

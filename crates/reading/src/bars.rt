@@ -1,6 +1,6 @@
 //! Modules read as bars.
 ghost use Rattle.std.specs.Prelude.{◌≡◌, ◌<◌, ◌-◌, length, option_map, option_and_then};
-ghost use Rattle.std.specs.Bool.{beq, then_some};
+ghost use Rattle.std.specs.Bool.{beq};
 ghost use Rattle.std.specs.Cmp.Lexicographic.{pointwise};
 ghost use Rattle.std.specs.List.{list_all, range_with_len};
 ghost use Rattle.linear_reading.specs.Reading.{read_row};
@@ -8,7 +8,7 @@ ghost use Rattle.picture.specs.Reading.{common_row, raster};
 ghost use Rattle.picture.specs.Text.{pixel_row};
 
 use linear::MAX_MODULES;
-use linear_reading::LinearReading;
+use linear_reading::{FullData, LinearReading};
 use picture::Grid;
 use qr_reading::SymbolData;
 
@@ -35,16 +35,19 @@ fn have_row<G: Grid>(grid: &G, row: &[bool], from: usize) -> bool
     (from..grid.height()).all(|y| has_row(grid, row, y))
 }
 
-/// Returns whether there are rows and all of them are equal, and puts the first of them into `row`, which is as long.
-fn common_row<G: Grid>(grid: &G, row: &mut [bool]) -> bool
+/// Reads the row that all rows are equal to. Puts the first row into `row`, which is as long.
+fn read_common<L: LinearReading, G: Grid>(grid: &G, row: &mut [bool]) -> Option<FullData>
     requires { length row.old ≡ (G.picture grid.now).width }
-    ensures { common_row (raster (G.picture grid.now)).rows ≡ then_some result row.new }
+    ensures { option_map (λ full. full.items) result
+        ≡ option_and_then (read_row L.reading) (common_row (raster (G.picture grid.now)).rows) }
 {
     if grid.height() == 0 {
-        return false;
+        return None;
     }
     grid.read_row(0, row);
-    have_row(grid, row, grid.equal_rows(0))
+    // The other rows are looked at only if the first one is read.
+    let full = L::read(row)?;
+    have_row(grid, row, grid.equal_rows(0)).then_some(full)
 }
 
 /// Reads modules as bars: the row that all rows are equal to.
@@ -58,10 +61,7 @@ pub fn read_bars<L: LinearReading, G: Grid>(modules: &G) -> Option<SymbolData>
         return None;
     }
     let mut room = [false; MAX_MODULES];
-    let row = &mut room[..width];
-    if !common_row(modules, row) {
-        return None;
-    }
+    let full = read_common::<L, G>(modules, &mut room[..width])?;
     // There is room for it, so that it is `Ok`.
-    SymbolData::try_from(L::read(row)?.as_slice()).ok()
+    SymbolData::try_from(full.as_slice()).ok()
 }

@@ -7,7 +7,7 @@ ghost use Rattle.picture.specs.Reading.{raster};
 ghost use Rattle.reading.specs.Labels.{ModulesAreRead, read_dots, read_short};
 
 use crate::bars::read_bars;
-use crate::sampled::Sampled;
+use crate::sampled::{Sampled, are_cells};
 use crate::squares::read_square;
 use filter::zone_of;
 use labelcore::{Options, Symbology};
@@ -32,12 +32,15 @@ pub fn read_modules<G: Grid>(symbology: Symbology, modules: &G) -> Option<Symbol
 
 /// Reads dots as a symbol of a symbology, in its quiet zone, each module `scale` dots wide: its full data. There is no
 /// correction: each dot has to have the colour of its module, and the quiet zone has to be light.
+#[tactic(auto, using(crate::proofs::LabelLaws::part_unread, crate::proofs::LabelLaws::whole_read))]
 pub fn read<G: Grid>(symbology: Symbology, dots: &G, scale: usize) -> Option<SymbolData>
     requires { 0 < scale }
     ensures { option_map (λ bytes. bytes.items) result ≡ read_dots symbology scale (raster (G.picture dots.now)) }
 {
-    let modules = Sampled::new(dots, scale, zone_of(symbology))?;
-    read_modules(symbology, &modules)
+    let zone = zone_of(symbology);
+    let modules = Sampled::new(dots, scale, zone)?;
+    let data = read_modules(symbology, &modules)?;
+    are_cells(dots, scale, &zone).then_some(data)
 }
 
 /// Modules in their quiet zone, at any scale, are read as the modules are. It does nothing when it runs.

@@ -1,10 +1,8 @@
 //! Modules that dots show.
-ghost use Rattle.std.specs.Prelude.{◌≡◌, ◌+◌, ◌*◌, ◌/◌, ◌%◌, ◌<◌, ◌≤◌, ◌&&◌, nat_le, nat_lt, true, Some, None, IfSome, MatchOption};
+ghost use Rattle.std.specs.Prelude.{◌≡◌, ◌+◌, ◌*◌, ◌/◌, ◌%◌, ◌<◌, ◌≤◌, ◌&&◌, nat_le, nat_lt, false, true, MatchOption};
 ghost use Rattle.std.specs.List.{list_all};
-ghost use Rattle.std.specs.Option.{is_some};
-ghost use Rattle.picture.specs.Reading.{raster, sample};
 ghost use Rattle.picture.specs.Text.{below};
-ghost use Rattle.reading.specs.Private.{AreAlike, IsAgain, are_whole_cells, is_of_cell, is_row_of_cells};
+ghost use Rattle.reading.specs.Private.{IsAgain, are_whole_cells, is_of_cell, is_row_of_cells};
 ghost use Rattle.reading.specs.Private.{modules_in};
 
 use picture::{Grid, QuietZone};
@@ -15,9 +13,7 @@ pub struct Sampled<'a, G: Grid> {
     dots: &'a G,
     scale: usize,
     zone: QuietZone,
-    are_equal: bool,
     ghost some: { 0 < scale },
-    ghost equal: { are_equal ≡ true → AreAlike (G.picture dots.now) (G.picture dots.now).height },
     ghost wide: { zone.left + zone.right ≤ (G.picture dots.now).width / scale },
     ghost high: { zone.top + zone.bottom ≤ (G.picture dots.now).height / scale },
 }
@@ -81,28 +77,22 @@ fn is_again(scale: usize, zone: &QuietZone, equal: usize, y: usize) -> bool
     y < equal && (y % scale != 0 || zone.top == 0 && zone.bottom == 0)
 }
 
-/// Returns whether each dot has the colour of its cell, and then whether all rows are known to be equal.
-fn are_cells<G: Grid>(dots: &G, scale: usize, zone: &QuietZone) -> Option<bool>
+/// Returns whether each dot has the colour of its cell. The dots are a whole number of cells.
+pub fn are_cells<G: Grid>(dots: &G, scale: usize, zone: &QuietZone) -> bool
     requires some { 0 < scale }
     requires whole { (G.picture dots.now).height % scale ≡ 0 }
-    ensures cells { is_some result
-        ≡ list_all (is_row_of_cells (G.picture dots.now) scale zone.now) (below (G.picture dots.now).height) }
-    ensures equal { IfSome result (λ are_equal. are_equal ≡ true
-        → AreAlike (G.picture dots.now) (G.picture dots.now).height) }
+    ensures { result ≡ list_all (is_row_of_cells (G.picture dots.now) scale zone.now) (below (G.picture dots.now).height) }
 {
     let mut equal = 0;
-    let mut are_equal = true;
     for y in 0..dots.height() {
-        let is_again = is_again(scale, zone, equal, y);
-        if !is_again && !is_row_of_cells(dots, scale, zone, y) {
-            return None;
+        if !is_again(scale, zone, equal, y) && !is_row_of_cells(dots, scale, zone, y) {
+            return false;
         }
-        are_equal &= is_again || y == 0;
         if y >= equal {
             equal = y + dots.equal_rows(y);
         }
     }
-    Some(are_equal)
+    true
 }
 
 /// Returns the first dot of the cell that comes `place` cells after the first `before`.
@@ -132,25 +122,18 @@ fn are_whole_cells<G: Grid>(dots: &G, scale: usize, zone: &QuietZone) -> bool
 }
 
 impl<'a, G: Grid> Sampled<'a, G> {
-    /// Returns the modules that dots show inside a quiet zone, each a square of `scale` by `scale` dots; `None` where
-    /// that is not what they show.
-    #[tactic(auto, using(crate::proofs::CellLaws::sample_is))]
+    /// Returns the modules inside a quiet zone: the first dot of each cell, a square of `scale` by `scale` dots. `None`
+    /// where the dots are no whole number of cells. Whether the other dots of a cell have its colour is not looked at.
     pub fn new(dots: &'a G, scale: usize, zone: QuietZone) -> Option<Self>
         requires { 0 < scale }
-        ensures { MatchOption result (sample (raster (G.picture dots.now)) scale zone ≡ None)
-            (λ modules. sample (raster (G.picture dots.now)) scale zone
-            ≡ Some (raster (⟦<Sampled<'a, G> as Grid>⟧.picture modules)).rows) }
+        ensures { MatchOption result (are_whole_cells (G.picture dots.now) scale zone ≡ false)
+            (λ modules. (are_whole_cells (G.picture dots.now) scale zone ≡ true)
+            × (⟦<Sampled<'a, G> as Grid>⟧.picture modules ≡ modules_in (G.picture dots.now) scale zone)) }
     {
         if !are_whole_cells(dots, scale, &zone) {
             return None;
         }
-        let are_equal = are_cells(dots, scale, &zone)?;
-        Some(Sampled {
-            dots,
-            scale,
-            zone,
-            are_equal,
-        })
+        Some(Sampled { dots, scale, zone })
     }
 }
 
@@ -172,6 +155,8 @@ impl<'a, G: Grid> Grid for Sampled<'a, G> {
     }
 
     fn equal_rows(&self, y: usize) -> usize {
-        if self.are_equal { self.height() - y } else { 1 }
+        let row = first_dot(self.dots.height(), self.scale, self.zone.top, y);
+        let cells = (self.dots.equal_rows(row) - 1) / self.scale + 1;
+        cells.min(self.height() - y)
     }
 }

@@ -176,16 +176,23 @@ class Symbol:
         if digits and not quiet_zones:
             raise ValueError("digits need quiet_zones")
         left, _, top, _ = self.quiet_zones if quiet_zones else (0, 0, 0, 0)
-        printed = layout(self.symbology) if digits else Layout((), ())
-        guarded = [range(first, last) for first, last in printed.guards]
+        guards, printed = self._printed() if digits else ((), ())
+        guarded = [range(first, last) for first, last in guards]
         bars = [(x, y, w, h + 5 * any(left + x in guard for guard in guarded)) for x, y, w, h in self.bars()]
-        texts = [((begin + end) / 2, self.data[first:last].decode()) for first, last, begin, end in printed.digits]
+        texts = [((begin + end) / 2, text) for begin, end, text in printed]
         return _pictures.svg_of(bars, self.size(quiet_zones), (left, top), module, unit, light, texts)
 
-    def png(self, scale: int = 1, dpi: float | None = None) -> bytes:
-        """Returns the symbol as PNG with its quiet zones, its modules `scale` dots wide: that of its `bitmap`.
+    def _printed(self) -> tuple[tuple[tuple[int, int], ...], tuple[tuple[int, int, str], ...]]:
+        """The longer bars of EAN and UPC, and the digits below with the modules between which they are."""
+        told = layout(self.symbology)
+        return told.guards, tuple((begin, end, self.data[a:b].decode()) for a, b, begin, end in told.digits)
 
-        Raises ValueError for a scale that is not 1 to 8, and what `Bitmap.png` raises.
+    def png(self, scale: int = 1, dpi: float | None = None, digits: bool = False) -> bytes:
+        """Returns the symbol as PNG with its quiet zones, its modules `scale` dots wide, 1 to 100.
+
+        Without digits it is that of the symbol's `bitmap`. With `digits` EAN and UPC have longer guard bars, and their
+        digits below, which takes ten modules more. Raises ValueError for a scale that is not 1 to 100, and what
+        `Bitmap.png` raises.
 
         >>> symbol("qr", "HELLO").png(scale=4)[:8]
         b'\\x89PNG\\r\\n\\x1a\\n'
@@ -199,7 +206,8 @@ class Symbol:
             min_version=self.version or 1,
             mask=self.mask,
         )
-        return drawn.png(dpi)
+        guards, printed = self._printed() if digits else ((), ())
+        return (_pictures.with_digits(drawn, scale, guards, printed) if printed else drawn).png(dpi)
 
     def save(self, file: str | os.PathLike[str], **options: Any) -> None:
         """Writes the symbol to a file whose name ends with .svg or .png, with the options of `svg` or of `png`.
@@ -418,17 +426,18 @@ def bitmap(
 ) -> Bitmap:
     """Returns the picture of some data as bits, with its quiet zones. The options are those of `draw`.
 
-    Raises what `symbol` raises.
+    A `scale` above 8, up to 100, is that of dots which the module enlarges. Raises what `symbol` raises.
 
     >>> bitmap("ean8", "7351353", height=1).bits.hex()
     '015dbd626550a742894000'
     """
-    options = _binding.options_of("pbm", scale, height, level, min_version, mask, False)
+    drawn, more = _binding.scales_of(scale)
+    options = _binding.options_of("pbm", drawn, height, level, min_version, mask, False)
     number = _binding.index_of(SYMBOLOGIES, "symbology", symbology)
     raw = _binding.encoded(data)
     picture = _bitmap(LIBRARY.labels_bitmap, options, number, raw, len(raw))
     assert picture is not None  # no data is a line that is skipped
-    return picture
+    return picture.enlarged(more)
 
 
 def bitmap_line(
@@ -443,11 +452,13 @@ def bitmap_line(
 ) -> Bitmap | None:
     """Returns the picture of one line as bits, or None for an empty line or a comment.
 
-    The options are those of `draw_line`. Raises what `line` raises.
+    The options are those of `draw_line`, with a `scale` of 1 to 100. Raises what `line` raises.
     """
-    options = _binding.options_of("pbm", scale, height, level, min_version, mask, escapes)
+    drawn, more = _binding.scales_of(scale)
+    options = _binding.options_of("pbm", drawn, height, level, min_version, mask, escapes)
     raw = _line_of(text)
-    return _bitmap(LIBRARY.labels_bitmap_line, options, raw, len(raw))
+    picture = _bitmap(LIBRARY.labels_bitmap_line, options, raw, len(raw))
+    return picture and picture.enlarged(more)
 
 
 def draw_line(

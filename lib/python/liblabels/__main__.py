@@ -13,8 +13,10 @@ def main() -> None:
     parser.add_argument("symbology", choices=SYMBOLOGIES, help=", ".join(SYMBOLOGIES), metavar="SYMBOLOGY")
     parser.add_argument("data", metavar="DATA")
     parser.add_argument("--svg", action="store_true", help="as SVG, a module one unit wide")
-    parser.add_argument("--digits", action="store_true", help="SVG: the digits of EAN and UPC below the bars")
-    parser.add_argument("--scale", type=int, default=4, metavar="N", help="PNG: dots of a module, 1 to 8 (default: 4)")
+    parser.add_argument("--digits", action="store_true", help="the digits of EAN and UPC below the bars")
+    parser.add_argument(
+        "--scale", type=int, default=4, metavar="N", help="PNG: dots of a module, 1 to 100 (default: 4)"
+    )
     parser.add_argument("--dpi", type=float, metavar="N", help="PNG: how many dots of an inch it is printed with")
     parser.add_argument("--height", type=int, default=50, metavar="N", help="how many modules high bars are (50)")
     parser.add_argument("--level", choices=LEVELS, default="M", help="of QR (default: M)")
@@ -22,7 +24,10 @@ def main() -> None:
     given = parser.parse_args()
     try:
         drawn = symbol(given.symbology, os.fsencode(given.data), height=given.height, level=given.level)
-        picture = drawn.svg(digits=given.digits).encode() if given.svg else drawn.png(given.scale, given.dpi)
+        if given.svg:
+            picture = drawn.svg(digits=given.digits).encode()
+        else:
+            picture = drawn.png(given.scale, given.dpi, given.digits)
     except ValueError as why:
         parser.error(str(why))
     sys.stdout.buffer.write(picture)

@@ -22,6 +22,8 @@ NOT_READ = 17
 MAX_MODULES = 3249
 MAX_DATA = 652
 _MASK_AUTO = 8
+_MOST_DRAWN = 8  # the largest scale of the library
+_MOST_SCALE = 100
 
 
 class Options(ctypes.Structure):
@@ -207,6 +209,12 @@ def within(name: str, number: int, lowest: int, highest: int) -> int:
     return number
 
 
+def scales_of(scale: int) -> tuple[int, int]:
+    """Returns the scale at which the library draws, and how many times its dots are enlarged after that."""
+    scale = within("scale", scale, 1, _MOST_SCALE)
+    return (scale, 1) if scale <= _MOST_DRAWN else (1, scale)
+
+
 @lru_cache(maxsize=64, typed=True)
 def options_of(
     format: str, scale: int, height: int, level: str, min_version: int, mask: int | None, escapes: bool
@@ -214,7 +222,7 @@ def options_of(
     """Returns options as the library takes them; raises ValueError for one that is out of its range."""
     numbers = (
         index_of(FORMATS, "format", format),
-        within("scale", scale, 1, 8),
+        within("scale", scale, 1, _MOST_DRAWN),
         within("height", height, 1, 500),
         index_of(LEVELS, "level", level),
         within("min_version", min_version, 1, 10),

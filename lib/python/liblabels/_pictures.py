@@ -6,12 +6,16 @@ import zlib
 from collections.abc import Iterable, Sequence
 from dataclasses import dataclass, field
 
+from . import _digits
+
 Rectangle = tuple[int, int, int, int]
 
 UNITS = ("", "px", "mm", "cm", "in", "pt")
 _DARK_IS_0 = bytes(255 - byte for byte in range(256))
 _METRES_OF_AN_INCH = 0.0254
-_BELOW_BARS = 10  # modules that digits take there, and how high their font is
+_BELOW_BARS = 10  # modules that digits take there, and how high the font of SVG is
+_LONGER = 5  # modules of guard bars
+_NO_FILTER, _LESS_ABOVE = b"\0", b"\2"  # rows of PNG: as they are, and less the row above, so that an equal one is 0
 PNG_HEAD = b"\x89PNG\r\n\x1a\n"
 
 
@@ -77,13 +81,14 @@ def png_of(width: int, height: int, bits: bytes, dpi: float | None) -> bytes:
         raise ValueError(f"dpi is {dpi}, and has to be 1 to 100000")
     size = (width + 7) // 8
     light_is_1 = bits.translate(_DARK_IS_0)
-    no_filter = b"\0"
-    rows = b"".join(no_filter + light_is_1[start : start + size] for start in range(0, size * height, size))
+    lines = [light_is_1[start : start + size] for start in range(0, size * height, size)]
+    same = _LESS_ABOVE + bytes(size)
+    rows = b"".join(same if line == above else _NO_FILTER + line for above, line in zip([None, *lines], lines))
     chunks = [_chunk(b"IHDR", struct.pack(">2I5B", width, height, 1, 0, 0, 0, 0))]
     if dpi is not None:
         a_metre = round(dpi / _METRES_OF_AN_INCH)
         chunks.append(_chunk(b"pHYs", struct.pack(">2IB", a_metre, a_metre, 1)))
-    chunks += [_chunk(b"IDAT", zlib.compress(rows, 9)), _chunk(b"IEND", b"")]
+    chunks += [_chunk(b"IDAT", zlib.compress(rows)), _chunk(b"IEND", b"")]
     return PNG_HEAD + b"".join(chunks)
 
 
@@ -101,6 +106,29 @@ class Bitmap:
     height: int
     bits: bytes = field(repr=False)
 
+    def rows(self) -> list[int]:
+        """Returns the rows as numbers, of which the lowest bit is the last dot.
+
+        >>> from liblabels import bitmap
+        >>> f"{bitmap('ean8', '7351353', height=1).rows()[0]:081b}"[:12]
+        '000000010101'
+        """
+        size = (self.width + 7) // 8
+        starts = range(0, size * self.height, size)
+        return [int.from_bytes(self.bits[start : start + size], "big") >> -self.width % 8 for start in starts]
+
+    def enlarged(self, scale: int) -> "Bitmap":
+        """Returns the picture with `scale` by `scale` dots for each.
+
+        >>> from liblabels import bitmap
+        >>> bitmap("qr", "HELLO").enlarged(3) == bitmap("qr", "HELLO", scale=3)
+        True
+        """
+        if scale == 1:
+            return self
+        wide = [_wide(row, self.width, scale) for row in self.rows()]
+        return bitmap_of(self.width * scale, [row for row in wide for _ in range(scale)])
+
     def png(self, dpi: float | None = None) -> bytes:
         """Returns the picture as PNG of one bit a dot; `dpi` says how many dots an inch has where it is printed.
 
@@ -111,3 +139,33 @@ class Bitmap:
         b'PNG'
         """
         return png_of(self.width, self.height, self.bits, dpi)
+
+
+def _wide(row: int, width: int, scale: int) -> int:
+    """A row with each dot `scale` times."""
+    return int(f"{row:0{width}b}".replace("0", "0" * scale).replace("1", "1" * scale), 2)
+
+
+def bitmap_of(width: int, rows: Sequence[int]) -> Bitmap:
+    """Returns the picture of rows as numbers, of which the lowest bit is the last dot."""
+    size = (width + 7) // 8
+    return Bitmap(width, len(rows), b"".join((row << -width % 8).to_bytes(size, "big") for row in rows))
+
+
+def with_digits(
+    bars: Bitmap, scale: int, guards: Iterable[tuple[int, int]], texts: Iterable[tuple[int, int, str]]
+) -> Bitmap:
+    """Returns bars of modules of `scale` dots with longer guard bars and with digits below.
+
+    `guards` are bars from one module on and before another one, `texts` are digits that are in the middle between two.
+    """
+    rows = bars.rows()
+    guarded = sum((1 << (end - begin) * scale) - 1 << bars.width - end * scale for begin, end in guards)
+    below = [rows[-1] & guarded] * (_LONGER * scale) + [0] * ((_BELOW_BARS - _LONGER) * scale)
+    for begin, end, text in texts:
+        left = (begin + end - _digits.WIDTH * len(text)) * scale // 2
+        for place, digit in enumerate(text, 1):
+            shift = bars.width - left - place * _digits.WIDTH * scale
+            for y, row in enumerate(_digits.rows_of(int(digit), scale), scale):
+                below[y] |= row << shift
+    return bitmap_of(bars.width, rows + below)

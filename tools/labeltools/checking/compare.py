@@ -210,7 +210,7 @@ class Comparison:
         wide = left + width + right
         high = bars.height // max(1, scale) if rows == 1 else above + rows + below
         if not scale or (wide * scale, high * scale) != (bars.width, bars.height):
-            raise Different(Text("its modules are not whole dots"))
+            raise Different(Text("the modules of its code are not whole dots"))
         spans = GUARDS.get(symbology, ())
         longer = LONGER * scale
         guards = [

@@ -48,7 +48,7 @@ def read_dots(form: str, data: bytes, width: int) -> Printed:
     try:
         return DECODERS[form](data, width)
     except (ValueError, IndexError, zlib.error, struct.error) as error:
-        raise NotDecoded(Text("no {}: {}", form, error)) from error
+        raise NotDecoded(Text("the output cannot be read back as {}: {}", form, error)) from error
 
 
 def dots_of_pbm(data: bytes, _: int) -> Printed:
@@ -62,7 +62,7 @@ def dots_of_pbm(data: bytes, _: int) -> Printed:
 def dots_of_png(data: bytes, _: int) -> Printed:
     """Reads PNG of one bit a pixel without filters."""
     if data[:8] != PNG_HEAD:
-        raise NotDecoded(Text("no png"))
+        raise NotDecoded(Text("the output is not a PNG file"))
     at = 8
     packed = b""
     width = height = 0
@@ -73,13 +73,13 @@ def dots_of_png(data: bytes, _: int) -> Printed:
         if kind == b"IHDR":
             width, height, depth, colour = struct.unpack(">IIBB", body[:10])
             if (depth, colour) != (1, 0):
-                raise NotDecoded(Text("no png of one bit a pixel"))
+                raise NotDecoded(Text("the output is not a PNG file of one bit for each dot"))
         packed += body if kind == b"IDAT" else b""
         at += length + 12
     stride = (width + 7) // 8
     rows = of_length(zlib.decompress(packed), (1 + stride) * height)
     if any(rows[:: 1 + stride]):
-        raise NotDecoded(Text("png with filters"))
+        raise NotDecoded(Text("the output is a PNG file with filters"))
     light = rows_reader(1, stride, 0, height)(rows)
     return Picture(width, height, b"".join(light).translate(INVERTED)), 1
 
@@ -94,14 +94,14 @@ def dots_of_escpos(data: bytes, width: int) -> Printed:
     while at < end:
         size, count = SIZE.unpack_from(data, at + len(RASTER))
         if not data.startswith(RASTER, at) or not 0 < size <= stride or not count:
-            raise NotDecoded(Text("no escpos of label-print"))
+            raise NotDecoded(Text("the output is not ESC/POS as label-print writes it"))
         at += len(RASTER) + SIZE.size
         white = bytes(stride - size)
         images += [white.join(rows_reader(0, size, 0, count)(data, at)), white]
         height += count
         at += size * count
     if at != end:
-        raise NotDecoded(Text("no escpos of label-print"))
+        raise NotDecoded(Text("the output is not ESC/POS as label-print writes it"))
     return Picture(width, height, b"".join(images)), 1
 
 
@@ -109,7 +109,7 @@ def dots_of_zpl(data: bytes, _: int) -> Printed:
     """Reads the graphic fields of a label, which is white where none is."""
     head = ZPL_HEAD.match(data)
     if not head or any(map(data.__contains__, LOWER)):
-        raise NotDecoded(Text("no zpl of label-print"))
+        raise NotDecoded(Text("the output is not ZPL as label-print writes it"))
     width, height = map(int, head.groups())
     stride = (width + 7) // 8
     page = bytearray(stride * height)
@@ -186,7 +186,7 @@ def without_counts(text: bytes, digits: int) -> list[bytes]:
     counts = text.translate(None, ROWS)
     parted = text.translate(AT_COUNTS)
     if counts.translate(None, COUNTS) or parted.count(b" 0") != len(counts):
-        raise NotDecoded(Text("no zpl of label-print"))
+        raise NotDecoded(Text("the output is not ZPL as label-print writes it"))
     pieces = parted.split(b" ")
     found = [b""] * (len(pieces) + len(counts))
     found[0::2] = pieces

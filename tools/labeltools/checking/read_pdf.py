@@ -231,4 +231,4 @@ def pages_of(data: bytes, dpi: float, count: int, codes: Iterable[int]) -> Itera
         for number, several in zip(pages, codes):
             yield pdf.page(number, several) if several else DrawnPage((), ())
     except (ValueError, LookupError, TypeError, zlib.error) as error:
-        raise NotDecoded(Text("no pdf of Cairo: {}", error)) from error
+        raise NotDecoded(Text("the output is not PDF as Cairo writes it: {}", error)) from error

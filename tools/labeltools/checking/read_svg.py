@@ -39,7 +39,7 @@ def dots_of_svg(data: bytes, dpi: float, size: tuple[int, int]) -> Picture:
                 for row in range(top, bottom):
                     rows[row] = rows[row] & ~bits if is_white else rows[row] | bits
     except (ElementTree.ParseError, ValueError, LookupError) as error:
-        raise NotDecoded(Text("no svg of Cairo: {}", error)) from error
+        raise NotDecoded(Text("the output is not SVG as Cairo writes it: {}", error)) from error
     return Picture(width, height, b"".join([row.to_bytes(stride, "big") for row in rows]))
 
 

@@ -370,6 +370,13 @@ def summary_of(job: Job, taken: int, known: int) -> Text:
     that prints a file.
     """
     options = job.options
+    if known and not taken:
+        return counted(
+            "nothing to print: {} label is in {} already",
+            "nothing to print: {} labels are in {} already",
+            known,
+            options.journal,
+        )
     text = labels_text(taken)
     if options.queue:
         text = Text("{} taken by {}", text, options.queue)

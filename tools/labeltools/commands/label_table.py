@@ -5,7 +5,8 @@ import gc
 import re
 import shlex
 import sys
-from dataclasses import fields
+from contextlib import suppress
+from dataclasses import fields, replace
 from pathlib import Path
 from typing import Any, Callable, Sequence, TypeVar
 
@@ -21,7 +22,7 @@ from labeltools.common.messages import (
 )
 from labeltools.common.process import CommandTalk, read_input, standard_output
 from labeltools.common.report import listed
-from labeltools.common.text import joined, NOTHING, Text
+from labeltools.common.text import joined, NOTHING, remedies_of, Text
 from labeltools.lines.file import LinesFile, read_lines
 from labeltools.lines.symbologies import EAN13, SYMBOLOGIES
 from labeltools.sheets.file_options import FileOptions
@@ -112,6 +113,8 @@ def add_column_options(group: Any) -> None:
     value(group, "--currency", "COLUMN", str, "the column of the currency of the prices")
     copies = "the column of the number of labels, 0 to 9999"
     value(group, "--copies", "COLUMN", str, copies)
+    variants = "rows with the same value there have the title of the first one"
+    value(group, "--variants-of", "COLUMN", str, variants)
 
 
 def add_row_options(group: Any) -> None:
@@ -272,6 +275,8 @@ def check(parser: Parser, arguments: argparse.Namespace) -> None:
                 " together"
             )
         )
+    if arguments.variants_of and not arguments.title:
+        parser.error(Text("--variants-of needs --title"))
     if arguments.price_text and arguments.price_as:
         parser.error(Text("--price-text and --price-as do not go together"))
     is_priced = arguments.price or arguments.unit_price or arguments.old_price
@@ -292,7 +297,9 @@ def proposed(words: Sequence[str], arguments: argparse.Namespace) -> Text:
         return NOTHING
     name, data = read_input(arguments.table)
     options = TableOptions(file=made(FileOptions, arguments))
-    guess = guess_of(data, name, options, Silence())
+    sheet, guess = guess_of_sheets(data, name, options)
+    if sheet:
+        words = ["--sheet", sheet, *words]
     is_given = made(CodeRules, arguments) != CodeRules() or arguments.symbology_column is not None
     commands = [
         command_for(guess, code, rules, words, arguments)
@@ -310,6 +317,26 @@ def proposed(words: Sequence[str], arguments: argparse.Namespace) -> Text:
             said.append(Text("--{} may be {}", kind, words_for(guess, places)))
     tried = Text("try {}", joined(", ", commands[:MOST_PROPOSED]))
     return joined("; ", [*said, tried]) if commands else NOTHING
+
+
+def guess_of_sheets(data: bytes, name: str, options: TableOptions) -> tuple[str, Guess]:
+    """Returns a guess of a table, and the sheet that alone has EAN or UPC, where there are several;
+    raises `ToolError`.
+    """
+    try:
+        return "", guess_of(data, name, options, Silence())
+    except ToolError as error:
+        found = {}
+        for remedy in remedies_of(error.hint):
+            if remedy.option == "sheet":
+                one = replace(options, file=replace(options.file, sheet=remedy.value))
+                with suppress(ToolError):
+                    guess = guess_of(data, name, one, Silence())
+                    if any(ways.are_sure for ways in guess.codes.values()):
+                        found[remedy.value] = guess
+        if len(found) != 1:
+            raise
+        return found.popitem()
 
 
 def say_of_others(guess: Guess) -> None:
@@ -339,6 +366,7 @@ def command_for(
         for option in ("code", "title", "price", "copies")
         if option in columns and not getattr(arguments, option)
     }
+    options |= more_options(guess, arguments)
     options["symbology"] = rules.symbology if rules.is_free else ""
     options["fill-zeros"] = rules.fill_zeros
     options["without-check-digit"] = rules.without_check_digit
@@ -347,6 +375,21 @@ def command_for(
         options["header-row"] = guess.header if is_asked else 0
         options["no-header"] = not guess.header
     return shlex.join([TOOL, *words_of(options), *words])
+
+
+def more_options(guess: Guess, arguments: argparse.Namespace) -> dict[str, str]:
+    """Returns what a proposed command has for variants, and for prices as programs write numbers,
+    if nothing was given for them.
+    """
+    found = {}
+    if "variants-of" in guess.beside and not arguments.title:
+        found["variants-of"] = column_word(guess.names, guess.beside["variants-of"])
+    is_given = arguments.price or arguments.price_as or arguments.price_text
+    if guess.price_as and not (is_given or arguments.currency):
+        if "currency" in guess.beside:
+            found["currency"] = column_word(guess.names, guess.beside["currency"])
+        found["price-as"] = guess.price_as
+    return found
 
 
 def older_lines(path: str) -> LinesFile:

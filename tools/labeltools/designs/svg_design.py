@@ -358,9 +358,13 @@ def design_remarks(design: SvgDesign, smaller: list[str], edges: Edges) -> Itera
 
 def mixed_text(file: str, places: str) -> Text:
     """Returns that letters can hardly be read in some places."""
-    what = Text("{}: the drawing is light and dark in the place {}", file, places)
-    hint = Text("the drawing behind letters has to be light or dark: move the place")
-    return Text("{}: {}", what, hint)
+    what = Text(
+        "{}: behind {} the drawing is partly light and partly dark, so letters of no colour can be "
+        "read there",
+        file,
+        places,
+    )
+    return Text("{}; {}", what, Text("move the rectangle, or the drawing"))
 
 
 def check_white(design: SvgDesign, seen: Seen) -> None:

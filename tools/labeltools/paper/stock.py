@@ -229,7 +229,11 @@ def glabels_sheet(key: PartName) -> Sheet:
     if not places or not min(sheet.cell) or sheet.beyond() > MOST_BEYOND:
         hint = Text("give {}, {}, {}", *map(Remedy, ("columns", "rows", "cell")))
         hint = hint.in_window(Text("choose another sheet"))
-        raise ToolError(Text("{}: glabels has it larger than its page", head), hint, BAD_ARGUMENTS)
+        raise ToolError(
+            Text("{}: by the list of glabels its labels are larger than its page", head),
+            hint,
+            BAD_ARGUMENTS,
+        )
     return sheet
 
 

@@ -12,7 +12,7 @@ from labeltools.layout.layout import LaidOut, LaidOutFile
 from labeltools.printing.selection import Selection
 
 DENSE = 0.33  # millimetres: modules of QR below it are reported
-SHORTENED = Text("shortened to fit, with an ellipsis")
+SHORTENED = Text("a text is too long, so it ends in “…”: shorten it, or choose a larger label")
 
 
 def remarks_on(

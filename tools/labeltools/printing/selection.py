@@ -48,11 +48,13 @@ class Selection:
             if self.codes:
                 codes.update(names_of_code(record))
         if lacking := ranges_of(self.lacking(rows)):
-            reason = Text("named by --only, but not in the input")
-            yield LeftOut(None, "", Text("{}: {}", ranges_text(lacking), reason))
+            named = ranges_text(lacking)
+            text = Text("--only names {}, which the input does not have", named)
+            yield LeftOut(None, "", text)
         if unknown := [code.decode("utf-8", "backslashreplace") for code in self.codes - codes]:
-            text = few(sorted(unknown))
-            yield LeftOut(None, "", Text("{}: named by --only-code, but not in the input", text))
+            some = few(sorted(unknown))
+            text = Text("--only-code names {}, which the input does not have", some)
+            yield LeftOut(None, "", text)
 
     def lacking(self, rows: set[int]) -> Iterator[int]:
         """Yields the rows that are asked for and not among some, each once; of a range without an

@@ -322,7 +322,12 @@ def may_be_on_paper(printer: str, words: str) -> Text:
     """
     reason = Text("may be on paper, from {}: look for it", printer)
     again = f"{words} --again {shlex.quote(printer)}"
-    return sentence(reason, Text("if it is not there, print only it with {}", again))
+    hint = Text(
+        "if it is there, change sending to taken in its line of the journal; if not, print only "
+        "it with {}",
+        again,
+    )
+    return sentence(reason, hint)
 
 
 def by_code(code: bytes) -> str:

@@ -79,13 +79,13 @@ class Shape:
         >>> print(shape.problem(["1", "a", "", "", ""]))
         the row has 5 cells and row 1 has 3: a cell that contains the delimiter has to be in quotes
         >>> print(shape.problem(["1"]))
-        the row has 1 of 2 cells: is it cut off?
-        >>> print(shape.problem(["1", "a", "b"]))
-        has "b" in column 3, which has no name: have cells moved?
+        the row has 1 of 2 cells: the file may be cut off, so export it again
+        >>> shape.problem(["1", "a", "b"]).what
+        'has "b" in column 3, which has no name'
         """
         if len(cells) < self.names:
             what = Text("the row has {} of {} cells", len(cells), self.names)
-            return RowError(what, Text("is it cut off?"))
+            return RowError(what, Text("the file may be cut off, so export it again"))
         is_filled = any(cell.strip() for cell in cells[self.width :])
         if len(cells) > self.width + self.rest or is_filled:
             return RowError(
@@ -97,7 +97,8 @@ class Shape:
                 what = Text(
                     "has {} in column {}, which has no name", quoted(cells[place]), place + 1
                 )
-                return RowError(what, Text("have cells moved?"))
+                hint = Text("cells may have moved, so compare the row with the table")
+                return RowError(what, hint)
         return None
 
 

@@ -248,6 +248,7 @@ class OdsReader(Reader[tuple[OdsSheet, Row]]):
         self.path: list[str] = []  # around the rows
         self.sheet = OdsSheet(-1, "", False)
         self.columns: list[str] = []
+        self.hidden_places: set[int] = set()
         self.number = 1
         self.merges: list[Merge] = []
         self.row: Attributes = {}
@@ -308,7 +309,7 @@ class OdsReader(Reader[tuple[OdsSheet, Row]]):
         place = self.sheet.place + 1
         is_visible = attributes.get("style-name") not in self.styles.hidden
         self.sheet = OdsSheet(place, attributes.get("name", ""), is_visible)
-        self.columns = []
+        self.columns, self.hidden_places = [], set()
         self.number = 1
         self.merges = []
         self.found.append((self.sheet, Row(0, ())))
@@ -317,7 +318,10 @@ class OdsReader(Reader[tuple[OdsSheet, Row]]):
         """Adds the style of columns, which may be repeated."""
         count = repeats(attributes, "number-columns-repeated")
         style = attributes.get("default-cell-style-name", "")
-        self.columns += [style] * min(count, MOST_COLUMNS - len(self.columns))
+        first = len(self.columns)
+        self.columns += [style] * min(count, MOST_COLUMNS - first)
+        if attributes.get("visibility", "visible") != "visible":
+            self.hidden_places.update(range(first, len(self.columns)))
 
     def begin_row(self, attributes: Attributes) -> None:
         """Begins a row."""
@@ -400,7 +404,8 @@ class OdsReader(Reader[tuple[OdsSheet, Row]]):
         repeat = repeats(self.row, "number-rows-repeated")
         if is_hidden or any(self.cells):
             merges = tuple(self.merges)
-            row = Row(self.number, self.cells, None, is_hidden, merges, self.links)
+            beside = merges, self.links, self.hidden_places
+            row = Row(self.number, self.cells, None, is_hidden, *beside)
             rows = rows_from(row, self.letters, repeat)
             self.found += ((self.sheet, one) for one in rows)
         self.number += repeat

@@ -1,6 +1,6 @@
 """Rows of a table, of whatever kind its file is."""
 
-from typing import Mapping, NamedTuple, Sequence
+from typing import Container, Mapping, NamedTuple, Sequence
 
 from labeltools.common.messages import RowError
 from labeltools.common.text import Text
@@ -22,7 +22,7 @@ class Row(NamedTuple):
     """A row with the number that a spreadsheet shows.
 
     `problem` leaves the row out. `merges` are the merged cells that cross the row, `links` the
-    addresses that cells lead to, by their places.
+    addresses that cells lead to, by their places; `hidden_places` are those of hidden columns.
     """
 
     number: int
@@ -31,6 +31,7 @@ class Row(NamedTuple):
     is_hidden: bool = False
     merges: Sequence[Merge] = ()
     links: Mapping[int, str] | None = None
+    hidden_places: Container[int] = ()
 
     def is_blank(self) -> bool:
         """Returns whether the row has nothing in it."""

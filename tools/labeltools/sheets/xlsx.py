@@ -38,6 +38,7 @@ from labeltools.sheets.workbook import (
     F,
     LARGEST_TEXTS,
     merges_at,
+    MOST_COLUMNS,
     NOT_SAVED,
     NOT_SAVED_HINT,
     range_corners,
@@ -60,8 +61,8 @@ PLACES = {"superscript": Mark.RAISED, "subscript": Mark.LOWERED}
 # white by the numbers of themes and of palettes (18.8.3, 18.8.27)
 WHITE_THEME = "0"
 WHITE_INDEXES = ("1", "9", "65")
-STALE = Text("the file asks to calculate its formulas again; their saved values are taken")
-STALE_HINT = Text("if they may be old, open the table in the spreadsheet and save it")
+STALE = Text("the results of formulas in this file may be out of date")
+STALE_HINT = Text("open it in the spreadsheet and save it again")
 
 
 Target = tuple[str, str]  # what a part refers to: its kind, and a part or an address outside
@@ -325,16 +326,18 @@ def relations(archive: ZipFile, path: str) -> dict[str, Target]:
 @dataclass
 class Beside:
     """What a sheet has beside its rows: the merged cells by their first row, the addresses that
-    cells lead to, by row and place, and whether a condition takes letters away.
+    cells lead to, by row and place, the places of hidden columns, and whether a condition takes
+    letters away.
     """
 
     merges: dict[int, list[Merge]] = field(default_factory=dict)
     links: dict[int, dict[int, str]] = field(default_factory=dict)
+    hidden_places: set[int] = field(default_factory=set)
     has_condition: bool = False
 
 
 def beside_of(archive: ZipFile, path: str, of_conditions: Sequence[Lettering]) -> Beside:
-    """Returns what a sheet has beside its rows, most of which is below them."""
+    """Returns what a sheet has beside its rows, above and below them."""
     beside = Beside()
     targets: dict[str, Target] = {}
     for name, found in elements(archive, path, ROWS):
@@ -347,6 +350,9 @@ def beside_of(archive: ZipFile, path: str, of_conditions: Sequence[Lettering]) -
             place_in_page = f"#{found['location']}" if found.get("location") else ""
             address = targets[found["id"]][1] + place_in_page
             beside.links.setdefault(row, {})[place] = address
+        elif name == "cols/col" and found.get("hidden") in TRUE:
+            ends = whole_number(found["min"], 1) - 1, whole_number(found["max"])
+            beside.hidden_places.update(range(ends[0], min(ends[1], MOST_COLUMNS)))
         elif name == "conditionalFormatting/cfRule" and "dxfId" in found:
             form = of_conditions[whole_number(found["dxfId"])]
             beside.has_condition = beside.has_condition or form.mark in NO_LETTERS
@@ -450,7 +456,8 @@ class SheetReader(Strings[Row]):
         self.is_inside = False
         number, cells = self.number, self.cells
         self.merges = merges_at(self.merges, number) + self.beside.merges.get(number, [])
-        row = Row(number, cells, None, is_unseen(self.row), self.merges, self.links)
+        is_hidden, places = is_unseen(self.row), self.beside.hidden_places
+        row = Row(number, cells, None, is_hidden, self.merges, self.links, places)
         self.found += rows_from(row, self.letters)
 
 

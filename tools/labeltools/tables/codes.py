@@ -35,11 +35,21 @@ ISBN_10 = re.compile("(?:[0-9][- ]?){8,9}[0-9Xx]")
 LOOKS_ROUNDED = re.compile("[0-9]*0{6}[0-9]|(?=.{11})0*[0-9]{1,6}0+")
 IS_ROUNDED = re.compile("[0-9]+(?:[.,][0-9]+)?[Ee][+]?[0-9]+")
 KEYS = sorted({key for one in SYMBOLOGIES.values() for key in one.settings})
-# what would be drawn though nobody means it
-AROUND = re.compile(
-    rf"(?:{'|'.join(KEYS)})=\S*(?: .*)?|\s.*|.*\s|\".*\"|'.*|[“„].*[“”]|«.*»|».*«|\*.+\*",
-    re.DOTALL,
+WITH_SETTINGS = Text("delete it, and give it with {}", Remedy("settings"))
+# what would be drawn though nobody means it, and what to do about it
+AROUND = (
+    (
+        rf"(?:{'|'.join(KEYS)})=\S*(?: .*)?",
+        Text("begins with a setting"),
+        WITH_SETTINGS.in_window(Text("delete it")),
+    ),
+    (r"\s.*", Text("begins with a space"), Text("delete the space")),
+    (r".*\s", Text("ends in a space"), Text("delete the space")),
+    (r"\".*\"|'.+'|[“„].*[“”]|«.*»|».*«", Text("is in quotes"), Text("delete the quotes")),
+    ("'.*", Text("begins with an apostrophe"), Text("delete the apostrophe")),
+    (r"\*.+\*", Text("is between asterisks"), Text("delete the asterisks")),
 )
+AROUND_DATA = re.compile("|".join(pattern for pattern, _, _ in AROUND), re.DOTALL)
 # what GS1's texts in brackets begin with: an SSCC, or a GTIN
 IN_BRACKETS = re.compile(r"\((?:00\)(?=[0-9]{18})|0[12]\)(?=[0-9]{14}))([0-9]+).*", re.DOTALL)
 WITHOUT_DIGIT = Remedy("without-check-digit", says=Text("The codes have no check digit"))
@@ -148,13 +158,11 @@ def check_data(cell: str) -> None:
         raise RowError(Text("{}: {}", quoted(cell), ROUNDED), ROUNDED_HINT)
     if cell.strip().casefold() in NO_VALUES or PROGRAM_ERROR.fullmatch(cell.strip()):
         raise RowError(Text("{} is what a program writes if it has no value", quoted(cell)))
-    if AROUND.fullmatch(cell):
-        what = Text(
-            "{} has a setting, space, quote or asterisk around the data, which would be drawn",
-            quoted(cell),
-        )
-        hint = Text("remove it; settings are given with {}", Remedy("settings"))
-        raise RowError(what, hint.in_window(Text("remove it")))
+    if AROUND_DATA.fullmatch(cell):
+        found = (one for one in AROUND if re.fullmatch(one[0], cell, re.DOTALL))
+        _, around, hint = next(found)
+        what = Text("{} {}, which would become part of the code", quoted(cell), around)
+        raise RowError(what, hint)
 
 
 def is_in_brackets(data: str) -> bool:
@@ -276,6 +284,7 @@ def wrong_check_digit(filled: str, count: int, rules: CodeRules) -> WrongDigit:
     in the table.
     """
     right = check_digit(filled[:-1])
-    what = Text("{}: the check digit is {}, should be {}", filled, filled[-1], right)
+    what = Text("{}: a digit is wrong (with these digits the last one would be {})", filled, right)
+    hint = Text("compare the number with the article")
     may_miss = rules.symbology == AUTO and count == 12
-    return WrongDigit(what, NO_CHECK_DIGITS if may_miss else NOTHING)
+    return WrongDigit(what, joined("; ", (hint, NO_CHECK_DIGITS)) if may_miss else hint)

@@ -11,7 +11,6 @@ from labeltools.common.column_names import name_of, NUMBER, row_with_names
 from labeltools.common.messages import BAD_ARGUMENTS, quoted, RowError, ToolError
 from labeltools.common.text import give, NOTHING, Remedy, Text
 from labeltools.lines.file import MOST_COPIES
-from labeltools.lines.symbologies import SYMBOLOGIES
 from labeltools.sheets.cells import (
     CellKind,
     COPIES,
@@ -34,11 +33,6 @@ LISTED = 40  # columns that a message lists
 COUNT = re.compile("0*[0-9]{1,4}(?:[.,]00?)?")
 # what may be in the name of a column of codes though it has digits
 NAME_WITH_DIGITS = re.compile("(?:EAN|GTIN|UPC|ISBN|Code|QR)[- ]?[0-9]{1,3}", re.IGNORECASE)
-# symbologies by the letters and digits of their names
-NAMED = {
-    **{name: name for name in (*SYMBOLOGIES, "auto")},
-    **{"qrcode": "qr", "gtin13": "ean13", "gtin8": "ean8", "upc": "upca", "gtin12": "upca"},
-}
 MARKS = "\u200e\u200f\u061c"  # of the direction, which spreadsheets put around currencies
 
 
@@ -130,21 +124,6 @@ class Head:
     names: tuple[str, ...]
 
 
-def symbology_in(column: Column, row: Row, default: str) -> str:
-    """Returns the symbology that a cell names, as `EAN-13` or `qr`; the default for an empty one;
-    raises `RowError`.
-    """
-    text = column.mark(row)
-    if not text:
-        return default
-    found = NAMED.get(re.sub("[^a-z0-9]", "", text.casefold()))
-    if found is None:
-        listed = ", ".join(one.title for one in SYMBOLOGIES.values())
-        what = Text("has {}, which is not a symbology", quoted(text))
-        raise column.error(RowError(what, Text("it is one of {}", listed)))
-    return found
-
-
 def columns_of(head: Head, rows: Iterable[Row], options: TableOptions) -> Columns[Column]:
     """Returns the columns that were asked for; raises `ToolError` where one is not sure.
 
@@ -226,12 +205,8 @@ def refuse_wide_name(place: int, name: str, row: Row) -> None:
     """Raises `ToolError` for a name that is merged over several columns."""
     for merge in row.merges:
         if merge.row == row.number and merge.place == place < merge.last_place:
-            what = Text(
-                "the name {} is over the columns {} to {}",
-                quoted(name),
-                place + 1,
-                merge.last_place + 1,
-            )
+            ends = place + 1, merge.last_place + 1
+            what = Text("the name {} is over the columns {} to {}", quoted(name), *ends)
             raise ToolError(what, Text("give the number of one of these columns"), BAD_ARGUMENTS)
 
 

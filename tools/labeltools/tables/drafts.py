@@ -12,7 +12,8 @@ from labeltools.lines.file import Label
 from labeltools.lines.symbologies import SYMBOLOGIES
 from labeltools.sheets.rows import Row
 from labeltools.tables.codes import Code, code_of, CodeRules, is_in_brackets
-from labeltools.tables.columns import Column, symbology_in
+from labeltools.tables.columns import Column
+from labeltools.tables.escaped import EscapedTexts
 from labeltools.tables.money import (
     currency_of,
     currency_remedy,
@@ -24,11 +25,11 @@ from labeltools.tables.money import (
     plain_signs,
 )
 from labeltools.tables.once import Once
-from labeltools.tables.prices import ARITHMETIC, MOST_LOST, nearest
+from labeltools.tables.prices import ARITHMETIC, MOST_LOST, nearest, PROGRAM_DECIMALS
 from labeltools.tables.table_options import Columns, TableOptions
 from labeltools.tables.twice import twice_encoded
+from labeltools.tables.variants import Variants
 
-HTML = re.compile("</?[a-z][^<>]*>|&(?:[a-z]{2,8}|#[0-9]{1,6});", re.IGNORECASE)
 OWN_TABLE = Text("make it a table of its own")
 ZERO_HINT = Text("it is a zero, which its number format shows like this")
 HALF = Decimal("0.5")
@@ -41,7 +42,13 @@ MONTH_HINT = Text("give {} if it is none", Remedy("price-as")).in_window(
 )
 HAS_DIGIT = re.compile("[0-9]")
 SHOWN_DECIMALS = 6  # of the number of a cell, in a message
-PROGRAM_DECIMALS = 17  # of a number that a program has calculated
+
+
+# symbologies by the letters and digits of their names
+NAMED = {
+    **{name: name for name in (*SYMBOLOGIES, "auto")},
+    **{"qrcode": "qr", "gtin13": "ean13", "gtin8": "ean8", "upc": "upca", "gtin12": "upca"},
+}
 
 
 class Price(NamedTuple):
@@ -78,6 +85,8 @@ class DraftReader:
     other_names: int = 0  # the row that names other columns, or the same in other places
 
     def __post_init__(self) -> None:
+        self.variants = Variants(self.columns, self.once)
+        self.escaped = EscapedTexts(self.once)
         place = self.columns.code.place
         self.code_name = self.names[place] if place < len(self.names) else ""
 
@@ -90,12 +99,14 @@ class DraftReader:
         typed = cell if isinstance(cell, str) else cell.value
         if not typed.isdigit() or typed == self.code_name or self.other_names:  # but most rows
             self.refuse_names(row)
+        self.variants.see(row)
         if not all(column.has(row, value) for column, value in self.columns.where):
             return None
         columns = self.columns
         code = self.code(row)
         self.right_codes += 1
         title = "\n".join(self.texts(columns.title, row, code).values())
+        title = title or self.variants.title(row)
         texts = self.texts(columns.text, row, code)
         currency = self.currency(row)
         copies = columns.copies.copies(row) if columns.copies else 1
@@ -201,9 +212,7 @@ class DraftReader:
         if (before := twice_encoded(text)) != text:
             what = Text("has {}, which was encoded twice, for {}", quoted(text), quoted(before))
             raise column.error(RowError(what, Text("export the table again")))
-        if HTML.search(text):
-            said = Text("row {} has {}, as programs write it", row.number, quoted(text))
-            self.once.see("left", said, Text("it is printed as it is"))
+        self.escaped.see(column, row.number, text)
 
     def see_price(self, price: Price, row: int, number: Decimal) -> None:
         """Looks at a price that is the number of a cell; raises `RowError` where it is shown as
@@ -283,3 +292,18 @@ class DraftReader:
 def bare_texts(row: Row) -> Iterator[str]:
     """Yields the cells of a row as they were typed."""
     return (cell if isinstance(cell, str) else cell.value for cell in row.cells)
+
+
+def symbology_in(column: Column, row: Row, default: str) -> str:
+    """Returns the symbology that a cell names, as `EAN-13` or `qr`; the default for an empty one;
+    raises `RowError`.
+    """
+    text = column.mark(row)
+    if not text:
+        return default
+    found = NAMED.get(re.sub("[^a-z0-9]", "", text.casefold()))
+    if found is None:
+        listed = ", ".join(one.title for one in SYMBOLOGIES.values())
+        what = Text("has {}, which is not a symbology", quoted(text))
+        raise column.error(RowError(what, Text("it is one of {}", listed)))
+    return found

@@ -1,32 +1,40 @@
 """Guesses what the columns of a table are for, by their names and by what is in their cells. A
 window shows the guess, label-table proposes it, and the keeper of the shop decides.
 
-The plain name wins: a column that is named by nothing but a word for the thing, and has cells of
-that kind, is meant; what has another word beside it, which may be any one, is a price or a title of
-some kind. Where two are named so, the keeper is asked.
+The plain name wins: what has any other word beside that for the thing is a price or a title of some
+kind. Where two names are plain, the keeper is asked.
 """
 
 import re
 import unicodedata
-from collections.abc import Callable, Iterator, Mapping, Sequence
+from collections.abc import Callable, Container, Iterable, Iterator, Mapping, Sequence
 from contextlib import suppress
 from dataclasses import dataclass, field, replace
 from enum import IntEnum
-from functools import cache, cached_property, partial
+from functools import cache, cached_property
 from itertools import islice, takewhile, zip_longest
+from os.path import commonprefix
 from pathlib import Path
 from typing import NamedTuple
 
 from labeltools.common.messages import RowError, Talk
-from labeltools.common.text import NOTHING, Text
 from labeltools.common.word_lists import lists_of
-from labeltools.lines.symbologies import CODE128, QR
 from labeltools.sheets.rows import Row
-from labeltools.tables.codes import AUTO, code_of, CodeRules, has_length
+from labeltools.tables.code_readings import (
+    CodeReading,
+    has_lost_zeros,
+    is_code,
+    LEAST,
+    passing_share,
+    reading_of,
+)
+from labeltools.tables.codes import AUTO
 from labeltools.tables.columns import column_names, NAME_WITH_DIGITS, texts_of
 from labeltools.tables.money import parse
+from labeltools.tables.prices import are_currencies, pattern_for
 from labeltools.tables.table import head_of
 from labeltools.tables.table_options import TableOptions
+from labeltools.tables.variants import variants_in
 
 COLUMN_WORDS = Path(__file__).with_name("columns.list")
 # what may be the number of an article: three digits and more, but neither a date nor a count
@@ -40,24 +48,17 @@ COUNT = re.compile("[0-9]{1,3}")
 DIGITS = re.compile("[0-9]+")
 FIGURES = re.compile(r"[\W_]*[0-9][\W\d_]*")  # a date or an amount, which is no name
 LETTERS = re.compile(r"(?:[^\W\d][\W\d]*){3}")  # those that a title has
-NO_BARS = re.compile(".*://.*|.{31,}")
 TAG = re.compile(r"\s*<[a-z][^<>]*>.*", re.DOTALL | re.IGNORECASE)  # what HTML begins with
 HUMP = re.compile("(?<=[a-z]{2})(?=[A-Z])|(?<=[A-Z]{2})(?=[A-Z][a-z]{2})")  # as in `salePrice`
 # letters that Unicode does not take apart, and one that is a letter of its own
 FOLDED = str.maketrans({**dict(zip("łøđðı", "loddi")), "å": "aa", "%": " percent "})
 MOST_IN_ONE = 4  # words that count as one
+SHORT = 5  # letters of a word that is never written as several
+MANY = 6  # names that begin alike by no chance
 SAMPLE = 300  # rows that are looked at
 PAID = ("prices", "taxed", "paid", "beside-prices")  # the words of a plain price
+CODES = ("codes", "own-numbers")
 TITLES = ("titles", "parts", "articles", "descriptions")
-LEAST = 0.5  # the part of the cells of a column that are of its kind
-MOST_CHANCE = 3  # numbers whose check digits agree by chance, all of them, in one case of 1000
-# how numbers that are no EAN or UPC as they are may be meant
-WITH_ZEROS = CodeRules(fill_zeros=True)
-OTHER_WAYS = (
-    WITH_ZEROS,
-    CodeRules(without_check_digit=True),
-    CodeRules(CODE128.name),
-)
 
 
 def folded(text: str) -> str:
@@ -86,28 +87,36 @@ class Words:
 
 @cache
 def column_words() -> Mapping[str, Words]:
-    """Returns the words by their kinds, and those that are several in one by no kind."""
-    lists = lists_of(COLUMN_WORDS)
-    several = [word for words in lists.values() for word in words if "_" in word]
-    return {"": Words(several), **{kind: Words(words) for kind, words in lists.items()}}
+    """Returns the words by their kinds."""
+    return {kind: Words(words) for kind, words in lists_of(COLUMN_WORDS).items()}
+
+
+@cache
+def joined_words() -> Mapping[str, str]:
+    """Returns the words that may be written as several, by their letters."""
+    words = (word for kind in column_words().values() for word in kind.all if "-" not in word)
+    return {word.replace("_", ""): word for word in words if "_" in word or len(word) > SHORT}
 
 
 def words_in(name: str) -> Iterator[str]:
     """Yields the words of the name of a column; some that stand together are one.
 
-    >>> [*words_in("Prix de réf. (inkl. MwSt)")]
-    ['prix', 'de', 'ref', 'inkl_mwst']
+    >>> [*words_in("Prix de réf. (inkl. MwSt)")], [*words_in("Code à barres")]
+    (['prix', 'de', 'ref', 'inkl_mwst'], ['code_a_barres'])
     """
     words = re.findall(r"[^\W\d_]+", folded(HUMP.sub(" ", name)))
     while words:
-        both = ("_".join(words[:count]) for count in range(MOST_IN_ONE, 1, -1))
-        yield (found := next(filter(column_words()[""].has, both), words[0]))
-        del words[: found.count("_") + 1]
+        count = MOST_IN_ONE
+        while count > 1 and "".join(words[:count]) not in joined_words():
+            count -= 1
+        letters = "".join(words[:count])
+        yield joined_words().get(letters, letters)
+        del words[:count]
 
 
 class Plainness(IntEnum):
     """What the name of a column says beside the words for a thing: nothing, a number as `Price 2`,
-    words that names of other columns have, too, or that it is of some kind.
+    words that the name of the stock has, too, or that it is of some kind.
     """
 
     PLAIN = 0
@@ -118,14 +127,21 @@ class Plainness(IntEnum):
 
 @dataclass(frozen=True)
 class ColumnSample:
-    """A column: its name, its cells that have a text, the part of its cells that they are, and
-    words of its name that say nothing, as they are in those of others.
-    """
+    """A column: its name, its cells, and words of its name that are in that of the stock, too."""
 
     name: str
-    texts: Sequence[str]
-    filled: float = 1.0
+    cells: Sequence[str] = ()
     shared: frozenset[str] = frozenset()
+
+    @cached_property
+    def texts(self) -> Sequence[str]:
+        """Its cells that have a text."""
+        return [one for one in self.cells if one]
+
+    @property
+    def filled(self) -> float:
+        """The part of its cells that have a text."""
+        return len(self.texts) / max(1, len(self.cells))
 
     @cached_property
     def words(self) -> frozenset[str]:
@@ -134,7 +150,7 @@ class ColumnSample:
 
     def has(self, test: Callable[[str], object]) -> bool:
         """Returns whether most of its texts pass a test; those that it refuses do not."""
-        return bool(self.texts) and passing_share(self.texts, test) >= LEAST
+        return passing_share(self.texts, test) >= LEAST
 
     @cached_property
     def differing(self) -> float:
@@ -144,7 +160,7 @@ class ColumnSample:
     def says(self, *kinds: str) -> frozenset[str]:
         """Returns the words of its name that are in the lists of these kinds.
 
-        >>> sorted(ColumnSample("EK netto, Einkaufspreis, VK, Aktion", ()).says("cost", "net"))
+        >>> sorted(ColumnSample("EK netto, Einkaufspreis, VK, Aktion").says("cost", "net"))
         ['einkaufspreis', 'ek', 'netto']
         """
         lists = [column_words()[kind] for kind in kinds]
@@ -160,25 +176,33 @@ class ColumnSample:
 
     @property
     def title_rank(self) -> tuple[int, Plainness]:
-        """How plainly its name says that it has titles: a name, a part of one, one of some kind,
-        an article or a description, one of some kind, or nothing.
+        """How plainly its name says that it has titles: a name, a part of one, a name of some kind
+        or a description, the article's own before others; one of some kind; or nothing.
         """
         plainness = self.plainness(*TITLES, "beside-titles")
         is_plain = plainness is not Plainness.OF_SOME_KIND
-        if self.says("titles"):
-            return 0 if is_plain else 2, plainness
         if self.says("parts"):
             return 1, Plainness.PLAIN
-        if self.says("articles", "descriptions"):
+        if self.says("titles") and is_plain:
+            return 0, plainness
+        if self.says("articles") and self.says("titles", "descriptions"):
+            return 2, Plainness.PLAIN
+        if self.says("titles"):
+            return 3, Plainness.PLAIN
+        if self.says(*TITLES):
             return 3 if is_plain else 4, plainness
         return 5, Plainness.OF_SOME_KIND
 
     @property
+    def is_named_code(self) -> bool:
+        """Whether its name says that it has codes, and not that these are of something else."""
+        return bool(self.says(*CODES)) and not self.says("others")
+
+    @property
     def code_rank(self) -> Plainness:
         """How plainly its name says that it has codes, or numbers of single things."""
-        is_named = self.says("codes", "own-numbers")
-        rank = self.plainness("codes", "own-numbers", "beside-codes")
-        return rank if is_named else Plainness.OF_SOME_KIND
+        is_named = self.is_named_code
+        return self.plainness(*CODES, "beside-codes") if is_named else Plainness.OF_SOME_KIND
 
     @property
     def price_rank(self) -> Plainness:
@@ -188,21 +212,11 @@ class ColumnSample:
 
 
 @dataclass(frozen=True)
-class CodeReading:
-    """How the codes of a column may be read, of which each way reads most of them; `problem` is why
-    most are no EAN or UPC, if they may be meant as one.
-    """
-
-    rules: Sequence[CodeRules] = (CodeRules(),)
-    problem: Text = NOTHING
-
-
-@dataclass(frozen=True)
 class Guess:
     """The names of the columns; their places, from 0, by the options of label-table; how each
     column may be read that may have the codes; the row of the names, 0 where there is none; a text
-    of each column; by the same options the columns of which only the keeper knows the right one,
-    and those that may be meant beside one that was found.
+    of each column; the `doubts` that only the keeper can settle, and the `others` that may be meant
+    beside what was found; columns that belong to these; the format that the prices need, if any.
     """
 
     names: Sequence[str]
@@ -212,12 +226,12 @@ class Guess:
     examples: Sequence[str] = ()
     doubts: Mapping[str, Sequence[int]] = field(default_factory=dict)
     others: Mapping[str, Sequence[int]] = field(default_factory=dict)
+    beside: Mapping[str, int] = field(default_factory=dict)
+    price_as: str = ""
 
     @property
     def symbology(self) -> str:
-        """The symbology of the codes, or of the first column that may have them, as far as it is
-        sure.
-        """
+        """The symbology of the codes that may be meant first, as far as it is sure."""
         ways = next(iter(self.codes.values()), CodeReading())
         return AUTO if ways.problem else ways.rules[0].symbology
 
@@ -245,7 +259,9 @@ def guess_of(data: bytes, name: str, options: TableOptions, talk: Talk) -> Guess
     right = (row for row in shown if not (row.problem or row.is_blank()))
     cells = [texts_of(row) for row in right if column_names(row) != start.head.names]
     columns = list(zip_longest(start.head.names, *cells, fillvalue=""))
-    return guess(columns, 0 if file.has_header is False else head.number)
+    number = 0 if file.has_header is False else head.number
+    seen = guess(columns, number, () if file.hidden else head.hidden_places)
+    return seen if seen.codes else guess(columns, number)
 
 
 def guessed_header(rows: Sequence[Row]) -> Row:
@@ -260,44 +276,44 @@ def guessed_header(rows: Sequence[Row]) -> Row:
     return next(names, wide[0][0])
 
 
-def guess(columns: Sequence[Sequence[str]], header: int) -> Guess:
+def guess(columns: Sequence[Sequence[str]], header: int, hidden: Container[int] = ()) -> Guess:
     """Returns a guess from columns, each with its name in front, which may be empty."""
     names = [name for name, *_ in columns]
-    filled = []
-    for name, *cells in columns:
-        texts = [one.strip() for one in cells if one.strip()]
-        filled.append(ColumnSample(name, texts, len(texts) / max(1, len(cells))))
-    filled = with_shared_words(filled)
+    seen = [("", *()) if at in hidden else one for at, one in enumerate(columns)]
+    filled = samples_of([name for name, *_ in seen], [[*map(str.strip, it)] for _, *it in seen])
     codes = code_columns(filled)
     prices = price_columns({at: one for at, one in enumerate(filled) if at not in codes.may_be})
     used = {*codes.may_be, *prices.may_be}
     others = {at: one for at, one in enumerate(filled) if at not in used}
-    titles = title_columns(others)
-    counts = {at for at, one in others.items() if passing_share(one.texts, COUNT.fullmatch) == 1}
-    of_copies = [at for at in sorted(counts) if others[at].says("copies")]
+    titles = title_columns(others, [one.cells for one in filled])
+    counts = [at for at, one in others.items() if passing_share(one.texts, COUNT.fullmatch) == 1]
+    of_copies = [at for at in counts if others[at].says("copies")]
     copies = Places(of_copies, of_copies[0] if len(of_copies) == 1 else None)
     kinds = {"code": codes, "title": titles, "price": prices, "copies": copies}
     found = {kind: one.surely for kind, one in kinds.items() if one.surely is not None}
     doubts = {kind: one.may_be for kind, one in kinds.items() if one.is_asked}
     more = {kind: [at for at in kinds[kind].may_be if at != found[kind]] for kind in found}
-    ways = {at: ways_of(filled[at]) for at in codes.may_be if at == found.get("code", at)}
-    examples = [column.texts[0] if column.texts else "" for column in filled]
-    return Guess(names, found, ways, header, examples, doubts, more)
+    meant = [found["code"]] if "code" in found else codes.may_be
+    ways = {at: reading_of(filled[at].texts, bool(filled[at].says("codes"))) for at in meant}
+    examples = [next(filter(None, map(str.strip, cells)), "") for _, *cells in columns]
+    beside = {} if titles.variants_of is None else {"variants-of": titles.variants_of}
+    beside |= {"currency": at for at, one in others.items() if are_currencies(one.cells)}
+    price = filled[found["price"]] if "price" in found else ColumnSample("")
+    price_as = pattern_for(price.texts, price.name, "currency" in beside)
+    return Guess(names, found, ways, header, examples, doubts, more, beside, price_as)
 
 
-def with_shared_words(columns: Sequence[ColumnSample]) -> list[ColumnSample]:
-    """Returns columns that know which words of their names are in those of others, too: the shop in
-    `Price Main Street` and `Stock Main Street`. A word that only prices have says which one it is.
+def samples_of(names: Sequence[str], cells: Iterable[Sequence[str]]) -> list[ColumnSample]:
+    """Returns columns by what is said in their names alone: not where all begin alike, nor the shop
+    in `Price Main Street` and `Stock Main Street`.
     """
-    beside = []
-    for one in columns:
-        known = one.says(*column_words())
-        is_price = one.says("prices", "priced", "sale", "cost", "net")
-        beside.append(one.words - known if known and not is_price else frozenset())
-    return [
-        replace(one, shared=frozenset().union(*beside[:at], *beside[at + 1 :]) & one.words)
-        for at, one in enumerate(columns)
-    ]
+    start = commonprefix([one for one in names if one])
+    if len(names) < MANY and start[-1:].isalpha() or names.count("") == len(names) - 1:
+        start = ""
+    found = [ColumnSample(name[len(start) :], texts) for name, texts in zip(names, cells)]
+    stocks = (one for one in found if one.says("stock"))
+    shop = frozenset().union(*(one.words - one.says(*column_words()) for one in stocks))
+    return [replace(one, shared=shop & one.words) for one in found]
 
 
 class Places(NamedTuple):
@@ -306,6 +322,7 @@ class Places(NamedTuple):
     may_be: Sequence[int]
     surely: int | None = None
     is_none: bool = False  # surely none of them
+    variants_of: int | None = None  # the column of what rows without a title are variants of
 
     @property
     def is_asked(self) -> bool:
@@ -321,18 +338,18 @@ def code_columns(columns: Sequence[ColumnSample]) -> Places:
     own = []  # numbers of another kind, which are named as codes
     for at, one in enumerate(columns):
         is_constant = len(one.texts) > 1 == len(set(one.texts))  # as the number of one supplier
-        if (one.has(is_code) or has_lost_zeros(one)) and not is_constant:
+        if (one.has(is_code) or has_lost_zeros(one.texts)) and not is_constant:
             bare = tuple("".join(filter(str.isalnum, it)).lstrip("0") for it in one.texts)
             both = sure.get(bare, at), at  # a UPC-A may be there as an EAN-13, too
             sure[bare] = min(both, key=lambda it: columns[it].code_rank)
         elif one.code_rank is Plainness.PLAIN and one.differing == 1 and one.filled >= LEAST:
             own.append(at)
-    named = [at for at, one in enumerate(columns) if one.texts and one.says("codes", "own-numbers")]
+    named = [at for at, one in enumerate(columns) if one.texts and one.is_named_code]
+    articles = [[*filter(ARTICLE.fullmatch, one.texts)] for one in columns]
     numbers = [
         at
-        for at, one in enumerate(columns)
-        if one.has(ARTICLE.fullmatch)
-        and replace(one, texts=[*filter(ARTICLE.fullmatch, one.texts)]).differing == 1
+        for at, found in enumerate(articles)
+        if len(set(found)) == len(found) >= max(1, LEAST * len(columns[at].texts))
     ]
     numbers = [at for at in numbers if not columns[at].says("others")] or numbers
     short = [at for at, one in enumerate(columns) if one.differing == 1 and one.says("numbers")]
@@ -346,36 +363,27 @@ def code_columns(columns: Sequence[ColumnSample]) -> Places:
     return Places(found or best, best[0] if is_sure else None)
 
 
-def has_lost_zeros(column: ColumnSample) -> bool:
-    """Returns whether the numbers of a column that are no EAN or UPC all are one with zeros in
-    front, by their check digits, and are so many that this is no chance.
-    """
-    lost = {text for text in column.texts if not passing_share([text], is_code)}
-    return len(lost) >= MOST_CHANCE and passing_share([*lost], with_zeros) == 1
-
-
 def price_columns(columns: Mapping[int, ColumnSample]) -> Places:
     """Returns the columns that may have the price that customers pay: those that are named so, and
     those with amounts of money that are not named as something else. The one of the plainest name
     is sure if most rows have an amount in it, and none is for sale. Prices with tax are meant where
-    others do not say it; what is advised yields to another one with the same amounts.
+    others do not say it. What is advised yields to the same amounts, and is sure only alone.
     """
     may_be = {at: one for at, one in columns.items() if may_be_price(one)}
     paid = {at: one for at, one in may_be.items() if not one.says("cost", "net")}
     if not paid:
         return Places([*may_be], is_none=not any(one.says("net") for one in may_be.values()))
+    own = [one.texts for one in paid.values() if not one.says("advised")]
+    paid = {at: one for at, one in paid.items() if not (one.says("advised") and one.texts in own)}
     first = min(one.price_rank for one in paid.values())
     left = {at: one for at, one in paid.items() if one.price_rank is first or one.says("sale")}
-    own = [one.texts for one in left.values() if not one.says("advised")]
-    left = {at: one for at, one in left.items() if not (one.says("advised") and one.texts in own)}
     taxed = [at for at, one in left.items() if one.says("taxed") and not one.says("sale")]
     if taxed:
         left = {at: one for at, one in left.items() if at in taxed or one.says("sale", "advised")}
-    if len(left) != 1:
-        return Places([*may_be])
     at, one = next(iter(left.items()))
-    is_sure = first is not Plainness.OF_SOME_KIND and one.filled >= LEAST and one.has(is_amount)
-    return Places([*may_be], at if is_sure else None)
+    is_alone = len(left) == 1 and not (one.says("advised") and len(paid) > 1)
+    is_named = first is not Plainness.OF_SOME_KIND and one.filled >= LEAST and one.has(is_amount)
+    return Places([*may_be], at if is_alone and is_named else None)
 
 
 def may_be_price(column: ColumnSample) -> bool:
@@ -384,25 +392,28 @@ def may_be_price(column: ColumnSample) -> bool:
     """
     has_one = any(map(ABOVE_ZERO.search, column.texts))
     if column.says("prices", "priced"):
-        is_plain = column.price_rank is Plainness.PLAIN and not column.says("sale")
+        is_plain = column.price_rank is Plainness.PLAIN and not column.says("sale", "advised")
         return is_plain or has_one and passing_share(column.texts, is_amount) > 0
     return has_one and column.has(is_money) and not column.says("others", "stock")
 
 
-def title_columns(columns: Mapping[int, ColumnSample]) -> Places:
+def title_columns(columns: Mapping[int, ColumnSample], cells: Sequence[Sequence[str]]) -> Places:
     """Returns the columns that may have the title: those that are named so, and those with another
     text in most rows. Those that say it most plainly are meant, and those that have it in far more
-    rows; of a short and a long text the short one is sure.
+    rows, but for variants, as the cells of all columns say; of a short and a long text the first.
     """
     texts = {at: one for at, one in columns.items() if may_be_title(one)}
     first = min((one.title_rank for one in texts.values()), default=())
-    filled = max((one.filled for one in texts.values() if one.title_rank == first), default=1)
+    named = {at: one for at, one in texts.items() if one.title_rank == first}
+    groups = {at: variants_in(one.cells, cells) for at, one in named.items()}
+    filled = max((one.filled if groups[at] is None else 1 for at, one in named.items()), default=1)
     best = [at for at, one in texts.items() if one.title_rank == first or one.filled > 2 * filled]
     short = [at for at in best if texts[at].says("short")]
     short = short or [at for at in best if not texts[at].says("long")] or best
     if len(short) != 1:
         return Places(best)
-    return Places([at for at, one in texts.items() if one.says(*TITLES) or at in short], short[0])
+    may_be = [at for at, one in texts.items() if one.says(*TITLES) or at in short]
+    return Places(may_be, short[0], variants_of=groups.get(short[0]))
 
 
 def may_be_title(column: ColumnSample) -> bool:
@@ -424,47 +435,6 @@ def has_letters(text: str) -> bool:
     with suppress(RowError):
         return not is_money(text)
     return True
-
-
-def ways_of(column: ColumnSample) -> CodeReading:
-    """Returns how the codes of a column may be read."""
-    if has_lost_zeros(column):
-        return CodeReading([WITH_ZEROS])
-    if column.has(is_code):
-        return CodeReading()
-    if column.has(has_length) or column.says("codes"):
-        rules = [one for one in OTHER_WAYS if column.has(partial(code_of, rules=one))]
-        return CodeReading(rules or [CodeRules()], problem_of(column.texts))
-    return CodeReading([CodeRules(QR.name if column.has(NO_BARS.fullmatch) else CODE128.name)])
-
-
-def problem_of(texts: Sequence[str]) -> Text:
-    """Returns why the first text that is no EAN or UPC is none."""
-    for text in texts:
-        try:
-            code_of(text, CodeRules())
-        except RowError as problem:
-            return problem.what
-    return NOTHING
-
-
-def passing_share(texts: Sequence[str], test: Callable[[str], object]) -> float:
-    """Returns the part of the texts that pass a test; those that it refuses do not."""
-    passed = 0
-    for text in texts:
-        with suppress(RowError):
-            passed += bool(test(text))
-    return passed / max(1, len(texts))
-
-
-def is_code(text: str) -> bool:
-    """Returns whether a text is surely an EAN or UPC; raises `RowError`."""
-    return bool(code_of(text, CodeRules()))
-
-
-def with_zeros(text: str) -> bool:
-    """Returns whether a text is an EAN or UPC with zeros in front; raises `RowError`."""
-    return bool(code_of(text, WITH_ZEROS))
 
 
 def is_amount(text: str) -> bool:

@@ -12,7 +12,7 @@ from labeltools.tables.codes import Code
 from labeltools.tables.drafts import Draft, HAS_DIGIT, Price
 from labeltools.tables.money import Money, NotMoney
 from labeltools.tables.once import Once
-from labeltools.tables.prices import PriceColumn, settled, with_currency
+from labeltools.tables.prices import PriceColumn, settled, USUAL_DECIMALS, with_currency
 from labeltools.tables.summary import Totals
 from labeltools.tables.table_options import TableOptions
 
@@ -62,9 +62,11 @@ class LineWriter:
                 column.add(price.money, price.currency or "")
                 self.see_price(draft.label.row, price, price.money)
         now, _, was = draft.prices
-        if now and was and is_below(was.money, now.money):
+        if now and was and not is_above(was.money, now.money):
             row = draft.label.row
             said = Text("row {} has the old price {}, below the price {}", row, was.text, now.text)
+            if was.text == now.text:
+                said = Text("row {} has {} as the old price and as the price", row, was.text)
             self.once.see("was", said)
         if self.options.prices.pattern:
             self.waiting.append(draft)
@@ -76,7 +78,7 @@ class LineWriter:
         if not money.value:
             self.once.see(("zero", price.column), Text("row {} has the price {}", row, price.text))
         is_shown = self.options.prices.pattern or money.unit or money.is_open
-        if not is_shown and money.decimals not in (0, 2, 3):
+        if not is_shown and money.decimals not in USUAL_DECIMALS:
             said = Text("row {} has {}, as programs write prices", row, price.text)
             pattern = f"0{money.point}00 ¤" if money.currency else f"0{money.point}00"
             remedy = Remedy("price-as", pattern, Text("Print two decimals"))
@@ -179,11 +181,11 @@ class LineWriter:
             self.empty["price"].append(label.row)
 
 
-def is_below(one: Money | None, other: Money | None) -> bool:
-    """Returns whether a price is below another one, where both can be compared."""
+def is_above(one: Money | None, other: Money | None) -> bool:
+    """Returns whether a price is above another one, or both cannot be compared."""
     if not one or not other or one.is_open or other.is_open:
-        return False
-    return one.value < other.value and one.currency == other.currency
+        return True
+    return one.value > other.value or one.currency != other.currency
 
 
 def shown_by(lines: LinesFile) -> Older:

@@ -21,7 +21,7 @@ NO_CURRENCY = "¤"  # ISO 8859-15 has its € where other encodings have this si
 MOST_BARE_DIGITS = 8  # of a price; a price that has so many ends in a zero
 MOST_WHOLE_DIGITS = 12
 MOST_DECIMALS = 6  # of a price that is printed as it stands
-OTHER_WORDS = Text("has words that no price tag has")
+OTHER_WORDS = Text("has words that are not part of a price")
 ANY_TEXT = Remedy("price-text", says=Text("Prices may be any text"))
 OTHER_WORDS_HINT = Text("give {} if it is right", ANY_TEXT).in_window(NOTHING)
 FORMAT_HINT = Text("give {}", Remedy("price-as")).in_window(Text("choose how prices are printed"))
@@ -426,7 +426,7 @@ def check_amount(amount: Amount, has_currency: bool, is_plain: bool, most_decima
     if is_plain and not has_currency and not is_round:
         raise NotMoney(
             Text("is {} digits without a separator or a currency", len(whole)),
-            Text("is it a code?"),
+            Text("if it is a code, choose another column"),
         )
     if len(amount.decimals) > most_decimals or len(whole) > MOST_WHOLE_DIGITS:
         raise NotMoney(Text("has too many digits"), FORMAT_HINT)

@@ -2,6 +2,8 @@
 
 import re
 from collections import Counter
+from collections.abc import Sequence
+from contextlib import suppress
 from dataclasses import dataclass, field, replace
 from decimal import Decimal, ROUND_HALF_UP
 
@@ -12,6 +14,7 @@ from labeltools.tables.money import (
     LOOKS,
     Money,
     NotMoney,
+    parse,
     PER_UNIT,
     plain_signs,
     SPACES,
@@ -28,6 +31,8 @@ OF_MANY = re.compile(
 CENTS = Text("cents")
 ARITHMETIC = Decimal("1e-9")  # what a program's arithmetic may leave
 MOST_LOST = Decimal("0.01")  # of a price that is rounded
+USUAL_DECIMALS = (0, 2, 3)
+PROGRAM_DECIMALS = 17  # of a number that a program has calculated
 THOUSANDS_OR_DECIMALS = Text("may have thousands or decimals")
 DECIMAL_HINT = give(
     Remedy("decimal", "comma", Text("The comma, as in 1,50")),
@@ -313,6 +318,39 @@ def with_currency(price: Money, text: str, currency: str | None) -> str:
     if unit is None:
         return f"{bare} {currency}{price.end}"
     return f"{bare[: unit.start()]} {currency}{bare[unit.start() :]}{price.end}"
+
+
+def are_currencies(texts: Sequence[str]) -> bool:
+    """Returns whether all texts of a column are codes of currencies.
+
+    >>> are_currencies(["EUR", "CHF"]), are_currencies(["EUR", ""]), are_currencies([])
+    (True, False, False)
+    """
+    return bool(texts) and WORDS["codes"].issuperset(texts)
+
+
+def pattern_for(texts: Sequence[str], name: str, has_codes: bool) -> str:
+    """Returns the format of prices that are as programs write numbers, empty where they are not, or
+    the currency is not known: their column has it in each cell or in its name, or another one has
+    its code.
+
+    >>> pattern_for(["0.8", "49.9"], "Price (EUR)", False), pattern_for(["0,8"], "Preis", True)
+    ('0.00 EUR', '0,00 ¤')
+    >>> pattern_for(["0.80 €", "49.9 €"], "Price", False), pattern_for(["0.8"], "Price", False)
+    ('0.00 ¤', '')
+    >>> pattern_for(["0.80", "49"], "Price (EUR)", False)
+    ''
+    """
+    prices = []
+    for text in texts:
+        with suppress(NotMoney):
+            prices.append(parse(text, most_decimals=PROGRAM_DECIMALS))
+    odd = [one for one in prices if one.decimals not in USUAL_DECIMALS and not one.unit]
+    named = WORDS["codes"].intersection(re.findall("[A-Z]{3}", name))
+    are_known = has_codes or bool(prices) and all(one.currency for one in prices)
+    if not odd or not are_known and len(named) != 1:
+        return ""
+    return f"0{odd[0].point}00 {'¤' if are_known else min(named)}"
 
 
 def check_currencies(text: str, front: str, end: str) -> None:

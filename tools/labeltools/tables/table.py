@@ -245,6 +245,7 @@ class TableRun:
         self.say_of_prices()
         self.say_of_words()
         self.once.say(self.talk)
+        self.reader.escaped.say(self.talk)
         if self.hidden:
             text = counted(
                 "{} hidden row is not printed", "{} hidden rows are not printed", self.hidden
@@ -253,9 +254,8 @@ class TableRun:
             self.talk.say(text, Text("give {} to print them", remedy).in_window(NOTHING))
         if self.writer.unchanged:
             text = counted(
-                "{1} of {0} row is as before, and is not printed",
-                "{1} of {0} rows are as before, and are not printed",
-                self.writer.taken,
+                "{} row has not changed, and is not printed",
+                "{} rows have not changed, and are not printed",
                 self.writer.unchanged,
             )
             self.talk.say(text)
@@ -295,7 +295,7 @@ class TableRun:
         if words and 4 * len(words) <= self.writer.count:
             rows, first = listed(list(words)), quoted(next(iter(words.values())))
             text = Text("the code of {}, {}, has no digit, and others have", rows, first)
-            self.talk.say(text, Text("is it a code?"))
+            self.talk.say(text, Text("if it is not a code, delete the row"))
 
     def say_of_numbers(self) -> None:
         """Shows how numbers and dates of .xlsx are printed, where the file does not say it."""

@@ -17,7 +17,8 @@ D = TypeVar("D")
 @dataclass(frozen=True)
 class Columns(Generic[C]):
     """The columns: as they were asked for, each by its name, or by its number from 1; or as they
-    were found. `where` are columns and the values of rows to print.
+    were found. `where` are columns and the values of rows to print, `variants_of` is that of what
+    rows without a title are variants of.
     """
 
     code: C
@@ -29,6 +30,7 @@ class Columns(Generic[C]):
     currency: C | None = None
     copies: C | None = None
     symbology: C | None = None
+    variants_of: C | None = None
     where: tuple[tuple[C, str], ...] = ()
 
     def map(self, to: Callable[[C], D]) -> "Columns[D]":
@@ -48,7 +50,7 @@ class Columns(Generic[C]):
     def asked(self) -> tuple[C, ...]:
         """All of them."""
         prices = (self.price, self.unit_price, self.old_price)
-        others = (*prices, self.currency, self.copies, self.symbology)
+        others = (*prices, self.currency, self.copies, self.symbology, self.variants_of)
         given = (one for one in others if one is not None)
         return (self.code, *self.title, *self.text, *given, *(column for column, _ in self.where))
 

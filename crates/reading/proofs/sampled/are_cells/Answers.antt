@@ -1,10 +1,9 @@
-use Rattle.std.proofs.Common.{◌≡◌, ◌+◌, ◌-◌, ◌<◌, true, refl, sym, ap, ◌∙◌, arith, inl, inr}
-use Rattle.std.proofs.lemmas.Bool.{and_parts, cases_lt, eqb-true}
+use Rattle.std.proofs.Common.{◌≡◌, ◌+◌, ◌-◌, ◌<◌, true, refl, sym, ap, ◌∙◌, arith}
 use Rattle.reading.specs.Private.{is_row_of_cells}
 use Rattle.qrmatrix.proofs.ComputedLaws.{passes_on}
 use Rattle.reading.proofs.CellLaws.{cells_again}
 use Rattle.reading.proofs.sampled.are_cells.Goals as goal
-use Rattle.reading.proofs.sampled.are_cells.Goals.{then-is_again, else-is_again, then-y-equal, else-y-equal}
+use Rattle.reading.proofs.sampled.are_cells.Goals.{then-y-equal, else-y-equal}
 use Rattle.reading.proofs.sampled.are_cells.Goals.{else-not-is_again-via-then-not-is_again+else-not-is_row_of_cells}
 use Rattle.reading.proofs.sampled.are_cells.Goals.{else-not-is_again-via-else-not-is_again}
 
@@ -20,7 +19,7 @@ loop-y-preserved g c =
       | else-not-is_again-via-then-not-is_again+else-not-is_row_of_cells w ↦
           sym w.is_row_of_cells.ensures ∙ w.if-not-is_row_of_cells.false
       | else-not-is_again-via-else-not-is_again w ↦
-          let again = c.is_again-is_again.ensures w.if-not-is_again.false in
+          let again = c.is_again.ensures w.if-not-is_again.false in
           cells_again p c.args.scale c.args.zone.now c.requires.some y (was.later again.0) high c.requires.whole
           (λ x wide. was.like x y wide (omega arith) again.0) again.1 (was.before (was.later again.0))
     ] in
@@ -38,18 +37,4 @@ loop-y-preserved g c =
             was.like x k wide (omega (arith, after)) (omega (arith, early, w.equal-is))
             ∙ sym (was.like x y wide (omega arith) (omega (arith, w.if-y-equal.false)))
       ]) ∙ ap (p.dark x) (sym last);
-      equal = λ are x k wide early.
-          let equal = was.equal (and_parts _ _ are).0 in
-          elim (cases_lt k y) [
-            | inl less ↦ equal x k wide less
-            | inr not_less ↦
-                let here : k ≡ y = omega (arith, early, not_less) in
-                ap (p.dark x) here ∙ (elim c.if-is_again.branch [
-                  | then-is_again w ↦
-                      let again = c.is_again-is_again.ensures w.if-is_again.true in
-                      was.like x y wide (omega arith) again.0
-                      ∙ equal x (y - 1) wide (omega (arith, was.later again.0))
-                  | else-is_again w ↦ ap (p.dark x) (eqb-true y 0 (sym w.are_equal-is ∙ (and_parts _ _ are).1))
-                ])
-          ];
     }

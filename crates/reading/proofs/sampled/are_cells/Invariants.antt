@@ -1,11 +1,10 @@
 use Rattle.std.proofs.Common.{◌≡◌, ◌<◌, ◌≤◌, ◌-◌, ℕ, true}
 use Rattle.std.specs.List.{list_all, range_with_len}
 use Rattle.picture.specs.Text.{below}
-use Rattle.reading.specs.Private.{AreAlike, is_row_of_cells}
+use Rattle.reading.specs.Private.{is_row_of_cells}
 use Rattle.reading.proofs.sampled.are_cells.Given as goal
 
--- the rows to come decide; those before `equal` are like the one before, which is of its cells; and the rows so far are
--- equal where it is said
+-- the rows to come decide; those before `equal` are like the one before, which is of its cells
 abbrev pub invariant-loop-y : goal.invariant-loop-y
 invariant-loop-y g l =
     let p = g.G.Grid.picture l.dots in
@@ -15,5 +14,4 @@ invariant-loop-y g l =
       before : 0 < l.y → test (l.y - 1) ≡ true;
       later : l.y < l.equal → 0 < l.y;
       like : (x k : ℕ) → x < p.width → l.y ≤ k → k < l.equal → p.dark x k ≡ p.dark x (l.y - 1);
-      equal : l.are_equal ≡ true → AreAlike p l.y;
     }

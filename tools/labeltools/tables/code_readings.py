@@ -1,0 +1,88 @@
+"""How the codes of a column may be read, by all of them together."""
+
+import re
+from collections.abc import Callable, Sequence
+from contextlib import suppress
+from dataclasses import dataclass
+from functools import partial
+
+from labeltools.common.messages import RowError
+from labeltools.common.text import NOTHING, Text
+from labeltools.lines.symbologies import CODE128, QR
+from labeltools.tables.codes import code_of, CodeRules, has_length
+
+NO_BARS = re.compile(".*://.*|.{31,}")
+LEAST = 0.5  # the part of the cells of a column that are of its kind
+MOST_CHANCE = 3  # numbers whose check digits agree by chance, all of them, in one case of 1000
+WITH_ZEROS = CodeRules(fill_zeros=True)
+# how numbers that are no EAN or UPC as they are may be meant
+OTHER_WAYS = (WITH_ZEROS, CodeRules(without_check_digit=True), CodeRules(CODE128.name))
+
+
+@dataclass(frozen=True)
+class CodeReading:
+    """How the codes of a column may be read, of which each way reads most of them; `problem` is why
+    most are no EAN or UPC, if they may be meant as one.
+    """
+
+    rules: Sequence[CodeRules] = (CodeRules(),)
+    problem: Text = NOTHING
+
+    @property
+    def are_sure(self) -> bool:
+        """Whether they are EAN or UPC."""
+        return not self.problem and not self.rules[0].is_free
+
+
+def reading_of(texts: Sequence[str], is_named: bool) -> CodeReading:
+    """Returns how the codes of a column may be read; `is_named` is whether its name says that they
+    are EAN or UPC.
+    """
+    if has_lost_zeros(texts):
+        return CodeReading([WITH_ZEROS])
+    if passing_share(texts, is_code) >= LEAST:
+        return CodeReading()
+    if is_named or passing_share(texts, has_length) >= LEAST:
+        ways = ((one, partial(code_of, rules=one)) for one in OTHER_WAYS)
+        rules = [one for one, read in ways if passing_share(texts, read) >= LEAST]
+        return CodeReading(rules or [CodeRules()], problem_of(texts))
+    is_long = passing_share(texts, NO_BARS.fullmatch) >= LEAST
+    return CodeReading([CodeRules(QR.name if is_long else CODE128.name)])
+
+
+def has_lost_zeros(texts: Sequence[str]) -> bool:
+    """Returns whether all numbers that are no EAN or UPC are one with zeros in front, by their
+    check digits, and are so many that this is no chance.
+
+    >>> has_lost_zeros(["72651101016", "72651101023", "72651101030", "4006381333931"])
+    True
+    >>> has_lost_zeros(["72651101016", "72651101023"]), has_lost_zeros(["4006381333931"])
+    (False, False)
+    """
+    lost = {one for one in texts if not passing_share([one], is_code)}
+    read = partial(code_of, rules=WITH_ZEROS)
+    return len(lost) >= MOST_CHANCE and passing_share([*lost], read) == 1
+
+
+def problem_of(texts: Sequence[str]) -> Text:
+    """Returns why the first text that is no EAN or UPC is none."""
+    for text in texts:
+        try:
+            code_of(text, CodeRules())
+        except RowError as problem:
+            return problem.what
+    return NOTHING
+
+
+def passing_share(texts: Sequence[str], test: Callable[[str], object]) -> float:
+    """Returns the part of the texts that pass a test; those that it refuses do not."""
+    passed = 0
+    for text in texts:
+        with suppress(RowError):
+            passed += bool(test(text))
+    return passed / max(1, len(texts))
+
+
+def is_code(text: str) -> bool:
+    """Returns whether a text is surely an EAN or UPC; raises `RowError`."""
+    return bool(code_of(text, CodeRules()))

@@ -1,0 +1,65 @@
+"""Variants of an article, as programs of shops export them: the first row has its title, and those
+of the other sizes and colours have none.
+"""
+
+from collections.abc import Sequence
+from contextlib import suppress
+from dataclasses import dataclass, field
+
+from labeltools.common.messages import quoted, RowError
+from labeltools.common.text import Text
+from labeltools.sheets.rows import Row
+from labeltools.tables.columns import Column
+from labeltools.tables.once import Once
+from labeltools.tables.table_options import Columns
+
+
+def variants_in(titles: Sequence[str], columns: Sequence[Sequence[str]]) -> int | None:
+    """Returns the place of the column that says which rows are variants of one article: of each the
+    first row has a title, and no other one. None where each row has its title, or no column is so.
+
+    >>> variants_in(["Shirt", "", "Cap"], [["red", "blue", "red"], ["a-1", "a-1", "b-2"]])
+    1
+    >>> variants_in(["Shirt", "", "Cap", ""], [["red", "blue", "red", "blue"]])
+    """
+    if not all(titles):
+        for place, cells in enumerate(columns):
+            first: set[str] = set()
+            for title, cell in zip(titles, cells):
+                if not cell or bool(title) == (cell in first):
+                    break
+                first.add(cell)
+            else:
+                return place if first else None
+    return None
+
+
+@dataclass
+class Variants:
+    """The titles of articles, each with its row, by what their variants have in common."""
+
+    columns: Columns[Column]
+    once: Once
+    titles: dict[str, tuple[int, str]] = field(default_factory=dict)
+
+    def see(self, row: Row) -> None:
+        """Keeps the title of a row, if it is the first one of its article that has one."""
+        if self.columns.variants_of:
+            with suppress(RowError):  # which leaves out that row alone
+                key = self.columns.variants_of.mark(row)
+                texts = [one.text(row) for one in self.columns.title]
+                if key and key not in self.titles and any(texts):
+                    self.titles[key] = row.number, "\n".join(filter(None, texts))
+
+    def title(self, row: Row) -> str:
+        """Returns the title of the first row of an article; empty if it has none. Raises
+        `RowError`.
+        """
+        if not self.columns.variants_of:
+            return ""
+        key = self.columns.variants_of.mark(row)
+        first, title = self.titles.get(key, (0, ""))
+        if title:
+            said = Text("row {} has the title of row {}, {}", row.number, first, quoted(title))
+            self.once.see("variant", said)
+        return title
