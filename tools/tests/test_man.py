@@ -134,7 +134,10 @@ class Pages(unittest.TestCase):
             with ExitStack() as stack:
                 if status == 3 and tool == "label-print":
                     stack.enter_context(mock.patch("labeltools.drawing.pen.Pen.draw_modules"))
-                done = ran(tool, *words, input=lines.encode())
+                if tool == "labels":
+                    done = support.run(support.labels_program(), *words, input=lines.encode())
+                else:
+                    done = support.run_here(tool, *words, input=lines.encode())
             self.assertEqual(done.returncode, status, (tool, words, done.stderr))
 
     def test_numbers_are_those_of_the_tools(self) -> None:
