@@ -84,7 +84,10 @@ class Commands:
 
 # What makes the pictures, the page whose commands run before it, and what it prints.
 PICTURED = pages.DESIGNS
-DRAWN = Commands("tools/tests/draw_pictures.sh\n", "label-print: row 5: a text is too long, so it ends in “…”: shorten it, or choose a larger label\n")
+DRAWN = Commands(
+    "tools/tests/draw_pictures.sh\n",
+    "label-print: row 5: a text is too long, so it ends in “…”: shorten it, or choose a larger label\n",
+)
 
 
 def commands_of(page: str) -> Iterator[Commands]:

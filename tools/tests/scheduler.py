@@ -96,6 +96,10 @@ KINDS = {
     # one that takes paper of any size, but prints nothing on its edge of 4.2 mm, on both sides
     "edged": "VariablePaperSize Yes\nMinSize 72 72\nMaxSize 612 1008\nDuplex normal\n"
     + option("Resolution", _300dpi="300 300"),
+    # one with two trays
+    "trays": option("Resolution", _600dpi="600 600")
+    + "\n"
+    + option("InputSlot", Auto="", Manual=""),
     # a filter that fails
     "broken": "Filter application/vnd.cups-raster 50 /bin/false\n"
     + option("Resolution", _300dpi="300 300"),

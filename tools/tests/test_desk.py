@@ -65,7 +65,9 @@ class Chosen(Desk):
             done = printed("--journal", self.path, input=line)
             self.assertEqual(done.returncode, 0, done.stderr)
         self.assertEqual(self.events(), ["sending", "taken"])
-        self.said(printed("--only-code", "00360002914", input=lines), 1, "which the input does not have")
+        self.said(
+            printed("--only-code", "00360002914", input=lines), 1, "which the input does not have"
+        )
 
     def test_a_last_line_that_may_be_cut_off(self) -> None:
         done = printed(input=b"code128 PALLET-4711\ncode128 PALLET-47")

@@ -321,7 +321,9 @@ class Editors(Desk):
         for pattern in ("^$", "journal has labels of an earlier file: with > that file has lost"):
             self.said(self.written_to(f"{self.folder}/labels"), 0, pattern)
         os.unlink(f"{self.folder}/labels")
-        self.said(self.written_to(f"{self.folder}/labels", "ab"), 0, "^label-print: nothing to print: ")
+        self.said(
+            self.written_to(f"{self.folder}/labels", "ab"), 0, "^label-print: nothing to print: "
+        )
 
 
 class Lanes(Desk):

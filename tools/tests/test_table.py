@@ -46,6 +46,8 @@ def parts_of(output: bytes) -> tuple[Label, list[tuple[Label, str]], Label]:
     return remarks[0], list(zip(remarks[1:-1], texts[2::2])), remarks[-1]
 
 
+WRONG = "a digit is wrong (with these digits the last one would be 7); compare the number with "
+WRONG += "the article"
 BECOMES = "which would become part of the code"
 AROUND = {
     "setting": f"begins with a setting, {BECOMES}: delete it, and give it with --settings",
@@ -273,7 +275,7 @@ class Cells(TableTest):
         self.check(f'size 5"\tcode\n3"\t{SMALL}\n', ["--code", "code"], [f"ean8 {SMALL}"])
 
     def test_line_that_names_the_delimiter_to_excel(self) -> None:
-        problem = "row 3: 73513538: a digit is wrong (with these digits the last one would be 7); compare the number with the article"
+        problem = f"row 3: 73513538: {WRONG}"
         self.check(
             f"sep=;\r\ncode;a\r\n{SMALL};b\r\n73513538;c\r\n",
             ["--code", "code"],
@@ -306,7 +308,7 @@ class Cells(TableTest):
         table = f'code;note\n{PENCIL};"two\r\nlines\n"\n;x\n{SMALL};y\n73513538;"a\nb"\n'
         problems = [
             'row 3: column 1 ("code") is empty',
-            "row 5: 73513538: a digit is wrong (with these digits the last one would be 7); compare the number with the article",
+            f"row 5: 73513538: {WRONG}",
         ]
         self.check(table, ["--code", "code"], [f"ean13 {PENCIL}", f"ean8 {SMALL}"], problems, 1)
 
@@ -456,7 +458,7 @@ class Columns(TableTest):
 
     def test_no_header(self) -> None:
         table = f"{PENCIL};a\n73513538;b\n"
-        problem = "row 2: 73513538: a digit is wrong (with these digits the last one would be 7); compare the number with the article"
+        problem = f"row 2: 73513538: {WRONG}"
         self.check(table, "--code 1 --no-header".split(), [f"ean13 {PENCIL}"], [problem], 1)
         self.check(f"ean;b\n{SMALL};c\n", "--code 1 --header".split(), [f"ean8 {SMALL}"])
         for column in ("code", "3"):
@@ -513,7 +515,7 @@ class Texts(TableTest):
             input=table.encode(),
         )
         problems = [
-            "label-table: row 3: 73513538: a digit is wrong (with these digits the last one would be 7); compare the number with the article",
+            f"label-table: row 3: 73513538: {WRONG}",
             (
                 'label-table: row 5: column 5 ("copies") is "x": copies are a whole number from 0'
                 " to 9999"
@@ -665,8 +667,10 @@ class Texts(TableTest):
 
 # what messages say in several places
 SAID = {
+    "wrong": "a digit is wrong (with these digits the last one would be",
     "lengths": "ean8 has 8, upca has 12, ean13 has 13",
     "lost": "if leading zeros are lost",
+    "compare": "compare the number with the article",
     "none": "if the column has no check digits, give --without-check-digit",
     "case": "a GTIN-14 is drawn as ITF-14, which labels does not draw",
     "isbn": "is an ISBN of ten digits: its EAN-13 is",
@@ -695,10 +699,10 @@ NUMBERS = """\
 7351 3537 -> ean8 73513537
 0 36000 29145 2 -> upca 036000291452
 00036000291452 -> ean13 0036000291452
-4006381333932 | 4006381333932.0 | '4006381333932 -> ! 4006381333932: a digit is wrong (with these digits the last one would be 1); compare the number with the article
-9780306406158 | 978-0-306-40615-8 -> ! 9780306406158: a digit is wrong (with these digits the last one would be 7); compare the number with the article
-73513530 -> ! {}: a digit is wrong (with these digits the last one would be 7); compare the number with the article
-036000291453 -> ! {}: a digit is wrong (with these digits the last one would be 2); compare the number with the article; {none}
+4006381333932 | 4006381333932.0 | '4006381333932 -> ! 4006381333932: {wrong} 1); {compare}
+9780306406158 | 978-0-306-40615-8 -> ! 9780306406158: {wrong} 7); {compare}
+73513530 -> ! {}: {wrong} 7); {compare}
+036000291453 -> ! {}: {wrong} 2); {compare}; {none}
 36000291452 -> ! {} has 11 digits, {lengths}: give --fill-zeros {lost}
 36000291453 -> ! {} has 11 digits, {lengths}: {none}
 7351353 -> ! {} has 7 digits, {lengths}: {none}
@@ -737,7 +741,7 @@ NUMBERS = """\
 36000291452 | 036000291452 -> ean13 0036000291452
 4006381333931 -> ean13 {}
 73513537 -> ean8 {}
-36000291453 -> ! 0036000291453: a digit is wrong (with these digits the last one would be 2); compare the number with the article
+36000291453 -> ! 0036000291453: {wrong} 2); {compare}
 0 | 00000000 | 0000000000 | 0000000000000 -> ! "{}" has only zeros, and is not an article number
 600029145 -> ! {} has 9 digits, {lengths}: {other}
 36000300000 -> ! 0036000300000 {looks}
@@ -745,7 +749,7 @@ NUMBERS = """\
 0306406152 | 0-306-40615-2 -> ! {} {isbn} 9780306406157
 --fill-zeros --symbology ean13
 36000291452 | 036000291452 -> ean13 0036000291452
-36000291453 -> ! 0036000291453: a digit is wrong (with these digits the last one would be 2); compare the number with the article
+36000291453 -> ! 0036000291453: {wrong} 2); {compare}
 73513537 -> ! {} has 8 digits, ean13 has 13: give --symbology auto, or --fill-zeros {lost}
 --fill-zeros --symbology upca
 36000291452 | 036000291452 -> upca 036000291452

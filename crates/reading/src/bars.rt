@@ -1,6 +1,6 @@
 //! Modules read as bars.
 ghost use Rattle.std.specs.Prelude.{◌≡◌, ◌<◌, ◌-◌, length, option_map, option_and_then};
-ghost use Rattle.std.specs.Bool.{beq, then_some};
+ghost use Rattle.std.specs.Bool.{beq};
 ghost use Rattle.std.specs.Cmp.Lexicographic.{pointwise};
 ghost use Rattle.std.specs.List.{list_all, range_with_len};
 ghost use Rattle.linear_reading.specs.Reading.{read_row};

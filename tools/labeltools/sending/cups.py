@@ -35,7 +35,6 @@ SECTIONS = range(6)  # of that code
 RESOLUTION = "Resolution"  # the option of drivers
 RAW = {"raw": "true"}
 NOTHING_CHOSEN: Mapping[str, str] = {}
-PAGES = frozenset({"page-ranges", "page-set"})  # options that choose pages
 # what is said for each job, since a queue may have other defaults; of a job for the printer itself
 # only the first ones count
 ONCE = {"copies": "1", "job-sheets": "none,none"}
@@ -53,7 +52,6 @@ PLAIN = {
     "fitplot": "false",
     "print-scaling": "none",
 }
-OF_A_JOB = {*PAGES, "copies"}  # of those, what may be chosen for a job
 # options of drivers that the labels decide: their paper, and what turns, doubles or moves a page,
 # with the choices of it that do nothing
 PAPER = ("PageSize", "PageRegion")
@@ -382,9 +380,7 @@ def job_options(job: Job, queue: Queue, chosen: Mapping[str, str]) -> Mapping[st
     own = queue.options(job)
     plain = ONCE if own is RAW else PLAIN
     others = {
-        name: value
-        for name, value in chosen.items()
-        if name in OF_A_JOB or name not in (*PAPER, *PLAIN, *queue.plain)
+        name: value for name, value in chosen.items() if name not in (*PAPER, *PLAIN, *queue.plain)
     }
     return {**plain, **({} if own is RAW else queue.plain), **others, **own}
 

@@ -13,9 +13,8 @@ from labeltools.common.report import MOST_RANGES, places_text
 from labeltools.common.text import counted, joined, NOTHING, Remedy, Text
 from labeltools.layout.layout import LaidOut
 from labeltools.lines.file import LineRecord
-from labeltools.printing.job import Job
 from labeltools.printing.press import Batch, Prepared, Press
-from labeltools.printing.selection import FILE, ranges_in
+from labeltools.printing.selection import FILE
 from labeltools.sending.cups import NOTHING_CHOSEN, print_by, Queue, SentJob
 from labeltools.sending.journal import Entry, Journal, SENDING
 from labeltools.sending.network import NetworkPrinter, SCHEME
@@ -301,21 +300,10 @@ def print_on(
     sender = Sender(outlet)
     sender.send_all(found, talk)
     sent: SentJob = outlet.given
-    labels = labels_text(labels_on_pages(found.job, sender.taken, chosen))
+    labels = labels_text(sender.taken)
     how = (queue.name, found.job.plan.dpi, sent.number)
     text = Text("{} sent to {}, at {} dpi: job {}", labels, *how)
     return sent, joined("; ", filter(None, (text, queue.doubt(found.job))))
-
-
-def labels_on_pages(job: Job, count: int, chosen: Mapping[str, str]) -> int:
-    """Returns how many labels of a job are on the pages that are chosen for it."""
-    ranges = ranges_in(chosen.get("page-ranges", "1-"))
-    others = {"even": 1, "odd": 0}.get(chosen.get("page-set", ""))  # page % 2 of those left out
-    pages = (job.pages_of(number) for number in range(1, count + 1))
-    return sum(
-        page % 2 != others and any(first <= page <= last for first, last in ranges)
-        for page in pages
-    )
 
 
 def labels_text(count: int) -> Text:

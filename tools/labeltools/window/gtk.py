@@ -16,7 +16,17 @@ try:
 except ValueError as error:  # there is no such version
     raise ImportError(str(error)) from error
 
-__all__ = ["Gdk", "Gio", "GLib", "Gtk", "Pango", "add_actions", "add_style", "within"]
+__all__ = [
+    "Gdk",
+    "Gio",
+    "GLib",
+    "Gtk",
+    "Pango",
+    "add_actions",
+    "add_style",
+    "leave_wheel",
+    "within",
+]
 LETTERS = 14  # that a choice shows at least
 SHORT = 13  # letters of answers that are side by side
 # the colours of events and questions, of the desktop's theme; a list of choices opens as a list,

@@ -30,7 +30,7 @@ from labeltools.window import memory
 from labeltools.window.memory import FILES, TABLES
 
 COLUMNS = ("code", "title", "text", "text-2", "price", "unit-price", "old-price", "copies")
-PAPER = ("sheet", "roll", "stock", "width", "height", "design", "to", "dpi", "address")
+PAPER = ("sheet", "roll", "stock", "width", "height", "design", "to", "dpi", "printer")
 WAITING = ".waiting"  # what a file of lines ends with whose job is not over
 PATTERNS = ("0,00 €", "€0.00", "£0.00", "$0.00", "CHF 0.00", "0,00 kr", "0,00 zł")  # of prices
 Choices = Mapping[str, Any]  # by the names of the options
@@ -164,13 +164,13 @@ class Table:
             return time.strftime("%x", time.localtime(self.printed.stat().st_mtime))
         return ""
 
-    def keep_printed(self, made: MadeLabels) -> None:
+    def keep_printed(self, made: MadeLabels, sent: Prepared) -> None:
         """Keeps the lines of the labels that went out, for the next `--new-since`."""
-        self.keep_records(self.records_of(made))
+        self.keep_records(self.records_of(made, sent))
 
-    def records_of(self, made: MadeLabels) -> tuple[LineRecord, ...]:
-        """Returns the lines of the labels that were made."""
-        rows = {item.label.record.label.row for item in made.labels.labels}
+    def records_of(self, made: MadeLabels, sent: Prepared) -> tuple[LineRecord, ...]:
+        """Returns the lines of the labels that were sent."""
+        rows = {item.label.record.label.row for item in sent.prints}
         records = read_lines(made.lines.output, self.path.name).records
         return tuple(record for record in records if record.label.row in rows)
 
@@ -187,14 +187,14 @@ class Table:
             self.printed.parent.mkdir(parents=True, exist_ok=True)
             self.printed.write_bytes(file_of([*old, *new]))
 
-    def keep_waiting(self, made: MadeLabels, job: SentJob) -> Path:
+    def keep_waiting(self, made: MadeLabels, sent: Prepared, job: SentJob) -> Path:
         """Keeps the lines of the labels of a job until it is known whether they were printed, for a
         later window too; returns their file.
         """
         path = self.printed.with_suffix(f".{job.number}.{job.queue}{WAITING}")
         with suppress(OSError):
             path.parent.mkdir(parents=True, exist_ok=True)
-            path.write_bytes(file_of(self.records_of(made)) if self.key else b"")
+            path.write_bytes(file_of(self.records_of(made, sent)) if self.key else b"")
         return path
 
     def end_waiting(self, path: Path, is_printed: bool) -> None:
