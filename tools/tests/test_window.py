@@ -1080,6 +1080,10 @@ class WindowTest(Keeper):
         self.assertEqual(len(self.happened()), 20)
         self.window.events.show(bar.Event("success", "printed after all", about=1))
         self.assertEqual(self.said(), "printed after all")
+        closing = [one for one in gtk.within(self.window.bar) if isinstance(one, Gtk.Button)]
+        self.assertEqual(
+            [one.get_accessible().get_name() for one in closing if one.get_visible()], ["Close"]
+        )
         self.pressed_key(Gdk.KEY_Escape)
         self.assertEqual(self.said(), "")
 
