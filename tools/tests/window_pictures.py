@@ -1,7 +1,7 @@
 #!/usr/bin/python3
 """Draws pictures of the window in its states, on a screen of its own (Xvfb).
 
-It writes STATE.png into a folder: ordinary, more, doubt, file, printers, dialog, adding, printing,
+It writes STATE.png into a folder: ordinary, more, doubt, file, printers, dialog, adding, rows, sheets, printing,
 printed, waiting, failed, roll, happened; and window.png and window-steps.png for the pages. The
 tables, labels and pages are real; printers and what happens to labels are made up.
 
@@ -216,6 +216,15 @@ def show_printers(camera: Camera) -> None:
     ask = window.ways.printing.ask
     camera.while_shown("dialog", window.printing, lambda: ask(printer, labels, options))
     camera.while_shown("adding", window.adding, window.of_printers.add)
+    rows = window.ways.printing.rows
+    camera.while_shown("rows", window.choosing, lambda: rows.choose(labels, "2-4, 9"))
+    window.stock.grab_focus()
+    window.stock.set_text("Avery L71")
+    window.completion.complete()
+    camera.shot("sheets")
+    window.stock.set_text("Avery L7160")
+    window.print_button.grab_focus()
+    camera.until(lambda: window.has_labels)
 
 
 def show_events(camera: Camera) -> None:
