@@ -40,7 +40,11 @@ class Chosen(Desk):
             codes.write_bytes(data)
             self.assertEqual(self.rows("", f"@{codes}"), [2, 6])
         codes.write_bytes(b"\n")  # without codes all labels would be chosen
-        self.said(printed("--only-code", f"@{codes}"), 1, "codes: there is no code\n$")
+        self.said(
+            printed("--only-code", f"@{codes}"),
+            1,
+            "codes: there is no code; write a code on each line\n$",
+        )
 
     def test_each_code_once(self) -> None:
         lines = b"qr 4006381333931\nean13 4006381333931\nean13 400638133393\nqr A\nqr A\n"

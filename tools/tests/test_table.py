@@ -17,6 +17,7 @@ from table_test import BOOK, parts_of, PENCIL, REFUSED, SMALL, SOAP, TableTest
 
 WRONG = "a digit is wrong (with these digits the last one would be 7); compare the number with "
 WRONG += "the article"
+NO_VALUE = "which the spreadsheet writes if it has no value to show: correct its formula"
 BECOMES = "which would become part of the code"
 AROUND = {
     "setting": f"begins with a setting, {BECOMES}: delete it, and give it with --settings",
@@ -282,16 +283,13 @@ class Cells(TableTest):
             "": "is empty",
             " ": "is empty",
             **{
-                cell: f"has {name} in the cell {shown(cell)}, which nobody sees"
+                cell: f"has {name} in the cell {shown(cell)}, which nobody sees: delete it"
                 for cell, name in unseen.items()
             },
             "=A1": 'has "=A1", a formula: export its value',
             "K\ufffdse": 'has "K\ufffdse", with the sign of a lost letter (U+FFFD): export the table '
             "again",
-            **{
-                cell: f'has "{cell}", which the spreadsheet writes if it has no value to show'
-                for cell in errors
-            },
+            **{cell: f'has "{cell}", {NO_VALUE}' for cell in errors},
         }
         refused = {cell: f'refused: column 1 ("code") {text}' for cell, text in wanted.items()}
         for arguments in ((), ("--symbology", "qr"), ("--symbology", "code128")):
@@ -487,11 +485,10 @@ class Texts(TableTest):
             "\u202e02,1": (price, "right-to-left override (U+202E)"),
         }
         wanted = {
-            cell: (options, f"{name} in the cell {shown(cell)}, which nobody sees")
+            cell: (options, f"{name} in the cell {shown(cell)}, which nobody sees: delete it")
             for cell, (options, name) in seen.items()
         }
-        no_value = "which the spreadsheet writes if it has no value to show"
-        wanted["#REF!"] = (*text, *price), f'"#REF!", {no_value}'
+        wanted["#REF!"] = (*text, *price), f'"#REF!", {NO_VALUE}'
         wanted["=B2"] = text, '"=B2", a formula: export its value'
         for cell, (options, problem) in wanted.items():
             for option in options:
