@@ -39,7 +39,7 @@ class Printer:
     sends. `rude` breaks each connection off at its end, `hangs_up` before it reads anything; one
     that `ends` ends it after a label. It answers a question by the next of `answers`, of which the
     last one stays, after `late` seconds; nothing where there is none. ~HQES is answered by its
-    `errors`.
+    `errors`. One that `is_shy` ends its first connection at a question.
     """
 
     def __init__(
@@ -59,6 +59,7 @@ class Printer:
         answers: tuple[bytes, ...] = (READY,),
         late: float = 0.0,
         errors: int = 0,
+        is_shy: bool = False,
     ) -> None:
         self.server = socket.create_server(("127.0.0.1", port))
         # of each connection from its beginning, so that the system takes little by itself
@@ -79,6 +80,7 @@ class Printer:
         self.answers = [*answers]
         self.late = late
         self.errors = ERRORS % (errors > 0, errors)
+        self.is_shy = is_shy
         self.asked: list[bytes] = []
         self.connections = 0
         self.ended = 0
@@ -121,6 +123,10 @@ class Printer:
             if not self.answered(line, line.recv(100)):
                 line.recv(100)
             line.setsockopt(socket.SOL_SOCKET, socket.SO_LINGER, BROKEN)
+            return
+        if self.is_shy:
+            self.is_shy = False
+            line.recv(10)
             return
         if self.waits:
             self.told.wait()

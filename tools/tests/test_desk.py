@@ -188,9 +188,10 @@ class Answers(Desk):
             Printer(answers=(b"HTTP/1.0 400 Bad Request\r\n\r\n",)),
             Printer(answers=(b"\x02000,0\x03\r\n" * 3,)),
             Printer(answers=()),
+            Printer(is_shy=True),
         ):
             self.result(printer, 0, r"^label-print: 30 labels sent to tcp://\S+\n$", 0.2)
-            self.assertEqual(len(printer.asked), 1)
+            self.assertLessEqual(len(printer.asked), 1)
 
     def test_receipt_printers(self) -> None:
         """They do not say whether they have printed all."""

@@ -67,6 +67,7 @@ class NetworkPrinter(Outlet):
         self.name = name
         self.stuck = stuck
         self.line: socket.socket | None = None
+        self.has_sent = False  # labels, by this connection
 
     def open(self) -> socket.socket:
         """Returns the connection, which is made where there is none, or the printer has ended it;
@@ -82,6 +83,7 @@ class NetworkPrinter(Outlet):
                 hint = Text("is it switched on, and in the network?")
                 raise Unreachable(Text("{}: {}", self.name, reason), hint) from error
             self.line.setblocking(False)
+            self.has_sent = False
         return self.line
 
     def send(self, data: bytes) -> None:
@@ -89,6 +91,7 @@ class NetworkPrinter(Outlet):
         `Broken`.
         """
         line = self.line or self.open()
+        self.has_sent = True
         try:
             self.push(line, data)
         except OSError as error:
@@ -129,6 +132,9 @@ class NetworkPrinter(Outlet):
         try:
             with suppress(BlockingIOError):
                 line.recv(HEARD)  # what it said before
+            # to a question it would break off, as if it had thrown labels away
+            if events_of(line.fileno(), select.POLLRDHUP, REGRET if self.has_sent else FIRST):
+                return None
             with suppress(BlockingIOError):
                 line.send(question.data)
             return self.heard(line, question)
@@ -145,6 +151,8 @@ class NetworkPrinter(Outlet):
                 continue
             data = line.recv(HEARD)
             if not data:  # it has ended the connection
+                if not self.has_sent:
+                    self.drop()
                 return None
             heard += data
             if answer := question.read(heard):
