@@ -389,6 +389,18 @@ class Codes(RulesTest):
             text, self.FREE, [f"code128 {code}" for code in ("A-1", "A-2", "A-3", "Summe")], [said]
         )
 
+    def test_a_sum_below_few_rows_is_said(self) -> None:
+        for word in ("Total", "SUMME:", "Итого"):
+            said = (
+                f'the code of row 3, "{word}", has no digit, and others have: if it is not a code, '
+            )
+            said += "delete the row"
+            lines = ["code128 A-1", f"code128 {word}"]
+            free = self.FREE if word.isascii() else [*self.FREE[:-1], "qr"]
+            lines = lines if word.isascii() else ["qr A-1", f"qr {word}"]
+            self.check(f"EAN;Name\nA-1;x\n{word};\n", free, lines, [said])
+        self.check("EAN;Name\nA-1;x\nLeft;\n", self.FREE, ["code128 A-1", "code128 Left"])
+
     def test_the_symbology_of_each_row(self) -> None:
         text = (
             f"EAN;Art\n{PENCIL};EAN-13\nLOT 7;Code"

@@ -40,6 +40,7 @@ MONTH = re.compile(r"(?:[1-9]|1[0-2])\.(?:19|20)[0-9]{2}")  # 12.2026, of which 
 MONTH_HINT = Text("give {} if it is none", Remedy("price-as")).in_window(
     Text("if it is none, choose how prices are printed")
 )
+MONTH_LENGTHS = (6, 7)
 HAS_DIGIT = re.compile("[0-9]")
 SHOWN_DECIMALS = 6  # of the number of a cell, in a message
 
@@ -210,7 +211,7 @@ class DraftReader:
 
     def see_text(self, column: Column, row: Row, text: str) -> None:
         """Looks at a title or text; raises `RowError` for one that was encoded twice."""
-        if (before := twice_encoded(text)) != text:
+        if not text.isascii() and (before := twice_encoded(text)) != text:
             what = Text("has {}, which was encoded twice, for {}", quoted(text), quoted(before))
             raise column.error(RowError(what, Text("export the table again")))
         self.escaped.see(column, row.number, text)
@@ -265,7 +266,8 @@ class DraftReader:
         number = None if isinstance(cell, str) else cell.number()
         rules = self.options.prices
         try:
-            if number is None and MONTH.fullmatch(text) and not (rules.is_text or rules.pattern):
+            may_be_month = number is None and len(text) in MONTH_LENGTHS and MONTH.fullmatch(text)
+            if may_be_month and not (rules.is_text or rules.pattern):
                 raise NotMoney(Text("may be a month"), MONTH_HINT)
             is_unit = column is self.columns.unit_price
             money = self.money(text, is_unit, currency or rules.currency_name)

@@ -11,7 +11,6 @@ from labeltools.tables.once import Once
 # what programs write in the place of a letter or a quote
 ESCAPED = re.compile(r"\\(?:u[0-9a-f]{4}|x[0-9a-f]{2}|[\"'/])|(?<!\w)\"\"\w", re.IGNORECASE)
 HTML = re.compile("</?[a-z][^<>]*>|&(?:[a-z]{2,8}|#[0-9]{1,6});", re.IGNORECASE)
-SIGNS = frozenset('\\"<&')  # one of which each of these has
 QUOTES = frozenset("'\"`")
 AS_IT_IS = Text("it is printed as it is")
 
@@ -28,16 +27,17 @@ class EscapedTexts:
 
     def see(self, column: Column, row: int, text: str) -> None:
         """Looks at a text, which is not empty."""
-        if not SIGNS.isdisjoint(text):
-            if HTML.search(text):
-                said = Text("row {} has {}, as programs write it", row, quoted(text))
-                self.once.see("left", said, AS_IT_IS)
-            elif ESCAPED.search(text):
-                said = Text("row {} has {}, which a program has escaped", row, quoted(text))
-                self.once.see(("escaped", column.place), said, AS_IT_IS)
+        if ("<" in text or "&" in text) and HTML.search(text):
+            said = Text("row {} has {}, as programs write it", row, quoted(text))
+            self.once.see("left", said, AS_IT_IS)
+        elif ("\\" in text or '""' in text) and ESCAPED.search(text):
+            said = Text("row {} has {}, which a program has escaped", row, quoted(text))
+            self.once.see(("escaped", column.place), said, AS_IT_IS)
+        if column.place in self.bare:
+            return
         if text[0] not in QUOTES or text[0] != text[-1] or len(text) < 3:
             self.bare.add(column.place)
-        elif column.place not in self.bare:
+        else:
             self.in_quotes.setdefault(column.place, (column, []))[1].append((row, text))
 
     def say(self, talk: Talk) -> None:

@@ -60,7 +60,8 @@ class LineWriter:
         for price, column in zip(draft.prices, self.columns):
             if price and price.money:
                 column.add(price.money, price.currency or "")
-                self.see_price(draft.label.row, price, price.money)
+                if not price.money.value or price.money.decimals not in USUAL_DECIMALS:
+                    self.see_price(draft.label.row, price, price.money)
         now, _, was = draft.prices
         if now and was and not is_above(was.money, now.money):
             row = draft.label.row
@@ -107,7 +108,8 @@ class LineWriter:
             texts = (one.text for one in draft.prices if one and one.column.place == problem.column)
             self.leave_out(row, next(texts, ""), problem)
             return
-        label = draft.label._replace(price=price, unit=unit, was=was)
+        row, title, text, *_, copies, names = draft.label  # quicker than to replace three of them
+        label = Label(row, title, text, price, unit, was, copies, names)
         self.compare(draft.code, label)
         key = (draft.code.symbology, draft.code.whole)
         if self.older is not None and label.shown in self.older.get(key, ()):

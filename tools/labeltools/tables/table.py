@@ -29,6 +29,7 @@ from labeltools.tables.codes import (
 from labeltools.tables.columns import Column, column_names, columns_of, Head
 from labeltools.tables.drafts import DraftReader
 from labeltools.tables.line_writer import LineWriter, shown_by
+from labeltools.tables.money import WORDS
 from labeltools.tables.once import Once
 from labeltools.tables.prices import CENTS, measure_of
 from labeltools.tables.summary import summary
@@ -44,6 +45,7 @@ OF_CSV = ("delimiter", "encoding")
 OF_WORKBOOKS = ("sheet", "hidden", "date_as", "links")
 SO = Text("Read it all the same")
 MOST_HELD = 1000  # rows that are wrong, before the first one that is right
+SUMS = WORDS["sums"]  # what is in front of a sum below a table
 BETWEEN = 256  # rows between two calls of `go_on`
 
 
@@ -290,9 +292,10 @@ class TableRun:
                 self.talk.say(said_of_empty(kind, rows, self.writer.count))
 
     def say_of_words(self) -> None:
-        """Says which codes have no digit, as that of a sum, if three of four others have one."""
+        """Says which codes have no digit, if three of four others have one, or one is of a sum."""
         words = self.writer.words
-        if words and 4 * len(words) <= self.writer.count:
+        is_sum = any(one.strip(" :").casefold() in SUMS for one in words.values())
+        if words and (4 * len(words) <= self.writer.count or is_sum and len(words) == 1):
             rows, first = listed(list(words)), quoted(next(iter(words.values())))
             text = Text("the code of {}, {}, has no digit, and others have", rows, first)
             self.talk.say(text, Text("if it is not a code, delete the row"))
