@@ -1,6 +1,6 @@
 use Rattle.filter.proofs.Words.{[], refused, Images, Messages, of_line}
 use Rattle.filter.proofs.ScriptLaws.{event_stops, event_took, none_taken, Stops-first}
-use Rattle.filter.proofs.line.refuse.Goals as goal
+use Rattle.filter.proofs.line_end.refuse.Goals as goal
 
 pub returns-in_default-clause-sends : goal.returns-in_default-clause-sends
 returns-in_default-clause-sends g c run = (Stops-first run _ Images

@@ -4,7 +4,7 @@ use Rattle.filter.proofs.Words.{arith, status_of, symbol_of, Options, Fault, Sym
 use Rattle.labelcore.specs.ItemView.{item_seen}
 use Rattle.labelcore.specs.declared.item.Item.{Item}
 use Rattle.filter.proofs.ScriptLaws.{both, event_stops, event_took, none_taken}
-use Rattle.filter.proofs.line.finish_line.Goals as goal
+use Rattle.filter.proofs.line_end.finish_line.Goals as goal
 
 -- what is drawn of a line, by the item that was found
 outcome-found : (options : Options) (line : List ℕ) {result found : Item} → result ≡ found
