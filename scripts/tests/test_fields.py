@@ -29,7 +29,7 @@ RECORDS = {
     "Finishes": "command/specs/Program.antt",
     "PutsWhole": "capi/specs/Calls.antt",
     "PutsModules": "capi/specs/Modules.antt",
-    "PutsBits": "capi/specs/Bits.antt",
+    "PutsBitmap": "capi/specs/Bitmap.antt",
 }
 FUNCTIONS = {
     "Filter::feed": "filter/src/filter.rt",
@@ -53,7 +53,7 @@ LAWS = {
 # What a body breaks only beside another field, or where the prover does not find what is left: `refutes:` names it.
 BESIDE = {
     *("Sends.grown", "Shows.images", "RunsOver.runs", "RunsOver.whole"),
-    *("PutsWhole.message", "PutsModules.message", "PutsBits.message"),
+    *("PutsWhole.message", "PutsModules.message", "PutsBitmap.message"),
 }
 
 
