@@ -37,7 +37,7 @@ PROGRAMS = ("Xvfb", "pdftoppm", "msgfmt")
 WAIT = float(os.environ.get("WAIT", 300))  # seconds for work, on a busy machine too
 BEAT = 10  # milliseconds between two looks at the window
 SCALE = 4  # pixels of a millimetre
-LOADED = ("application", "bar", "gtk", "printers", "questions", "ways", "window", "work")
+LOADED = "application bar gtk printers questions sheets ways window work".split()
 # What setUpModule makes.
 screen: Any = None
 scheduler: Any = None
@@ -47,6 +47,7 @@ bar: Any = None
 printers: Any = None
 gtk: Any = None
 questions: Any = None
+sheets: Any = None
 ways: Any = None
 window: Any = None
 work: Any = None
@@ -85,9 +86,9 @@ def setUpModule() -> None:
 
 def load() -> None:
     """Loads the window, where there is a screen."""
-    global application, bar, gtk, printers, questions, ways, window, work, Gdk, Gio, GLib, Gtk
+    global application, bar, gtk, printers, questions, sheets, ways, window, work, Gdk, Gio, GLib, Gtk
     sys.path.insert(0, str(support.TOOLS))
-    application, bar, gtk, printers, questions, ways, window, work = (
+    application, bar, gtk, printers, questions, sheets, ways, window, work = (
         import_module(f"labeltools.window.{name}") for name in LOADED
     )
     Gdk, Gio, GLib, Gtk = gtk.Gdk, gtk.Gio, gtk.GLib, gtk.Gtk
@@ -372,6 +373,7 @@ class WindowTest(Keeper):
             with sending_cups.refusals("trays") as cups:
                 self.assertEqual(cups.getJobAttributes(job.number)["InputSlot"], "Manual")
             found.clear()
+            self.until(lambda: "printed on trays" in self.said())
         number = re.search("job ([0-9]+)", self.answered("trays", "trial"))
         with sending_cups.refusals("trays") as cups:
             job = cups.getJobAttributes(int(number[1]) if number else 0)
@@ -1080,6 +1082,10 @@ class WindowTest(Keeper):
         self.assertEqual(len(self.happened()), 20)
         self.window.events.show(bar.Event("success", "printed after all", about=1))
         self.assertEqual(self.said(), "printed after all")
+        closing = [one for one in gtk.within(self.window.bar) if isinstance(one, Gtk.Button)]
+        self.assertEqual(
+            [one.get_accessible().get_name() for one in closing if one.get_visible()], ["Close"]
+        )
         self.pressed_key(Gdk.KEY_Escape)
         self.assertEqual(self.said(), "")
 
@@ -1154,6 +1160,47 @@ class WindowTest(Keeper):
             height, width = map(int, ran.stdout.split())
             self.assertLessEqual(height, 554, language)
             self.assertLessEqual(width, 420, language)
+
+    def test_rows_are_chosen_in_a_list(self) -> None:
+        """By marks, all that are looked for at once, or those that were not printed yet."""
+        self.open()
+        rows = self.window.ways.printing.rows
+
+        def choose(typed: str, *acts: Callable[[], Any]) -> Any:
+            def act() -> bool:
+                if not self.window.choosing.get_visible():
+                    return True
+                for one in acts:
+                    one()
+                self.window.choosing.response(Gtk.ResponseType.OK)
+                return False
+
+            GLib.timeout_add(BEAT, act)
+            return rows.choose(self.window.made.labels, typed)
+
+        def look_for(text: str) -> Callable[[], Any]:
+            return lambda: (self.window.rows_search.set_text(text), rows.found.refilter())
+
+        self.assertEqual(choose("5, 2-3"), "2-3,5")
+        self.assertEqual(choose("2", self.window.rows_all.clicked), "2-3,5")
+        soap = look_for("soap"), self.window.rows_all.clicked
+        self.assertEqual(choose("", *soap), "3")
+        none = self.window.rows_none.clicked
+        self.assertEqual(choose("2-5", none, lambda: rows.on_mark(None, "2")), "5")
+        self.saved("labels.pdf")
+        self.open(TABLE.replace("Soap", "Soap, blue"))
+        self.assertEqual(choose("", self.window.rows_new.clicked), "3")
+
+    def test_sheets_have_pictures(self) -> None:
+        """Of their grid, by which a keeper knows hers."""
+        picture = sheets.picture_of("Avery L7160")
+        self.assertEqual((picture.get_width(), picture.get_height()), (28, 40))  # A4
+        pixels, row = picture.get_pixels(), picture.get_rowstride()
+        size = picture.get_n_channels()
+        middle = [pixels[20 * row + x * size : 20 * row + x * size + 3] for x in range(28)]
+        white = "".join("x" if one == b"\xff\xff\xff" else " " for one in middle).split()
+        self.assertEqual(len(white), 3)  # columns of labels
+        self.assertIsNone(sheets.picture_of("no sheet"))
 
     def test_the_wheel_changes_no_choice(self) -> None:
         """It scrolls what the controls are in."""

@@ -4,7 +4,7 @@ or as a hostile hand does.
 
 import io
 import zipfile
-from typing import Sequence
+from typing import Mapping, Sequence
 from xml.sax.saxutils import escape, quoteattr
 
 MAIN = "http://schemas.openxmlformats.org/spreadsheetml/2006/main"
@@ -26,7 +26,7 @@ ODS_SPACES = " ".join(
 )
 
 
-def packed(parts: dict[str, str], method: int = zipfile.ZIP_DEFLATED) -> bytes:
+def packed(parts: Mapping[str, str | bytes], method: int = zipfile.ZIP_DEFLATED) -> bytes:
     """A zip file of these parts."""
     stream = io.BytesIO()
     with zipfile.ZipFile(stream, "w", method) as archive:

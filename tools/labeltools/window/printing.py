@@ -16,6 +16,7 @@ from labeltools.printing.selection import ranges_in
 from labeltools.sending.printers import MEDIA, Printer, TRAY
 from labeltools.window.gtk import Gio, GLib, Gtk
 from labeltools.window.memory import PRINTERS
+from labeltools.window.rows import Rows
 
 PAGE = "http://localhost:631/printers/"  # of a queue, in the pages of CUPS
 # the programs of desktops that have the settings of printers, with their words
@@ -46,6 +47,8 @@ class Printing:
             one.connect("toggled", self.show_what)
         window.print_what.connect("changed", self.show_what)
         window.print_settings.connect("activate-link", self.on_settings)
+        window.print_choose.connect("clicked", self.on_choose)
+        self.rows = Rows(window)
         self.printer = ""
 
     def ask(self, printer: Printer, labels: Prepared, options: Options) -> Printout | None:
@@ -80,6 +83,13 @@ class Printing:
             for part in (choice, *choice.list_mnemonic_labels()):
                 part.set_visible(name in options)
         self.window.print_queue.set_visible("/" not in self.printer)
+
+    def on_choose(self, _button: Any) -> None:
+        """Asks for the rows in a list."""
+        chosen = self.rows.choose(self.labels, self.window.print_rows.get_text())
+        if chosen is not None:
+            self.window.print_what.set_active_id("rows")
+            self.window.print_rows.set_text(chosen)
 
     def on_typed(self, entry: Any) -> None:
         """Prints only some, once they are typed."""

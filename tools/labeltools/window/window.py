@@ -20,9 +20,9 @@ from labeltools.common.text import (
 )
 from labeltools.designs.svg_design import is_file
 from labeltools.layout.area import ARTICLE
-from labeltools.paper.stock import list_stock
 from labeltools.printing.press import check_count
 from labeltools.sending.sender import Unfinished
+from labeltools.window import sheets
 from labeltools.window.bar import Bar, ERROR, Event, INFO
 from labeltools.window.gtk import add_actions, Caption, Gdk, Gio, GLib, Gtk, leave_wheel
 from labeltools.window.presets import Presets
@@ -120,6 +120,7 @@ class Window(Gtk.ApplicationWindow):
         self.fit_paper()
         self.connect_after("key-press-event", self.on_key)
         self.completion.set_match_func(lambda *_: True)
+        self.completion.set_cell_data_func(self.sheet_picture, sheets.show_picture, None)
         self.drag_dest_set(Gtk.DestDefaults.ALL, [], Gdk.DragAction.COPY)
         self.drag_dest_add_uri_targets()
 
@@ -151,12 +152,7 @@ class Window(Gtk.ApplicationWindow):
 
     def offer_sheets(self, entry: Any) -> None:
         """Offers the sheets that label-print lists for what is typed, first those that begin so."""
-        typed = entry.get_text().lower()
-        self.sheets.clear()
-        with suppress(ToolError):  # glabels, which has the sheets, is not there
-            lines = list_stock(typed) if len(typed) > 1 else ()
-            for line in sorted(lines, key=lambda line: not line.lower().startswith(typed)):
-                self.sheets.append([line.partition(": ")[0], line])
+        sheets.offer_sheets(self.sheets, entry.get_text().lower())
 
     def show_problem(self, problem: ToolError, answers: Answers = ()) -> None:
         """Says why something cannot be done, and what helps: one thing by a button beside it,
