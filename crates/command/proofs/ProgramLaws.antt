@@ -1,7 +1,8 @@
 -- What the calls of the program need.
 use Rattle.std.proofs.Common.{◌≡◌, ℕ, List, [], ◌++◌, Option, None, Some, Result, Ok, Err, refl, subst, sym, ◌∙◌}
 use Rattle.std.proofs.lemmas.List.{append-nil}
-use Rattle.std.specs.Prelude.{IfOk, IfSome}
+use Rattle.std.specs.Prelude.{IfOk, IfSome, MatchResult}
+use Rattle.device.specs.Device.{Begins}
 use Rattle.device.specs.Sink.{Flushes}
 use Rattle.device.specs.Streams.{reader_of}
 use Rattle.device.specs.declared.io_fault.IoFault.{IoFault}
@@ -37,6 +38,17 @@ Helps-flushed out o m o' text joined took count (Err fault) h = record {
   count = rw (sym count) h.count;
   flushed = tt;
 }
+
+-- what that is: the text
+pub prints-flushed : {O : Type 0} (out : SinkGhosts O) (o m o' : O) (text : List ℕ)
+    → ((s t u : O) (xs ys : List ℕ) → out.took s t xs → out.took t u ys → out.took s u (xs ++ ys))
+    → out.took o m text → (r : Result (Unit {0}) IoFault)
+    → Flushes out.failures out.is_flushed out.buffers_nothing out.took m o' r
+    → MatchResult r (λ _. out.took o o' text) (λ _. Begins (out.took o o') text)
+prints-flushed out o m o' text joined took (Ok x) h =
+    subst (out.took o o') (append-nil text) (joined o m o' text [] took h.bytes)
+prints-flushed out o m o' text joined took (Err fault) h =
+    (text, ([], sym (append-nil text)), subst (out.took o o') (append-nil text) (joined o m o' text [] took h.bytes))
 
 -- ---- by what images are read as
 

@@ -1,6 +1,7 @@
 //! The program: from the arguments to what it writes and to its status.
-ghost use Rattle.std.specs.Prelude.{map, option_map, string_bytes};
+ghost use Rattle.std.specs.Prelude.{MatchResult, map, option_map, string_bytes};
 ghost use Rattle.std.specs.Result.{result_map_both};
+ghost use Rattle.device.specs.Device.{Begins};
 ghost use Rattle.command.specs.CommandLine.{invocation_of, run};
 ghost use Rattle.command.specs.Program.{EndsShown, EndsSo, Finishes, Helps};
 
@@ -110,7 +111,9 @@ fn end_of<F: NamedFiles, R: Read, W: Write, E: Sink>(
 
 /// Prints the help text.
 fn help<O: Sink>(text: &str, output: &mut O) -> Result<(), IoFault>
-    ensures { Helps O.Sink output.old output.new result }
+    ensures helps { Helps O.Sink output.old output.new result }
+    ensures prints { MatchResult result (λ _. O.took output.old output.new text.now)
+        (λ _. Begins (O.took output.old output.new) text.now) }
 {
     write_whole(text.as_bytes(), output)?;
     output.flush()
