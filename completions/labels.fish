@@ -69,6 +69,7 @@ complete -c label-print -l to -x -a 'pdf svg png pbm zpl escpos' -d 'pdf, svg, p
 complete -c label-print -l dpi -x -a '203 300 600' -d 'the resolution of the printer, in dots per inch'
 complete -c label-print -l each -r -F -d 'a file for each label'
 complete -c label-print -l print -x -d 'print on this queue of CUPS, tcp'
+complete -c label-print -l paper-as-given -d 'the printer takes this paper, up to its edge, even if its driver does not say so'
 complete -c label-print -l journal -r -F -d 'write each label into this file before it is sent'
 complete -c label-print -l again -x -d 'with --only or --only-code'
 complete -c label-print -l stream -d 'print each label as soon as its line has come in, and answer on standard error'

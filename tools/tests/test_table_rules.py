@@ -13,8 +13,8 @@ import unittest
 import support
 from labeltools.common.messages import quoted
 from sheets import Cell, KINDS, Sheet
-from test_table import BOOK, Label, parts_of, PENCIL, SMALL, SOAP, TableTest
-from test_table_workbooks import (
+from table_test import BOOK, Label, parts_of, PENCIL, SMALL, SOAP, TableTest
+from workbooks import (
     cell,
     KINDS as SPACE,
     ods,
