@@ -155,95 +155,102 @@ def changed(texts: Mapping[str, str], body: Body, folder: str) -> dict[str, str]
     return made
 
 
-# ---- records
+# ---- words
 
 
 @dataclass(frozen=True)
-class Word:
-    """A record of specs/, or a word by cases: its file, its text before the fields or the cases, and these, each with
-    its text; cases are numbered from 1 on."""
+class Block:
+    """What stands together in a file of specs/: a record, a word by cases, or a module of such words."""
 
-    module: str
-    head: str
-    fields: dict[str, str]
+    file: str
+    text: str
 
     @property
-    def text(self) -> str:
-        """Its whole text."""
-        return self.head + "\n".join(self.fields.values())
+    def is_record(self) -> bool:
+        return self.text.startswith("pub record")
+
+    @functools.cached_property
+    def names(self) -> list[str]:
+        """What it declares."""
+        return re.findall(r"^ *(?:pub record|abbrev pub|unfoldable pub) (\w+)\b", self.text, re.M)
+
+    def parts(self, name: str) -> dict[str, str]:
+        """Returns the fields of a record, or the cases of a word, numbered from 1 on, each with its text."""
+        if self.is_record:
+            return dict(re.findall(r"^  pub (\w+) : (.*(?:\n    .*)*)", self.text, re.M))
+        cases = re.finditer(rf"^( *){name} (?!:).*(?:\n\1 .*)*", self.text, re.M)
+        return {str(number): case[0] for number, case in enumerate(cases, 1)}
 
     def values(self) -> set[str]:
-        """Returns the names of the fields that later ones speak of: values, and no statements."""
-        texts = [*self.fields.values()]
-        names = [it for it in self.fields if not it.isdigit()]
-        return {it for place, it in enumerate(names, 1) if re.search(rf"(?<![\w.]){it}\b", " ".join(texts[place:]))}
+        """Returns the fields of a record that later ones speak of: values, and no statements."""
+        fields = self.parts("") if self.is_record else {}
+        later = [" ".join([*fields.values()][place + 1 :]) for place in range(len(fields))]
+        return {it for it, said in zip(fields, later) if re.search(rf"(?<![\w.]){it}\b", said)}
 
-    def alone(self, kept: Collection[str]) -> str:
-        """Returns it with these fields alone, and the values that they speak of, or with these cases: nothing is said
-        in the others. A record without a field is one of nothing."""
-        if self.head.startswith("pub record"):
-            names = [it for it in self.fields if it in kept or it in self.values()]
-            lines = [f"  pub {it} : {self.fields[it]}\n" for it in names] or ["  pub nothing : Unit {0}\n"]
-            return self.head + "".join(lines)
-        cases = [it if name in kept else f"{it.partition(' =')[0]} = ⊤" for name, it in self.fields.items()]
-        return "\n".join([self.head.rstrip("\n"), *cases, ""])
-
-
-def records_in(text: str, module: str = "") -> dict[str, Word]:
-    """Returns the records of a file of specs/, by their names."""
-    found = re.findall(r"^(pub record (\w+)\b.*? where\n)(.*?)(?:\n\n|\Z)", text, re.M | re.S)
-    fields = re.compile(r"^  pub (\w+) : (.*(?:\n    .*)*)", re.M)
-    return {name: Word(module, head, dict(fields.findall(inner))) for head, name, inner in found}
+    def alone(self, kept: Mapping[str, Collection[str]]) -> str:
+        """Returns it with these fields alone and the values that they speak of, or with these cases of a word: in the
+        others nothing is said. A record without a field is one of nothing."""
+        text = self.text.rstrip("\n") + "\n"
+        if self.is_record:
+            fields = self.parts("")
+            wanted = {*kept.get(self.names[0], fields), *self.values()}
+            lines = [f"  pub {it} : {fields[it]}\n" for it in fields if it in wanted]
+            return text.partition(" where\n")[0] + " where\n" + ("".join(lines) or "  pub nothing : Unit {0}\n")
+        for name in {*self.names} & {*kept}:
+            for number, case in self.parts(name).items():
+                text = text if number in kept[name] else text.replace(case, f"{case.partition(' =')[0]} = ⊤", 1)
+        return text
 
 
-def words_in(text: str, module: str = "") -> dict[str, Word]:
-    """Returns the records of a file of specs/, and the words by cases, by their names."""
-    found = re.findall(r"^((?:abbrev|unfoldable) pub (\w+) :.*\n(?: .*\n)*)((?:\2\b.*\n(?: .*\n?)*)+)", text, re.M)
-    cases = {name: re.findall(rf"^{name}\b.*(?:\n .*)*", inner, re.M) for _, name, inner in found}
-    by_cases = {it: Word(module, head, dict(zip(map(str, range(1, 99)), cases[it]))) for head, it, _ in found}
-    return records_in(text, module) | by_cases
+BLOCK = re.compile(r"^(?:(?:pub record|abbrev pub|unfoldable pub) .*\n(?:.+\n?)*|module _ .*\n(?:(?: .*)?\n)*)", re.M)
 
 
-def between(words: Mapping[str, Word], wanted: Collection[str], head: str) -> list[str]:
-    """Returns the words by which a head speaks of some, and these, each behind those that it speaks of."""
-    found: dict[str, bool] = {}
+def blocks_in(text: str, file: str = "") -> dict[str, Block]:
+    """Returns the records and words of a file of specs/, by their names."""
+    blocks = [Block(file, found[0]) for found in BLOCK.finditer(text)]
+    return {name: block for block in blocks for name in block.names}
 
-    def speaks(name: str) -> bool:
-        if name not in found:
-            found[name] = False
-            said = {*re.findall(r"\w+", words[name].text)} & {*words} - {name}
-            is_found = any([speaks(it) for it in sorted(said)]) or name in wanted
-            del found[name]
-            found[name] = is_found
-        return found[name]
+
+def between(blocks: Mapping[str, Block], wanted: Collection[str], head: str) -> list[Block]:
+    """Returns those that have the wanted names, and those by which a head speaks of them, each behind those that it
+    speaks of itself."""
+    found: dict[Block, bool] = {}
+
+    def speaks(block: Block) -> bool:
+        if block not in found:
+            found[block] = False
+            cited = {blocks[it] for it in re.findall(r"\w+", block.text) if it in blocks} - {block}
+            is_found = any([speaks(it) for it in sorted(cited, key=lambda it: it.text)])
+            del found[block]
+            found[block] = is_found or not {*wanted}.isdisjoint(block.names)
+        return found[block]
 
     for name in (*re.findall(r"\w+", head), *wanted):
-        if name in words:
-            speaks(name)
-    return [name for name, is_found in found.items() if is_found]
+        if name in blocks:
+            speaks(blocks[name])
+    return [block for block, is_found in found.items() if is_found]
 
 
 def with_fields(fields: Sequence[str], ending: str, folder: str, head: str = "") -> tuple[str, dict[str, str]]:
     """Returns a file of specs/ that has the words of these fields once more, with these alone, and those by which a
     head speaks of them; and the names that they have there. Stops where one is not there."""
     files = {path: sources.read(path) for path in sources.files_below(f"{folder}/specs", ".antt")}
-    words = {name: one for path, text in files.items() for name, one in words_in(text, path).items()}
+    blocks = {name: one for path, text in files.items() for name, one in blocks_in(text, path).items()}
     wanted = [name.partition(".")[::2] for name in fields]
-    gone = [f"{name}.{it}" for name, it in wanted if name not in words or it not in ("", *words[name].fields)]
+    gone = [f"{name}.{it}" for name, it in wanted if name not in blocks or it not in ("", *blocks[name].parts(name))]
     if gone:
         sys.exit(f"{folder}/specs has no {gone[0]}")
     kept = {name: {it for of, it in wanted if of == name} for name, _ in wanted}
-    names = {name: f"{name}_{ending}" for name in between(words, kept, head)}
+    chosen = between(blocks, kept, head)
+    names = {name: f"{name}_{ending}" for block in chosen for name in block.names}
     uses, texts = ["use Rattle.std.specs.Prelude.{⊤}"], list[str]()
-    for name in names:
-        one = words[name]
-        text = one.alone(kept.get(name, one.fields))
-        texts.append(re.sub(rf"\b({'|'.join(names)})\b", lambda it: names[it[1]], text))
-        for path, inner in re.findall(r"^use ([\w.]+)\.\{(.*?)\}", files[one.module], re.M | re.S):
+    for block in chosen:
+        texts.append(re.sub(rf"\b({'|'.join(names)})\b", lambda it: names[it[1]], block.alone(kept)))
+        for path, inner in re.findall(r"^use ([\w.]+)\.\{(.*?)\}", files[block.file], re.M | re.S):
             uses += [f"use {path}.{{{it.strip()}}}" for it in inner.split(",")]
-        module = one.module[len(folder) + 1 : -len(".antt")].replace(os.sep, ".")
-        here = {*re.findall(r"^(?:\w+ )?pub (?:record |data )?(\w+)\b", files[one.module], re.M)}
-        cited = sorted(here & {*re.findall(r"\w+", texts[-1])})
+        module = block.file[len(folder) + 1 : -len(".antt")].replace(os.sep, ".")
+        here = {*blocks_in(files[block.file]), *re.findall(r"^pub data (\w+)", files[block.file], re.M)}
+        cited = sorted(here & {*re.findall(r"\w+", texts[-1])} - {*block.names})
         uses += [f"use Rattle.{os.path.basename(folder)}.{module}.{{{it}}}" for it in cited]
     return "\n".join([*dict.fromkeys(uses), "", *texts]), names
 

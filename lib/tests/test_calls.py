@@ -1,4 +1,8 @@
-"""The calls under the sanitizers, their stack, and the header. Each check is shown what is wrong."""
+"""The calls under the sanitizers, their stack, and the header. Each check is shown what is wrong.
+
+hostile.c makes random calls under ASan and UBSan, next to pages that cannot be touched; threads.c as many under TSan,
+in threads whose stacks have 64 KB.
+"""
 
 import tempfile
 import unittest

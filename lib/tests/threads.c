@@ -1,11 +1,11 @@
-/* Eight threads draw and read at once, each in an order of its own, what one thread does. Status 1 where a sum differs.
- * Half of the calls want no answer, so that the library uses memory of its own for it. */
+/* Eight threads with stacks of 64 KB draw and read at once, each in an order of its own, what one thread does: 100,800
+ * calls. Status 1 where a sum differs. Some calls want no answer, so that the library uses memory of its own for it. */
 #include "labels_of_test.h"
 #include <pthread.h>
 #include <stdio.h>
 #include <stdlib.h>
 
-enum { THREADS = 8, JOBS = 400, ROOM = 1 << 20, STRIDE = 64 };
+enum { THREADS = 8, JOBS = 1800, CALLS = 7, STACK = 64 << 10, ROOM = 1 << 20, STRIDE = 64 };
 
 static uint64_t sums[THREADS + 1][JOBS];
 
@@ -21,7 +21,7 @@ static labels_options options_of(int job) {
     return options;
 }
 
-/* Reads what is drawn of data, by way of `out`. Returns how many bytes are read. */
+/* Reads what is drawn of data, by way of `out`, and as bits. Returns how many bytes are read. */
 static size_t read_back(int symbology, const char *data, char *out, char *read) {
     unsigned char bits[50 * STRIDE];
     labels_dots dots;
@@ -29,6 +29,8 @@ static size_t read_back(int symbology, const char *data, char *out, char *read) 
     labels_bitmap(NULL, symbology, data, strlen(data), bits, STRIDE, sizeof bits, &dots, NULL);
     put_digits(bits, STRIDE, &dots, out);
     labels_read(symbology, 1, out, dots.width, dots.height, read, LABELS_MAX_DATA, &answer);
+    labels_region region = {STRIDE, 0, 0, dots.width, dots.height, 1, {0}};
+    labels_read_bits(&region, bits, sizeof bits, NULL, read, LABELS_MAX_DATA, &answer);
     return answer.length;
 }
 
@@ -70,9 +72,12 @@ static void *draw_all(void *number) {
 
 int main(void) {
     pthread_t threads[THREADS];
+    pthread_attr_t attributes;
     draw_all((void *)(long)THREADS);
+    if (pthread_attr_init(&attributes) != 0 || pthread_attr_setstacksize(&attributes, STACK) != 0)
+        return 2;
     for (long thread = 0; thread < THREADS; thread++)
-        if (pthread_create(&threads[thread], NULL, draw_all, (void *)thread) != 0)
+        if (pthread_create(&threads[thread], &attributes, draw_all, (void *)thread) != 0)
             return 2;
     for (int thread = 0; thread < THREADS; thread++)
         pthread_join(threads[thread], NULL);
@@ -81,6 +86,6 @@ int main(void) {
             printf("thread %d differs\n", thread);
             return 1;
         }
-    printf("%d threads drew what one draws, %d labels each\n", THREADS, JOBS);
+    printf("%d threads made the %d calls of one\n", THREADS, JOBS * CALLS);
     return 0;
 }

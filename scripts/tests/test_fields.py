@@ -1,10 +1,10 @@
-"""Each field of the records that promise what a run does has a wrong body that breaks it, and so has each clause of
-the functions that carry them.
+"""Each field of the records that promise what a run does has a wrong body that breaks it, and so has each case of the
+words that do, and each clause of the functions that carry them.
 
 A line `alone: Runs.ended` of a body names the field that it breaks, and has it tried against this field alone, or with
 those before it, and once without (scripts/edits.py). So the body is refused for this field, and for nothing else.
 `refutes: Filter::finish.status` names a clause, and `clause: status` does the same. What no body can break holds by a
-law that the check proves.
+law that the check proves. Cases have numbers: `Ends.8` is the eighth.
 """
 
 import glob
@@ -17,19 +17,23 @@ from support import TOP, module, read
 
 edits = module("edits")
 
-# The records, and the functions with the clauses that speak of them.
+# The records and the words by cases, and the functions with the clauses that speak of them.
 RECORDS = {
     "Runs": "filter/specs/Run.antt",
     "Produces": "filter/specs/Run.antt",
     "IsAfter": "filter/specs/Filter.antt",
+    "Stops": "filter/specs/Filter.antt",
     "Sends": "filter/specs/Filter.antt",
     "Shows": "filter/specs/Shown.antt",
     "IsRead": "filter/specs/Readback.antt",
+    "IsAlone": "filter/specs/OneReading.antt",
     "RunsOver": "command/specs/Program.antt",
+    "Ends": "command/specs/Program.antt",
     "Finishes": "command/specs/Program.antt",
     "PutsWhole": "capi/specs/Calls.antt",
     "PutsModules": "capi/specs/Modules.antt",
-    "PutsBits": "capi/specs/Bits.antt",
+    "PutsBitmap": "capi/specs/Bitmap.antt",
+    "AnswersLayout": "capi/specs/Layout.antt",
 }
 FUNCTIONS = {
     "Filter::feed": "filter/src/filter.rt",
@@ -38,7 +42,7 @@ FUNCTIONS = {
     "program": "command/src/entry.rt",
 }
 # What no body can break, and the law by which it holds: of all options, all bytes, all scripts, and all images that
-# are read as the full data. `IsAlone` is of this last kind.
+# are read as the full data.
 LAWS = {
     "IsAfter.range": "prove_ranges",
     "IsAfter.bytes": "are_bytes",
@@ -48,19 +52,22 @@ LAWS = {
     "IsRead.guarded": "IsGuarded-read",
     "IsRead.guarded_in_pixels": "IsGuardedInPixels-read",
     "IsRead.alone": "IsAlone-read",
+    "IsAlone.1": "IsAlone-read",
+    "IsAlone.2": "IsAlone-read",
 }
 
-# What a body breaks only beside another field, or where the prover does not find what is left: `refutes:` names it.
+# Of these the prover does not find by itself what is left without them (docs/PROOF-REFERENCE.md): `refutes:` names
+# them in a body.
 BESIDE = {
-    *("Sends.grown", "Shows.images", "RunsOver.runs", "RunsOver.whole"),
-    *("PutsWhole.message", "PutsModules.message", "PutsBits.message"),
+    *("Shows.images", "RunsOver.runs", "RunsOver.whole", *(f"Ends.{case}" for case in range(1, 10))),
+    *("PutsWhole.message", "PutsModules.message", "PutsBitmap.message"),
 }
 
 
 def fields_of(name: str, text: str) -> list[str]:
     """The fields of a record that are statements: those that a later one speaks of are values."""
-    one = edits.records_in(text)[name]
-    return [f"{name}.{field}" for field in one.fields if field not in one.values()]
+    one = edits.blocks_in(text)[name]
+    return [f"{name}.{field}" for field in one.parts(name) if field not in one.values()]
 
 
 def clauses_of(name: str, text: str) -> list[str]:

@@ -1,6 +1,6 @@
 #!/bin/sh
-# Makes the files of docs/pictures, but for window*.png, in the folder in which it runs: a copy of this repository in
-# which the commands of designs/README.md have run.
+# Makes the files of docs/pictures, but for window*.png (window_pictures.py), in the folder in which it runs: a copy of
+# this repository in which the commands of designs/README.md have run.
 set -e
 
 draw() {

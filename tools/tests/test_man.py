@@ -134,7 +134,10 @@ class Pages(unittest.TestCase):
             with ExitStack() as stack:
                 if status == 3 and tool == "label-print":
                     stack.enter_context(mock.patch("labeltools.drawing.pen.Pen.draw_modules"))
-                done = ran(tool, *words, input=lines.encode())
+                if tool == "labels":
+                    done = support.run(support.labels_program(), *words, input=lines.encode())
+                else:
+                    done = support.run_here(tool, *words, input=lines.encode())
             self.assertEqual(done.returncode, status, (tool, words, done.stderr))
 
     def test_numbers_are_those_of_the_tools(self) -> None:
@@ -157,13 +160,6 @@ class Pages(unittest.TestCase):
         names = page.partition(" - draw and read")[0].partition("NAME")[2]
         self.assertEqual({*re.findall(r"\w+", names)}, {name for name, _ in declared})
         self.assertEqual({*NUMBER.findall(page)} - {*NUMBER.findall(header)}, set())
-
-
-def ran(tool: str, *words: str, input: bytes) -> "support.Finished[bytes]":
-    """What the program or a tool makes of lines."""
-    if tool == "labels":
-        return support.run(support.labels_program(), *words, input=input)
-    return support.run_here(tool, *words, input=input)
 
 
 def calls_in(text: str) -> set[tuple[str, str]]:

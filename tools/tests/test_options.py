@@ -22,6 +22,8 @@ from labeltools.paper.box import Box
 from laying import laid_out
 from reading import fault_in
 
+COMPARE = "compare the number with the article"
+BEGINS = "a line begins with ean13, ean8, upca, code128 or qr"
 SHELF = [
     (
         f"ean13 {support.ean13(400638000000 + number)}",
@@ -104,8 +106,8 @@ class Rows(unittest.TestCase):
         self.assertEqual(
             sorted(said),
             [
-                "row 3: check digit is 2, should be 1",
-                "row 4: data is longer than 80 bytes",
+                f"row 3: check digit is 2, should be 1: {COMPARE}",
+                "row 4: data is longer than 80 bytes: shorten the data, or draw it as qr",
                 "rows 7, 9: skipped by label-table, and 23 rows more",
             ],
         )
@@ -116,7 +118,8 @@ class Rows(unittest.TestCase):
         status, codes, said = self.zpl(data=first + second)
         self.assertEqual((status, len(codes)), (1, 1))
         self.assertEqual(
-            said, ["articles.xlsx, row 2; others.xlsx, row 2: check digit is 8, should be 7"]
+            said,
+            [f"articles.xlsx, row 2; others.xlsx, row 2: check digit is 8, should be 7: {COMPARE}"],
         )
 
     def test_a_handful_of_messages(self) -> None:
@@ -135,7 +138,7 @@ class Rows(unittest.TestCase):
             self.assertEqual((status, codes, len(said)), (1, [], 1), said)
             self.assertIn("a table goes through label-table first", said[0])
         status, codes, said = self.zpl(data=b"ean31 4006381333931\nean8 7351353\n")
-        self.assertEqual((status, said), (1, ["line 1: unknown symbology"]))
+        self.assertEqual((status, said), (1, [f"line 1: unknown symbology: {BEGINS}"]))
 
     def test_nothing_to_print(self) -> None:
         for data in (b"", b"# nothing\n", b"ean8 1\n", support.file_of([])):

@@ -1,5 +1,6 @@
 """Tries the window on a screen of its own (Xvfb): what it prints is what the commands print."""
 
+import json
 import os
 import re
 import subprocess
@@ -21,6 +22,7 @@ import cairo
 import support
 from labeltools.common.messages import ToolError
 from labeltools.common.text import NOTHING, Text
+from labeltools.sending import cups as sending_cups, printers as sending
 from labeltools.sending.cups import JobState, Queue, SentJob
 from printers import Printer
 from scheduler import raster_of, Scheduler, WITH_TEST
@@ -35,15 +37,17 @@ PROGRAMS = ("Xvfb", "pdftoppm", "msgfmt")
 WAIT = float(os.environ.get("WAIT", 300))  # seconds for work, on a busy machine too
 BEAT = 10  # milliseconds between two looks at the window
 SCALE = 4  # pixels of a millimetre
+LOADED = "application bar gtk printers questions sheets ways window work".split()
 # What setUpModule makes.
 screen: Any = None
 scheduler: Any = None
 folder: Any = None
 application: Any = None
 bar: Any = None
-dialog: Any = None
+printers: Any = None
 gtk: Any = None
 questions: Any = None
+sheets: Any = None
 ways: Any = None
 window: Any = None
 work: Any = None
@@ -82,11 +86,10 @@ def setUpModule() -> None:
 
 def load() -> None:
     """Loads the window, where there is a screen."""
-    global application, bar, dialog, gtk, questions, ways, window, work, Gdk, Gio, GLib, Gtk
+    global application, bar, gtk, printers, questions, sheets, ways, window, work, Gdk, Gio, GLib, Gtk
     sys.path.insert(0, str(support.TOOLS))
-    application, bar, dialog, questions, ways, window, work, gtk = (
-        import_module(f"labeltools.window.{name}")
-        for name in ("application", "bar", "dialog", "questions", "ways", "window", "work", "gtk")
+    application, bar, gtk, printers, questions, sheets, ways, window, work = (
+        import_module(f"labeltools.window.{name}") for name in LOADED
     )
     Gdk, Gio, GLib, Gtk = gtk.Gdk, gtk.Gio, gtk.GLib, gtk.Gtk
     Gtk.init([])
@@ -122,31 +125,6 @@ def inside(widget: Any) -> Any:
             yield from inside(one)
 
 
-def answer_dialog(printer: str, response: Any = None, pages: str = "", sheets: int = 0) -> Any:
-    """Chooses a printer in the dialog of the desktop once that is, types pages, chooses all (0),
-    even or odd sheets, and presses a button, Print by itself; returns whether to look again.
-    """
-    for dialog in Gtk.Window.list_toplevels():
-        if type(dialog).__name__ != "GtkPrintUnixDialog":
-            continue
-        found = [*inside(dialog)]
-        printers = next(one for one in found if isinstance(one, Gtk.TreeView))
-        for row in printers.get_model():
-            if row[1] == printer:
-                printers.get_selection().select_iter(row.iter)
-        if pages:
-            kinds = (Gtk.RadioButton, Gtk.Entry, Gtk.ComboBoxText)
-            some, typed, which = (next(one for one in found if type(one) is k) for k in kinds)
-            some.set_active(True)
-            typed.set_text(pages)
-            which.set_active(sheets)
-        button = dialog.get_widget_for_response(response or Gtk.ResponseType.OK)
-        if button.get_sensitive() and printers.get_selection().get_selected()[1]:
-            button.clicked()
-            return False
-    return True
-
-
 def named(widget: Any) -> Any:
     """Yields the controls in a widget that a keyboard reaches, with their names."""
     kinds = (Gtk.Button, Gtk.ComboBox, Gtk.Entry, Gtk.TreeView, Gtk.DrawingArea)
@@ -170,6 +148,9 @@ class Keeper(unittest.TestCase):
         memory = mock.patch("labeltools.window.memory.FOLDER", self.folder / "labels")
         memory.start()
         self.addCleanup(memory.stop)
+        none = mock.patch.object(printers, "found_printers", return_value=([], ""))
+        none.start()
+        self.addCleanup(none.stop)
         self.table = self.folder / "articles.csv"
         self.table.write_text(TABLE)
         self.window = window.Window()
@@ -287,10 +268,34 @@ class Keeper(unittest.TestCase):
         self.assertEqual(self.problem(), "")
         return path.read_bytes()
 
-    def answered(self, printer: str, *pages: Any) -> Any:
-        """What the window says once it has printed on a printer that is chosen in the dialog."""
-        GLib.timeout_add(BEAT, answer_dialog, printer, None, *pages)
+    def chosen(self, key: str) -> None:
+        """Chooses a printer, of those that are there now."""
+        kept = printers.PRINTERS.all()
+        self.window.of_printers.fill([*sending.printers(kept)])
+        self.remade(lambda: self.window.of_printers.choose(key))
+
+    def answered(self, printer: str, kind: str = "", which: str = "") -> Any:
+        """What the window says once it has printed on a printer: all labels, a trial, or some rows
+        or sheets.
+        """
+        self.chosen(printer)
+        return self.confirmed(kind, which)
+
+    def confirmed(self, kind: str = "", which: str = "") -> Any:
+        """What the window says once Print is pressed, there and in the dialog."""
+        GLib.timeout_add(BEAT, self.confirm, kind, which)
         return self.said_after(self.window.print_button.clicked)
+
+    def confirm(self, kind: str, which: str) -> bool:
+        """Presses Print in the dialog once that is there; returns whether to look again."""
+        if not self.window.printing.get_visible():
+            return not self.problem()
+        self.window.print_trial.set_active(kind == "trial")
+        if which:
+            self.window.print_what.set_active_id(kind)
+            self.window.print_rows.set_text(which)
+        self.window.printing.response(Gtk.ResponseType.OK)
+        return False
 
     def by_commands(self, *words: Any) -> Any:
         """What the commands write for the table."""
@@ -323,53 +328,56 @@ class WindowTest(Keeper):
         self.until(lambda: self.said() == "6 labels: printed on pdf")
         self.assertEqual(len(self.printed()), 3)
 
-    @mock.patch("labeltools.window.ways.WaysOut.watch", mock.Mock())
-    def test_chosen_pages_do_not_count_as_printed(self) -> None:
-        """They may be a trial. Of the labels only those on these pages are reported."""
+    def test_a_trial_does_not_count_and_chosen_rows_do(self) -> None:
+        """Only those are sent, and reported."""
+        scheduler.add("some", "both")
         self.open()
-        self.change(first=20)  # two labels on the first page, four on the second
-        for pages, sheets, labels in (("2-", 0, 4), ("1-2", 2, 2)):
-            scheduler.add(f"trial-{labels}", "both")
-            said = self.answered(f"trial-{labels}", pages, sheets)
-            self.assertRegex(said, f"^{labels} labels sent .*: job [0-9]+; pages were chosen, so ")
-        self.assertEqual(self.printed(), [])
+        self.change(first=20)  # two labels on the first sheet, four on the second
+        for kind, which, labels, printed in (
+            ("trial", "", 2, 0),
+            ("rows", "3", 2, 1),
+            ("sheets", "2-", 4, 3),
+        ):
+            with self.subTest(kind):
+                said = self.answered("some", kind, which)
+                self.assertRegex(said, f"^({labels} labels )?sent to some, at 600 dpi: job [0-9]+")
+                self.assertEqual("it was a trial" in said, kind == "trial")
+                self.until(lambda: "printed on some" in self.said())
+                self.assertEqual(len(self.printed()), printed)
 
-    def test_the_dialog_offers_what_labels_take(self) -> None:
-        """It shows neither a preview, which would close it, nor what would change labels; the
-        printer of the last time is chosen again.
-        """
-        for name in ("first", "seen", "third"):
-            scheduler.add(name, "both")
+    def test_the_dialog_asks_for_the_tray_and_keeps_it(self) -> None:
+        """A queue whose driver has none is not asked for; a trial is on plain paper."""
+        scheduler.add("trays", "trays")
         self.open()
-        found: dict[str, Any] = {}
+        self.chosen("trays")
+        found: list[Any] = []
 
         def look() -> bool:
-            for top in Gtk.Window.list_toplevels():
-                if type(top).__name__ != dialog.DIALOG:
-                    continue
-                shown = [one for one in gtk.within(top) if one.get_mapped()]
-                tree = next(one for one in shown if isinstance(one, Gtk.TreeView))
-                model, row = tree.get_selection().get_selected()
-                if row and model[row][1] == "seen":
-                    book = next(one for one in shown if isinstance(one, Gtk.Notebook))
-                    book.set_current_page(1)
-                    settle(0.2)
-                    parts = [one for one in gtk.within(top) if isinstance(one, Gtk.Buildable)]
-                    mapped = [one for one in parts if one.get_mapped()]
-                    found["seen"] = {Gtk.Buildable.get_name(one) for one in mapped}
-                    preview = top.get_widget_for_response(Gtk.ResponseType.APPLY)
-                    found["preview"] = bool(preview and preview.get_mapped())
-                    top.response(Gtk.ResponseType.CANCEL)
-                    return False
-            return True
+            shown = self.window.printing.get_visible()
+            if shown:
+                found.append([row[0] for row in self.window.tray.get_model()])
+                found.append((self.window.tray.get_active_id(), self.window.media.get_visible()))
+                self.window.tray.set_active_id("Manual")
+                found.append(self.window.print_put.get_text())
+                self.window.printing.response(Gtk.ResponseType.OK)
+            return not shown
 
-        self.assertIn("sent to seen", self.answered("seen"))
-        GLib.timeout_add(10 * BEAT, look)
-        self.window.print_button.clicked()
-        self.until(lambda: "preview" in found)
-        self.assertFalse(found["preview"])
-        self.assertIn("page_set_combo", found["seen"])
-        self.assertEqual(found["seen"] & (dialog.UNUSED | {"scale_spin"}), set())
+        for before in ("", "Manual"):
+            GLib.timeout_add(BEAT, look)
+            self.assertIn("sent to trays", self.said_after(self.window.print_button.clicked))
+            tray, (active, has_media), put = found
+            self.assertEqual(tray, ["as the printer is set", "Auto", "Manual"])
+            self.assertEqual((active, has_media), (before, False))
+            self.assertIn("Put 1 sheet Avery L7160 into the tray.", put)
+            job = self.window.events.event.about
+            with sending_cups.refusals("trays") as cups:
+                self.assertEqual(cups.getJobAttributes(job.number)["InputSlot"], "Manual")
+            found.clear()
+            self.until(lambda: "printed on trays" in self.said())
+        number = re.search("job ([0-9]+)", self.answered("trays", "trial"))
+        with sending_cups.refusals("trays") as cups:
+            job = cups.getJobAttributes(int(number[1]) if number else 0)
+            self.assertNotEqual(job.get("InputSlot"), "Manual")
 
     def test_labels_count_as_printed_once_their_job_is_over(self) -> None:
         """Not those of a job that is cancelled; a later window asks CUPS about one that waited."""
@@ -429,7 +437,7 @@ class WindowTest(Keeper):
         self.change(roll=True, to="zpl", dpi="203")
         printer = Printer(stuck=2).start()
         self.addCleanup(printer.off)
-        self.window.ways.send_to(printer.name)
+        self.window.ways.send_to(printer.name, self.window.made.labels)
         self.until(lambda: len(printer.labels) > 1)
         self.window.on_stop(None)
         printer.told.set()
@@ -437,7 +445,7 @@ class WindowTest(Keeper):
         taken = len(printer.labels)
         self.assertNotIn("--after", self.problem())
         self.pressed(f"Go on with label {taken + 1}", False)
-        self.until(lambda: f"taken by {printer.name}" in self.said())
+        self.until(lambda: f"printed by {printer.name}" in self.said())
         printer.wait(40)
         plain = self.by_columns("--paper", "60x40", "--to", "zpl", "--dpi", "203")
         self.assertEqual(b"".join(printer.labels), plain)
@@ -451,7 +459,7 @@ class WindowTest(Keeper):
 
     def test_enter_accepts_an_address_and_a_name(self) -> None:
         for box, entry in (
-            (self.window.network, self.window.address),
+            (self.window.adding, self.window.new_address),
             (self.window.naming, self.window.preset_name),
         ):
             answers: list[bool] = []
@@ -464,12 +472,36 @@ class WindowTest(Keeper):
             answers.append(ways.confirmed(box))
             self.assertEqual(answers, [True])
 
-    def test_office_printers_are_not_offered_for_a_language_of_labels(self) -> None:
-        for name in ("office", "zebra", "bare"):
-            scheduler.add(name, {"office": "plain", "bare": ""}.get(name, name))
-        with mock.patch.object(ways, "queues", return_value=["bare", "office", "zebra"]):
-            self.assertEqual(ways.printers(True, None)[:2], ["bare", "zebra"])
-            self.assertEqual(ways.printers(False, None), ["bare", "office", "zebra"])
+    def test_the_printer_decides_what_it_is_sent(self) -> None:
+        """Its language, its dots, and sheets or a roll; one that is gone prints nothing."""
+        scheduler.add("office", "plain")
+        scheduler.add("zebra", "zebra")
+        self.open()
+        for key, roll, to, dpi in (
+            ("zebra", True, "pdf", "203"),
+            ("office", False, "pdf", "600"),
+            ("tcp://10.0.0.1", True, "escpos", "180"),
+        ):
+            printers.PRINTERS.keep("tcp://10.0.0.1", {"to": "escpos", "dpi": "180", "name": "Till"})
+            self.chosen(key)
+            chosen = self.window.choices()
+            found = (chosen["roll"], chosen["to"], chosen["dpi"])
+            self.assertEqual(found, (roll, to, dpi), key)
+        self.assertIn("Till", [row[0] for row in self.window.printers])
+        self.window.take({"to": "pdf"})  # it understands nothing else
+        self.assertEqual(self.window.choices()["to"], "escpos")
+        self.window.of_printers.settle("was-here")
+        states = {row[3]: row[2] for row in self.window.printers}
+        self.assertEqual(states["was-here"], "not found")
+        self.assertIn("was-here is not found", self.said_after(self.window.ways.ask))
+
+    def test_a_paused_queue_says_so_in_the_list(self) -> None:
+        scheduler.add("idle", "both")
+        scheduler.add("held", "both")
+        subprocess.run(["cupsdisable", "held"], check=True)
+        found = {one.key: one for one in sending.printers({})}
+        self.assertEqual((found["idle"].state, found["held"].state), ("ready", "it is paused"))
+        self.assertEqual((found["idle"].is_ready, found["held"].is_ready), (True, False))
 
     def test_says_what_is_left_out_and_what_there_is(self) -> None:
         self.open()
@@ -577,69 +609,93 @@ class WindowTest(Keeper):
         self.until(lambda: self.window.has_labels)
         self.assertIn("1 label from 1 row", self.counted())
 
-    def test_many_labels_are_asked_for(self) -> None:
-        self.open()
-        self.assertTrue(self.window.ways.is_meant())
-        self.open(TABLE.replace("5000;3", "5000;998"))
-        dialog = self.window.many
-        for answer, is_meant in ((Gtk.ResponseType.CANCEL, False), (Gtk.ResponseType.OK, True)):
-            self.answer("many", run=answer)
-            self.assertEqual(self.window.ways.is_meant(), is_meant)
-        summary = dialog.get_property("secondary-text")
-        self.assertIn("1001 labels from 3 rows", summary)
-
     def test_a_printer_of_a_language_of_its_own_gets_the_file_as_it_is(self) -> None:
-        """In the network, on USB, or by a queue without a driver."""
+        """In the network, on USB, or by a queue without a driver. Its language is asked once."""
         self.open()
-        self.change(roll=True, to="zpl", dpi="203")
         device = self.folder / "lp0"
         device.touch()
-        asked: list[list[str]] = []
-        with mock.patch.object(ways, "USB", self.folder):
-            self.window.ways.ask_way = asked.append
-            self.window.print_button.clicked()
-            self.until(lambda: asked)
-        self.assertEqual(asked[0][-1], str(device))
-        ways.WaysOut.ask_way(self.window.ways, asked[0])
-        printer = Printer().start()
-        self.addCleanup(printer.off)
-        wanted = self.by_commands("--paper", "60x40", "--to", "zpl", "--dpi", "203")
-        self.answer("network")
-        self.window.address.set_text(printer.name[6:])
-        self.assertEqual(self.said_after(self.window.ways.ask_address), f"taken by {printer.name}")
-        self.assertEqual(b"".join(printer.labels), wanted)
-        self.assertEqual(
-            self.said_after(self.window.ways.send_to, str(device)), f"taken by {device}"
-        )
-        self.assertEqual(device.read_bytes(), wanted)
-        other = Printer().start()
-        self.addCleanup(other.off)
+        devices = mock.patch("labeltools.sending.printers.DEVICES", self.folder)
+        devices.start()
+        self.addCleanup(devices.stop)
+        printer, other = Printer().start(), Printer().start()
+        for one in (printer, other):
+            self.addCleanup(one.off)
         scheduler.add("roll", device=other.name.replace("tcp", "socket"))
-        self.assertIn("sent to roll", self.said_after(self.window.ways.send_to, "roll"))
+        self.window.of_printers.fill([*sending.printers({})])
+        for key in (str(device), "roll"):
+            self.window.of_printers.choose(key)
+            self.assertEqual(self.problem(), "What does this printer print?")
+            self.assertFalse(self.window.print_button.is_sensitive())
+            self.remade(lambda: self.pressed("Labels (ZPL)"))
+        self.window.of_printers.know(printer.name, {"name": "Zebra", "to": "zpl", "dpi": "203"})
+        wanted = self.by_commands("--paper", "60x40", "--to", "zpl", "--dpi", "203")
+        self.assertEqual(self.answered(printer.name), f"printed by {printer.name}")
+        self.assertEqual(b"".join(printer.labels), wanted)
+        self.assertEqual(self.answered(str(device)), f"sent to {device}")
+        self.assertEqual(device.read_bytes(), wanted)
+        self.assertIn("sent to roll", self.answered("roll"))
         other.wait(3)
         self.assertEqual(b"".join(other.labels), wanted)
 
-    def test_an_address_that_is_none(self) -> None:
+    def test_a_network_printer_is_added(self) -> None:
+        """Once it has printed a test label; an address that is none is asked for again."""
         self.open()
-        self.answer("network")
-        self.window.address.set_text("")
-        self.assertIn("write it as tcp://HOST", self.said_after(self.window.ways.ask_address))
+        printer = Printer().start()
+        self.addCleanup(printer.off)
+        said: list[str] = []
+
+        def add() -> bool:
+            entry = self.window.new_address
+            if not self.window.adding.get_visible():
+                return True
+            if not said:
+                self.window.adding.response(Gtk.ResponseType.OK)
+                said.append(self.window.new_said.get_text())
+                entry.set_text(printer.name[6:])
+                self.window.new_name.set_text("Shelf")
+                self.window.new_test.clicked()
+            text = self.window.new_said.get_text()
+            if text.startswith("Sent"):
+                self.window.adding.response(Gtk.ResponseType.OK)
+                return False
+            return True
+
+        GLib.timeout_add(10 * BEAT, add)
+        self.remade(lambda: self.window.of_printers.on_chosen("add"))
+        printer.wait(1)
+        self.assertEqual(self.window.of_printers.chosen.name, "Shelf")
+        self.assertEqual(printers.PRINTERS.all()[printer.name]["to"], "zpl")
 
     def test_a_queue_of_other_dots_gets_no_file_of_dots(self) -> None:
         self.open()
-        self.change(roll=True, to="zpl", dpi="203")
-        with mock.patch.object(ways, "queue_of", return_value=Queue("zebra", 300, {})):
-            said = self.said_after(self.window.ways.send_to, "zebra")
-        self.assertIn("prints at 300 dpi", said)
+        scheduler.add("zebra", "zebra")
+        self.chosen("zebra")
+        self.change(to="zpl", dpi="300")
+        with mock.patch.object(ways, "queue_of", return_value=Queue("zebra", 203, {})):
+            said = self.confirmed()
+        self.assertIn("prints at 203 dpi", said)
 
     def test_no_printer(self) -> None:
-        """What a shop keeper can do then; a printer in the network needs no CUPS."""
+        """Then a file is saved; a printer in the network needs no CUPS."""
         self.open()
-        with mock.patch.object(ways, "queues", return_value=[]):
-            said = self.said_after(self.window.ways.ask_printer)
-        self.assertIn("there is no printer\nadd it in the settings", said)
-        with mock.patch.object(ways, "queues", side_effect=ToolError(NOTHING)):
-            self.assertEqual(ways.printers(True, None), [])
+        self.until(lambda: self.window.print_button.get_label() == "_Save…")
+        keys = [row[3] for row in self.window.printers]
+        self.assertEqual(keys, ["add", "file"])
+        with mock.patch.object(sending, "connection", side_effect=ToolError(NOTHING)):
+            found = [*sending.printers({"tcp://10.0.0.1": {"to": "zpl"}})]
+        self.assertEqual([one.key for one in found if one.way == "network"], ["tcp://10.0.0.1"])
+
+    def test_older_choices_keep_their_printer(self) -> None:
+        """They have a language, the dots, and the address of a printer in the network."""
+        old = {"to": "zpl", "dpi": "300", "address": "10.0.0.7", "roll": True, "price": "4"}
+        names = "\n".join(TABLE.splitlines()[0].split(";"))
+        memory = self.folder / "labels/window.json"
+        memory.parent.mkdir()
+        memory.write_text(json.dumps({names: old}))
+        self.open()
+        chosen = self.window.choices()
+        found = (chosen["printer"], chosen["to"], chosen["dpi"], chosen["roll"])
+        self.assertEqual(found, ("tcp://10.0.0.7", "zpl", "300", True))
 
     def test_guesses_and_remembers_by_names(self) -> None:
         self.open()
@@ -670,7 +726,7 @@ class WindowTest(Keeper):
         """Of two prices none is taken, and tables without names have nothing in common."""
         self.open("EAN;Name;Preis A;Preis B\n96385074;Gum, red;1,20;0,80\n")
         self.assertEqual(self.problem(), "Which column has the price?")
-        self.assertFalse(self.window.save_button.is_sensitive())
+        self.assertFalse(self.window.lookup_action("save").get_enabled())
         self.change(price="4")
         self.assertIn("price 0,80", self.counted())
         for prices in ("0,80;1,20", "1,20;0,80"):
@@ -821,30 +877,24 @@ class WindowTest(Keeper):
         return [item.get_uri_display() for item in self.window.recent.get_items()]
 
     def test_a_printer_of_other_dots_gets_labels_for_these(self) -> None:
-        """They are looked at first; what is chosen in the dialog counts."""
+        """If the dots were changed since it was chosen, the labels are looked at first."""
         scheduler.add("name", "name")
         self.open()
-        said = self.answered("name")
+        self.chosen("name")
+        self.assertEqual(self.window.dpi.get_active_id(), "360")
+        self.change(dpi="600")
+        said = self.confirmed()
         self.assertIn("name prints at 360 dpi: the labels are drawn for it", said)
         self.until(lambda: self.window.has_labels)
-        self.assertEqual(self.window.dpi.get_active_id(), "360")
         self.assertEqual(self.window.made.labels.job.plan.dpi, 360)
         self.assertIn("sent to name, at 360 dpi", self.answered("name"))
         self.assertEqual(raster_of(scheduler.printed("name"))[0], (720, 360))
-        settings = Gtk.PrintSettings()
-        for name, value in (
-            *(("cups-Quality", "Best"), ("n-copies", "2"), ("print-pages", "ranges")),
-            *(("page-ranges", "0-1,4"), ("collate", "true"), ("reverse", "true")),
-        ):
-            settings.set(name, value)
-        chosen = {"Quality": "Best", "copies": "2", "page-ranges": "1-2,5-5"}
-        self.assertEqual(dialog.cups_options(settings), {**chosen, "outputorder": "reverse"})
 
     def test_a_roll_takes_the_dots_that_its_queue_has_by_itself(self) -> None:
         self.open()
         self.change(roll=True, dpi="600")
         queue = Queue("zebra", 203, {203: "203dpi", 600: "600dpi"})
-        self.window.ways.print_on({}, queue)
+        self.window.ways.ask_queue((queue, {}))
         self.until(self.problem)
         self.assertEqual(self.window.dpi.get_active_id(), "203")
 
@@ -1032,6 +1082,10 @@ class WindowTest(Keeper):
         self.assertEqual(len(self.happened()), 20)
         self.window.events.show(bar.Event("success", "printed after all", about=1))
         self.assertEqual(self.said(), "printed after all")
+        closing = [one for one in gtk.within(self.window.bar) if isinstance(one, Gtk.Button)]
+        self.assertEqual(
+            [one.get_accessible().get_name() for one in closing if one.get_visible()], ["Close"]
+        )
         self.pressed_key(Gdk.KEY_Escape)
         self.assertEqual(self.said(), "")
 
@@ -1080,11 +1134,11 @@ class WindowTest(Keeper):
         """What is folded is left out; each control has a name."""
         self.open()
         of_label = ["code", "title", "price", "copies", "more_of_table"]
-        of_paper = ["to", "sheet", "roll", "stock", "first", "more_of_paper"]
+        of_paper = ["printer", "sheet", "roll", "stock", "first", "more_of_paper"]
         self.assertEqual(self.tab(), [*of_label, *of_paper])
         self.window.roll.set_active(True)
         self.until(lambda: self.window.has_labels)
-        of_roll = ["to", "sheet", "roll", "width", "height", "more_of_paper"]
+        of_roll = ["printer", "sheet", "roll", "width", "height", "more_of_paper"]
         self.assertEqual(self.tab(), [*of_label, *of_roll])
         self.window.more_of_table.set_expanded(True)
         settle(0.3)
@@ -1106,6 +1160,47 @@ class WindowTest(Keeper):
             height, width = map(int, ran.stdout.split())
             self.assertLessEqual(height, 554, language)
             self.assertLessEqual(width, 420, language)
+
+    def test_rows_are_chosen_in_a_list(self) -> None:
+        """By marks, all that are looked for at once, or those that were not printed yet."""
+        self.open()
+        rows = self.window.ways.printing.rows
+
+        def choose(typed: str, *acts: Callable[[], Any]) -> Any:
+            def act() -> bool:
+                if not self.window.choosing.get_visible():
+                    return True
+                for one in acts:
+                    one()
+                self.window.choosing.response(Gtk.ResponseType.OK)
+                return False
+
+            GLib.timeout_add(BEAT, act)
+            return rows.choose(self.window.made.labels, typed)
+
+        def look_for(text: str) -> Callable[[], Any]:
+            return lambda: (self.window.rows_search.set_text(text), rows.found.refilter())
+
+        self.assertEqual(choose("5, 2-3"), "2-3,5")
+        self.assertEqual(choose("2", self.window.rows_all.clicked), "2-3,5")
+        soap = look_for("soap"), self.window.rows_all.clicked
+        self.assertEqual(choose("", *soap), "3")
+        none = self.window.rows_none.clicked
+        self.assertEqual(choose("2-5", none, lambda: rows.on_mark(None, "2")), "5")
+        self.saved("labels.pdf")
+        self.open(TABLE.replace("Soap", "Soap, blue"))
+        self.assertEqual(choose("", self.window.rows_new.clicked), "3")
+
+    def test_sheets_have_pictures(self) -> None:
+        """Of their grid, by which a keeper knows hers."""
+        picture = sheets.picture_of("Avery L7160")
+        self.assertEqual((picture.get_width(), picture.get_height()), (28, 40))  # A4
+        pixels, row = picture.get_pixels(), picture.get_rowstride()
+        size = picture.get_n_channels()
+        middle = [pixels[20 * row + x * size : 20 * row + x * size + 3] for x in range(28)]
+        white = "".join("x" if one == b"\xff\xff\xff" else " " for one in middle).split()
+        self.assertEqual(len(white), 3)  # columns of labels
+        self.assertIsNone(sheets.picture_of("no sheet"))
 
     def test_the_wheel_changes_no_choice(self) -> None:
         """It scrolls what the controls are in."""
@@ -1137,7 +1232,7 @@ class WindowTest(Keeper):
             mock.patch.object(type(chooser), "set_current_folder") as folder_of,
             mock.patch.object(type(chooser), "set_current_name") as name_of,
         ):
-            self.window.save_button.clicked()
+            self.window.lookup_action("save").activate(None)
         folder_of.assert_called_once_with(str(self.table.parent))
         name_of.assert_called_once_with(f"{self.table.stem}-labels.pdf")
 
@@ -1246,7 +1341,7 @@ class WindowTest(Keeper):
         self.change(roll=True, to="zpl", dpi="203")
         printer = Printer(stuck=2).start()
         self.addCleanup(printer.off)
-        self.window.ways.send_to(printer.name)
+        self.window.ways.send_to(printer.name, self.window.made.labels)
         self.until(lambda: len(printer.labels) > 1)
         self.assertFalse(self.window.stack.is_sensitive())
         self.window.open(self.table)
@@ -1284,7 +1379,7 @@ class WindowTest(Keeper):
         self.assertEqual([str(one) for one, name in controls if not name], [])
         boxes = [one for one, _ in controls if isinstance(one, Gtk.ComboBox)]
         aloud = [one.get_accessible().get_name() for one in boxes]
-        self.assertIn("office printer, or one with a driver", aloud)
+        self.assertIn("Save a file…", aloud)
         ids = {str(value) for value in self.window.choices().values() if value not in ("", None)}
         self.assertEqual([one for one in aloud if one in ids], [])  # nobody should hear these
         width, _ = self.window.get_preferred_width()

@@ -7,7 +7,7 @@ from functools import lru_cache
 Point = tuple[float, float]
 Stroke = tuple[Point, ...]
 
-# In modules: the field of a digit, and the pen, which is one module wide and high.
+# The field of a digit, in modules. The pen is one module wide and high.
 WIDTH = 7
 HEIGHT = 8
 _STEP = 15  # degrees of an arc that are drawn as a line

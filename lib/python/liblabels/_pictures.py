@@ -160,7 +160,7 @@ def with_digits(
     `guards` are bars from one module on and before another one, `texts` are digits that are in the middle between two.
     """
     rows = bars.rows()
-    guarded = sum((1 << (end - begin) * scale) - 1 << bars.width - end * scale for begin, end in guards)
+    guarded = sum((2 ** ((end - begin) * scale) - 1) << (bars.width - end * scale) for begin, end in guards)
     below = [rows[-1] & guarded] * (_LONGER * scale) + [0] * ((_BELOW_BARS - _LONGER) * scale)
     for begin, end, text in texts:
         left = (begin + end - _digits.WIDTH * len(text)) * scale // 2

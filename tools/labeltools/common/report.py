@@ -4,7 +4,7 @@ from dataclasses import dataclass
 from itertools import groupby, islice
 from typing import Iterable, Iterator, Sequence
 
-from labeltools.common.messages import Origin
+from labeltools.common.messages import Origin, sentence
 from labeltools.common.text import joined, NOTHING, Text
 
 MOST_REASONS = 8  # that have a message of their own
@@ -29,7 +29,7 @@ def report(left_out: Sequence[LeftOut], tables: Iterable[str]) -> Iterator[Text]
     has_tables = len(set(tables)) > 1
     places: dict[Text, list[Origin]] = {}
     for one in left_out:
-        named = places.setdefault(one.reason, [])
+        named = places.setdefault(sentence(one.reason, one.hint), [])
         if one.origin is not None:
             named.append(one.origin)
     reasons = sorted(places, key=lambda reason: -len(places[reason]))

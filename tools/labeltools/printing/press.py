@@ -22,6 +22,7 @@ from labeltools.layout.layout import LaidOut, LaidOutFile, Page, print_label, Pr
 from labeltools.layout.letters import DIGITS_FONT, Letters
 from labeltools.layout.medium import Medium
 from labeltools.lines.file import drawn_lines, LineRecord, LinesFile
+from labeltools.lines.reasons import hint_of
 from labeltools.paper.picture import Picture
 from labeltools.printing.job import Job
 from labeltools.printing.remarks import remarks_on
@@ -173,7 +174,7 @@ def refused_labels(
         reason = reasons.get(record.number)
         if reason is not None and only.has(record):
             data = record.data.decode("utf-8", "backslashreplace")
-            yield LeftOut(record.origin, data, reason)
+            yield LeftOut(record.origin, data, reason, hint_of(reason))
 
 
 def repeated(items: Sequence[LaidOut], job: Job) -> Sequence[LaidOut]:

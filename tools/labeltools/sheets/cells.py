@@ -41,6 +41,7 @@ UNSEEN_PRICE = re.compile("C[cf]|Z[lp]")
 IS_ROUNDED_DATA = re.compile("[0-9](?:[.,][0-9]+)?[Ee][+][0-9]{2,}")
 ROUNDED = Text("the spreadsheet has rounded the number")
 ROUNDED_HINT = Text("format the column as text, enter it again")
+HAS_DIGIT = re.compile("[0-9]")
 STRUCK = Text("has letters that are struck through")
 UNSEEN = Text("has white letters, which nobody sees")
 WITHOUT = Text("enter it again without them")
@@ -260,7 +261,7 @@ def taken_of(cell: Special, use: Use) -> str:
     if use in (DIGITS, DATA):
         return cell.digits(use is DATA)
     if use is COPIES and kind is CellKind.NUMBER:
-        if not re.search("[0-9]", shown := cell.shown()):  # TRUE, though its value is 1
+        if not HAS_DIGIT.search(shown := cell.shown()):  # TRUE, though its value is 1
             raise RowError(Text("is shown as {}, which is not a number", quoted(shown)), AS_TEXT)
         return cell.value
     return cell.shown() if use is MARK else cell.printed()
@@ -285,7 +286,8 @@ def refuse_no_value(text: str) -> None:
     if "+" in bare and IS_ROUNDED_DATA.fullmatch(bare):
         raise RowError(Text("has {}: {}", quoted(text), ROUNDED), ROUNDED_HINT)
     if not bare[:1].isdigit() and is_error(bare):
-        raise RowError(Text("has {}, which a program writes if it has no value", quoted(text)))
+        what = Text("has {}, which a program writes if it has no value", quoted(text))
+        raise RowError(what, Text("fill in the value"))
 
 
 def is_error(text: str) -> bool:
@@ -303,9 +305,8 @@ def is_error(text: str) -> bool:
 
 def no_value(text: str) -> RowError:
     """Returns the error of an error's name."""
-    return RowError(
-        Text("has {}, which the spreadsheet writes if it has no value to show", quoted(text))
-    )
+    what = Text("has {}, which the spreadsheet writes if it has no value to show", quoted(text))
+    return RowError(what, Text("correct its formula"))
 
 
 def plain_text(cell: str) -> str:
@@ -336,6 +337,5 @@ def refuse_unseen(bare: str, text: str, unseen: re.Pattern[str]) -> None:
     for character in bare.replace(" ", ""):
         name = f"{unicodedata.category(character)} {unicodedata.name(character, '')}"
         if unseen.match(name):
-            raise RowError(
-                Text("has {} in the cell {}, which nobody sees", named(character), quoted(text))
-            )
+            what = Text("has {} in the cell {}, which nobody sees", named(character), quoted(text))
+            raise RowError(what, Text("delete it"))

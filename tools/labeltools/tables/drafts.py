@@ -99,7 +99,8 @@ class DraftReader:
         typed = cell if isinstance(cell, str) else cell.value
         if not typed.isdigit() or typed == self.code_name or self.other_names:  # but most rows
             self.refuse_names(row)
-        self.variants.see(row)
+        if self.columns.variants_of:
+            self.variants.see(row)
         if not all(column.has(row, value) for column, value in self.columns.where):
             return None
         columns = self.columns
@@ -244,7 +245,8 @@ class DraftReader:
             return None
         found = column.mark(row)
         if any(letter.isdigit() for letter in found):
-            raise column.error(RowError(Text("has {}, which is not a currency", quoted(found))))
+            what = Text("has {}, which is not a currency", quoted(found))
+            raise column.error(RowError(what, Text("write it as EUR or €")))
         is_known = currency_of(plain_signs(found), self.options.prices.currency_name) is not None
         if found and not is_known:
             said = Text("row {} has the currency {}, which is not known", row.number, quoted(found))

@@ -16,9 +16,19 @@ try:
 except ValueError as error:  # there is no such version
     raise ImportError(str(error)) from error
 
-__all__ = ["Gdk", "Gio", "GLib", "Gtk", "Pango", "add_actions", "add_style", "within"]
+__all__ = [
+    "Gdk",
+    "Gio",
+    "GLib",
+    "Gtk",
+    "Pango",
+    "add_actions",
+    "add_style",
+    "leave_wheel",
+    "within",
+]
 LETTERS = 14  # that a choice shows at least
-SHORT = 13  # letters of answers that are side by side
+SIDE = 120  # pixels of an answer that is beside another one
 # the colours of events and questions, of the desktop's theme; a list of choices opens as a list,
 # since a menu of them has arrows to scroll by where the window is low
 STYLE = b"""
@@ -88,7 +98,6 @@ class Report(Gtk.InfoBar):
 
     def __init__(self, **properties: Any) -> None:
         super().__init__(**properties)
-        self.set_show_close_button(True)
         self.connect("response", lambda bar, _response: bar.hide())
         for part in within(self):
             if isinstance(part, Gtk.Button):
@@ -116,15 +125,17 @@ class Question(Gtk.Box):
         """Asks, with a button for each answer."""
         self.text.set_text(text)
         self.answers.foreach(Gtk.Widget.destroy)
-        is_short = all(len(shown) <= SHORT for shown, _ in answers) and len(answers) < 3
-        kind = Gtk.Orientation.HORIZONTAL if is_short else Gtk.Orientation.VERTICAL
-        self.answers.set_orientation(kind)
+        widest = 0
         for shown, act in answers:
             label = Gtk.Label(label=shown, ellipsize=Pango.EllipsizeMode.END, max_width_chars=30)
+            widest = max(widest, self.create_pango_layout(shown).get_pixel_size()[0])
             button = Gtk.Button(child=label)
             button.connect("clicked", lambda _button, act=act: act())
             self.answers.add(button)
             button.show_all()
+        is_short = widest <= SIDE and len(answers) < 3
+        kind = Gtk.Orientation.HORIZONTAL if is_short else Gtk.Orientation.VERTICAL
+        self.answers.set_orientation(kind)
         self.show()
 
 

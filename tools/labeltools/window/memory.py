@@ -43,5 +43,5 @@ class Memory:
 
 TABLES = Memory("window.json", dict)  # what was chosen, by the names of columns
 FILES = Memory("files.json", str)  # the words by which files were read, by their names
-PRINTERS = Memory("printers.json", str)  # the queue that printed last
+PRINTERS = Memory("printers.json", dict)  # what is known of printers: language, dots, tray
 PRESETS = Memory("setups.json", dict)  # papers and printers, by names such as "shelf roll"

@@ -49,7 +49,9 @@ class Presets:
     def use(self, name: str) -> None:
         """Takes the paper and the printer of a preset."""
         with self.window.filling():
-            self.window.take(PRESETS.all().get(name, {}))
+            choices = PRESETS.all().get(name, {})
+            self.window.take(choices)
+            self.window.of_printers.recall(choices)
         self.window.make()
 
 

@@ -5,7 +5,7 @@ in place of the page where the file cannot be read without it. Nothing is printe
 from collections.abc import Sequence
 from typing import Any
 
-from labeltools.common.text import Text, translated
+from labeltools.common.text import NOTHING, Text, translated, windowed
 from labeltools.window.bar import Answer
 from labeltools.window.gtk import Gtk
 
@@ -85,3 +85,8 @@ def asked_at(option: str) -> str:
 def which(kind: str) -> str:
     """Returns the question for the column of a kind."""
     return translated(WHICH[kind])
+
+
+def said(what: Text, hint: Text = NOTHING) -> str:
+    """Returns what a window says: a reason, and below it what to do."""
+    return "\n".join(filter(None, (translated(windowed(text)) for text in (what, hint))))

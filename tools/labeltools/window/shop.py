@@ -20,7 +20,7 @@ from labeltools.common.text import NOTHING, Remedy, Text
 from labeltools.lines.file import first_remark, label_lines, last_remark, LineRecord, read_lines
 from labeltools.printing.job import planned
 from labeltools.printing.press import labels_of, Prepared
-from labeltools.sending.cups import SentJob
+from labeltools.sending.cups import job_of, SentJob
 from labeltools.sending.sender import labels_text
 from labeltools.tables.guess import guess_of
 from labeltools.tables.money import NotMoney, parse
@@ -30,7 +30,7 @@ from labeltools.window import memory
 from labeltools.window.memory import FILES, TABLES
 
 COLUMNS = ("code", "title", "text", "text-2", "price", "unit-price", "old-price", "copies")
-PAPER = ("sheet", "roll", "stock", "width", "height", "design", "to", "dpi", "address")
+PAPER = ("sheet", "roll", "stock", "width", "height", "design", "to", "dpi", "printer")
 WAITING = ".waiting"  # what a file of lines ends with whose job is not over
 PATTERNS = ("0,00 €", "€0.00", "£0.00", "$0.00", "CHF 0.00", "0,00 kr", "0,00 zł")  # of prices
 Choices = Mapping[str, Any]  # by the names of the options
@@ -164,13 +164,13 @@ class Table:
             return time.strftime("%x", time.localtime(self.printed.stat().st_mtime))
         return ""
 
-    def keep_printed(self, made: MadeLabels) -> None:
+    def keep_printed(self, made: MadeLabels, sent: Prepared) -> None:
         """Keeps the lines of the labels that went out, for the next `--new-since`."""
-        self.keep_records(self.records_of(made))
+        self.keep_records(self.records_of(made, sent))
 
-    def records_of(self, made: MadeLabels) -> tuple[LineRecord, ...]:
-        """Returns the lines of the labels that were made."""
-        rows = {item.label.record.label.row for item in made.labels.labels}
+    def records_of(self, made: MadeLabels, sent: Prepared) -> tuple[LineRecord, ...]:
+        """Returns the lines of the labels that were sent."""
+        rows = {item.label.record.label.row for item in sent.prints}
         records = read_lines(made.lines.output, self.path.name).records
         return tuple(record for record in records if record.label.row in rows)
 
@@ -187,14 +187,14 @@ class Table:
             self.printed.parent.mkdir(parents=True, exist_ok=True)
             self.printed.write_bytes(file_of([*old, *new]))
 
-    def keep_waiting(self, made: MadeLabels, job: SentJob) -> Path:
+    def keep_waiting(self, made: MadeLabels, sent: Prepared, job: SentJob) -> Path:
         """Keeps the lines of the labels of a job until it is known whether they were printed, for a
         later window too; returns their file.
         """
-        path = self.printed.with_suffix(f".{job.number}.{job.queue}{WAITING}")
+        path = self.printed.with_suffix(f".{job.key}{WAITING}")
         with suppress(OSError):
             path.parent.mkdir(parents=True, exist_ok=True)
-            path.write_bytes(file_of(self.records_of(made)) if self.key else b"")
+            path.write_bytes(file_of(self.records_of(made, sent)) if self.key else b"")
         return path
 
     def end_waiting(self, path: Path, is_printed: bool) -> None:
@@ -209,8 +209,8 @@ class Table:
         """Returns the jobs of which it is not known yet whether they were printed."""
         found = {}
         for path in sorted(memory.FOLDER.glob(f"{self.printed.stem}.*{WAITING}")):
-            _, number, queue = path.name.removesuffix(WAITING).split(".", 2)
-            found[SentJob(queue, int(number))] = path
+            with suppress(ValueError):  # of another version
+                found[job_of(path.name.removesuffix(WAITING).partition(".")[2])] = path
         return found
 
     def settle(self) -> None:

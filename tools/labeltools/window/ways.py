@@ -4,48 +4,27 @@ label is compared before, as label-print does.
 
 from collections.abc import Callable
 from concurrent.futures import Future
-from contextlib import suppress
 from dataclasses import replace
 from functools import partial
 from pathlib import Path
 from typing import Any
-from urllib.parse import quote
 
 from labeltools.common.language import _
 from labeltools.common.messages import ToolError
 from labeltools.common.text import Text, translated
-from labeltools.printing.job import is_direct
 from labeltools.printing.press import Prepared
-from labeltools.sending.cups import (
-    JobState,
-    NOTHING_CHOSEN,
-    PAGES,
-    Queue,
-    queue_of,
-    queues,
-    SentJob,
-)
-from labeltools.sending.network import address_of, SCHEME
-from labeltools.sending.sender import (
-    labels_on_pages,
-    labels_text,
-    print_on,
-    save_to,
-    send_to,
-    Unfinished,
-)
+from labeltools.sending.cups import JobState, Queue, queue_of, SentJob
+from labeltools.sending.printers import choices_of, Printer, QUEUE
+from labeltools.sending.sender import labels_text, print_on, save_to, send_to, Unfinished
 from labeltools.window.bar import Answer, ERROR, Event, INFO, SUCCESS, WARNING
-from labeltools.window.dialog import ask_printer, Chosen
-from labeltools.window.gtk import Gdk, GLib, Gtk
+from labeltools.window.gtk import GLib, Gtk
 from labeltools.window.memory import PRINTERS
+from labeltools.window.printing import open_settings, Options, Printing, Printout
 from labeltools.window.shop import MadeLabels, Table, WindowTalk
 
-USB = Path("/dev/usb")  # has the printers on USB
-QUEUE = "queue"  # the name by which the last one is kept
-MANY = 1000  # labels above it are asked for before they are printed
 WATCH = 2000  # milliseconds between two looks at a job of CUPS
 Sent = tuple[SentJob | None, Text, int]  # a job of CUPS, what is reported, and of how many labels
-PAGE = "http://localhost:631/printers/"  # of a queue, in the pages of CUPS
+Way = Callable[[Prepared, WindowTalk], Sent]
 
 
 class WaysOut:
@@ -55,35 +34,34 @@ class WaysOut:
         self.window = window
         self.waiting: dict[SentJob, tuple[Table, Path]] = {}  # jobs whose labels may be printed
         self.told: dict[SentJob, str] = {}  # what was said of each last
+        self.sending: tuple[Prepared, bool]  # the labels that are sent, and whether they count
+        self.printing = Printing(window)
 
-    def send(
-        self,
-        way: Callable[[Prepared, WindowTalk], Sent],
-        is_all: bool = True,
-        labels: Prepared | None = None,
-    ) -> None:
-        """Sends labels by a way, all or those of chosen pages or the rest of them, and keeps what
-        is chosen for the next table like this.
+    def send(self, way: Way, labels: Prepared, counts: bool = True, is_rest: bool = False) -> None:
+        """Sends labels by a way, or the rest of those that were sent before, and keeps what is
+        chosen for the next table like this. A trial does not count as printed.
         """
         table, made = self.window.table, self.window.made
         table.keep(self.window.choices())
-        then = partial(self.on_sent, table, made, is_all)
-        self.window.work.start(partial(way, labels or made.labels), then, is_sending=True)
+        if not is_rest:
+            self.sending = labels, counts
+        then = partial(self.on_sent, table, made)
+        self.window.work.start(partial(way, labels), then, is_sending=True)
 
-    def on_sent(self, table: Table, made: MadeLabels, is_all: bool, sent: Sent) -> None:
+    def on_sent(self, table: Table, made: MadeLabels, sent: Sent) -> None:
         """Says which labels went out, and from then on what becomes of a job of CUPS. Keeps them,
-        those of a job once it is printed; but not if pages were chosen: these may be a trial.
+        those of a job once it is printed.
         """
         job, text, count = sent
-        if not is_all:
-            text = Text("{}; pages were chosen, so these labels do not count as printed", text)
+        labels, counts = self.sending
+        if not counts:
+            text = Text("{}; it was a trial, so these labels do not count as printed", text)
         elif job is None:
-            table.keep_printed(made)
+            table.keep_printed(made, labels)
         else:
-            self.waiting[job] = table, table.keep_waiting(made, job)
+            self.waiting[job] = table, table.keep_waiting(made, labels, job)
         self.report(INFO, text, job)
         if job is not None:
-            PRINTERS.keep(QUEUE, job.queue)
             self.watch(job, count)
 
     def look_back(self, table: Table) -> None:
@@ -150,17 +128,13 @@ class WaysOut:
         else:
             GLib.timeout_add(WATCH, self.watch, job, count)
 
-    def is_meant(self) -> bool:
-        """Returns whether labels are meant, which is asked for where they are many."""
-        return len(self.window.made.labels.prints) <= MANY or confirmed(self.window.many)
-
     def ask_file(self) -> None:
         """Asks for a file, and writes it."""
         chooser = self.window.saver
         path = self.window.table.path
         chooser.set_current_folder(str(path.absolute().parent))
         chooser.set_current_name(f"{path.stem}-labels.{self.window.made.labels.job.form.name}")
-        if self.is_meant() and chooser.run() == Gtk.ResponseType.ACCEPT:
+        if chooser.run() == Gtk.ResponseType.ACCEPT:
             self.save(Path(chooser.get_filename()))
 
     def save(self, path: Path) -> None:
@@ -171,54 +145,58 @@ class WaysOut:
             count = len(labels.prints)
             return None, Text("{} saved as {}", labels_text(count), path.name), count
 
-        self.send(way)
+        self.send(way, self.window.made.labels)
 
-    def ask_printer(self) -> None:
-        """Asks for a printer, and prints."""
-        if self.is_meant():
-            is_roll = self.window.made.labels.job.form.is_roll
-            then = self.ask_way if is_roll else self.ask_queue
-            self.window.work.start(partial(printers, is_roll), then)
+    def ask(self) -> None:
+        """Asks what is printed, and prints it; or asks for a file, if that is chosen."""
+        printer = self.window.of_printers.chosen
+        if printer is None:
+            self.ask_file()
+        elif printer.is_lost:
+            hint = Text("switch it on, or choose another printer")
+            self.window.show_problem(ToolError(Text("{} is not found", printer.name), hint))
+        elif printer.way == QUEUE:
+            self.window.work.start(partial(queue_and_choices, printer.key), self.ask_queue)
+        else:
+            self.ask_direct(printer)
 
-    def ask_queue(self, _names: Any) -> None:
-        """Asks for a queue, and its options, by the dialog of the desktop."""
-        page = self.window.made.labels.job.plan.sheet.page
-        ask_printer(self.window, page, PRINTERS.all().get(QUEUE, ""), self.find_queue)
-
-    def find_queue(self, name: str, chosen: Chosen = NOTHING_CHOSEN) -> None:
-        """Prints on a queue, once it is known what it prints with the options that are chosen."""
-        then = partial(self.print_on, chosen)
-        self.window.work.start(lambda _talk: queue_of(name, chosen), then)
-
-    def print_on(self, chosen: Chosen, queue: Queue) -> None:
-        """Prints what label-print prints. If the printer has another resolution, the labels are
-        made for that, to be looked at.
+    def ask_queue(self, found: tuple[Queue, Options]) -> None:
+        """Asks what is printed on a queue. If it has other dots than the labels, they are made for
+        these, to be looked at.
         """
-        job = self.window.made.labels.job
+        queue, options = found
+        labels = self.window.made.labels
+        job = labels.job
         dpi = queue.dpi_for(not job.plan.sheet.is_single) or job.plan.dpi
+        printer = self.window.of_printers.chosen
         if job.form.is_drawn and dpi % job.plan.dpi:
             what = Text("{} prints at {} dpi: the labels are drawn for it now", queue.name, dpi)
             self.window.take({"dpi": str(dpi)})
             self.window.make(problem=ToolError(what, Text("check them, and print again")))
-        else:
-            is_all = PAGES.isdisjoint(chosen)
+        elif printer and (wanted := self.printing.ask(printer, labels, options)):
+            if not wanted.is_trial:
+                kept = PRINTERS.all().get(printer.key, {})
+                others = {name: word for name, word in kept.items() if name not in options}
+                PRINTERS.keep(printer.key, {**others, **wanted.options})
+            self.print_on(queue, wanted)
 
-            def way(labels: Prepared, talk: WindowTalk) -> Sent:
-                sent, text = print_on(labels, queue, talk, chosen)
-                return sent, text, labels_on_pages(labels.job, len(labels.prints), chosen)
+    def print_on(self, queue: Queue, wanted: Printout) -> None:
+        """Prints labels on a queue as label-print does."""
 
-            self.send(way, is_all)
+        def way(labels: Prepared, talk: WindowTalk) -> Sent:
+            sent, text = print_on(labels, queue, talk, wanted.options)
+            return sent, text, len(labels.prints)
 
-    def ask_way(self, names: list[str]) -> None:
-        """Asks for a printer for the file of a printer's own language."""
-        menu = Gtk.Menu()
-        ways = [(name, partial(self.send_to, name)) for name in names]
-        for shown, way in (*ways, (_("A printer in the network…"), self.ask_address)):
-            item = Gtk.MenuItem(label=shown, visible=True)
-            item.connect("activate", lambda _item, way=way: way())
-            menu.append(item)
-        south = Gdk.Gravity.SOUTH_WEST
-        menu.popup_at_widget(self.window.print_button, south, Gdk.Gravity.NORTH_WEST, None)
+        self.send(way, wanted.labels, not wanted.is_trial)
+
+    def ask_direct(self, printer: Printer) -> None:
+        """Asks what is printed on a printer that takes labels one by one."""
+        labels = self.window.made.labels
+        if not labels.job.form.is_roll:
+            what = Text("{} needs labels one by one", printer.name)
+            self.window.show_problem(ToolError(what, Text("choose its language")))
+        elif wanted := self.printing.ask(printer, labels, {}):
+            self.send_to(printer.key, wanted.labels, not wanted.is_trial)
 
     def ask_to_go_on(self, problem: Unfinished) -> None:
         """Sends the rest of the labels to a printer that took some of them. Whether the next one is
@@ -232,45 +210,30 @@ class WaysOut:
             if is_there is None:
                 return
             done += is_there
-        labels = self.window.made.labels
+        labels, counts = self.sending
         if done - labels.job.options.after < len(labels.prints):
             self.go_on(problem.printer, done)
-        else:
-            self.window.table.keep_printed(self.window.made)
+        elif counts:
+            self.window.table.keep_printed(self.window.made, labels)
 
     def go_on(self, printer: str, done: int) -> None:
         """Sends the labels of a job to a printer that took some of them, behind these."""
-        labels = self.window.made.labels
-        options = labels.job.options
-        rest = replace(
-            labels,
-            job=replace(labels.job, options=replace(options, after=done)),
-            prints=labels.prints[done - options.after :],
-        )
-        self.send_to(printer, rest)
+        labels, counts = self.sending
+        job = labels.job
+        after = replace(job, options=replace(job.options, after=done))
+        prints = labels.prints[done - job.options.after :]
+        self.send_to(printer, replace(labels, job=after, prints=prints), counts, True)
 
-    def send_to(self, printer: str, labels: Prepared | None = None) -> None:
-        """Sends what label-print sends to a printer: all labels, or some."""
+    def send_to(
+        self, printer: str, labels: Prepared, counts: bool = True, is_rest: bool = False
+    ) -> None:
+        """Sends to a printer in the network or on USB what label-print sends."""
 
         def way(labels: Prepared, talk: WindowTalk) -> Sent:
             talk.is_direct = True
             return None, send_to(labels, printer, talk, talk.stops), len(labels.prints)
 
-        if is_direct(printer):
-            self.send(way, labels=labels)
-        else:
-            self.find_queue(printer)
-
-    def ask_address(self) -> None:
-        """Asks where a printer is in the network, and sends to it."""
-        if confirmed(self.window.network):
-            name = SCHEME + self.window.address.get_text().strip().removeprefix(SCHEME)
-            try:
-                address_of(name)
-            except ToolError as error:
-                self.window.show_problem(error)
-            else:
-                self.send_to(name)
+        self.send(way, labels, counts, is_rest)
 
 
 def confirmed(dialog: Any) -> bool:
@@ -293,22 +256,12 @@ def event_of(job: SentJob, count: int, state: JobState) -> Event | None:
         return Event(ERROR, translated(text), None, job)
     if state.is_waiting or state.trouble:
         reason = state.trouble or Text("{}: {}", job.queue, state.said)
-        show = partial(Gtk.show_uri_on_window, None, PAGE + quote(job.queue), Gdk.CURRENT_TIME)
+        show = partial(open_settings, job.queue)
         text = Text("{}: waiting in the queue: {}", labels, reason)
         return Event(WARNING, translated(text), (_("Show the queue"), show), job)
     return None
 
 
-def printers(is_roll: bool, _talk: WindowTalk) -> list[str]:
-    """Returns the printers that the system knows: for a printer's own language also those on USB.
-    Raises `ToolError` if there is none, but that one may be in the network.
-    """
-    if not is_roll:
-        if names := queues():
-            return names
-        hint = Text("add it in the settings of the desktop, under printers")
-        raise ToolError(Text("there is no printer"), hint)
-    found = sorted(map(str, USB.glob("lp*")))
-    with suppress(ToolError):  # CUPS is not there
-        return [*(name for name in queues() if not queue_of(name).papers.is_office), *found]
-    return found
+def queue_and_choices(name: str, _talk: WindowTalk) -> tuple[Queue, Options]:
+    """Returns what a queue says, and what its driver offers; raises `ToolError`."""
+    return queue_of(name), choices_of(name)

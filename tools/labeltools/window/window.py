@@ -17,18 +17,18 @@ from labeltools.common.text import (
     Remedy,
     Text,
     translated,
-    windowed,
 )
 from labeltools.designs.svg_design import is_file
 from labeltools.layout.area import ARTICLE
-from labeltools.paper.stock import list_stock
 from labeltools.printing.press import check_count
 from labeltools.sending.sender import Unfinished
+from labeltools.window import sheets
 from labeltools.window.bar import Bar, ERROR, Event, INFO
-from labeltools.window.gtk import add_actions, Caption, Gdk, Gio, GLib, Gtk
+from labeltools.window.gtk import add_actions, Caption, Gdk, Gio, GLib, Gtk, leave_wheel
 from labeltools.window.presets import Presets
 from labeltools.window.preview import Preview
-from labeltools.window.questions import Answers, asked_at, CENTS, Questions, which
+from labeltools.window.printers import Printers
+from labeltools.window.questions import Answers, asked_at, CENTS, Questions, said, which
 from labeltools.window.shop import (
     Choices,
     COLUMNS,
@@ -45,7 +45,7 @@ FILE = Path(__file__).with_name("window.ui")
 # the controls by the names of options, and the property of each that has what is chosen
 CONTROLS = {
     **dict.fromkeys((*COLUMNS, "symbology", "price-as", "design", "to", "dpi"), "active-id"),
-    **dict.fromkeys(("stock", "for-table", "for-print", "address"), "text"),
+    **dict.fromkeys(("stock", "for-table", "for-print"), "text"),
     **dict.fromkeys(("header-row", "first", "width", "height"), "value"),
     **dict.fromkeys(("sheet", "roll", "new-only"), "active"),
 }
@@ -87,13 +87,14 @@ class Window(Gtk.ApplicationWindow):
         self.questions = Questions(self)
         self.work = Work(self)
         self.ways = WaysOut(self)
+        self.of_printers = Printers(self)
         self.presets = Presets(self)
         add_actions(
             self,
             {
                 "open": self.ask_table,
                 "save": self.ways.ask_file,
-                "print": self.ways.ask_printer,
+                "print": self.ways.ask,
                 "command": self.line.popup,
             },
         )
@@ -119,6 +120,7 @@ class Window(Gtk.ApplicationWindow):
         self.fit_paper()
         self.connect_after("key-press-event", self.on_key)
         self.completion.set_match_func(lambda *_: True)
+        self.completion.set_cell_data_func(self.sheet_picture, sheets.show_picture, None)
         self.drag_dest_set(Gtk.DestDefaults.ALL, [], Gdk.DragAction.COPY)
         self.drag_dest_add_uri_targets()
 
@@ -150,12 +152,7 @@ class Window(Gtk.ApplicationWindow):
 
     def offer_sheets(self, entry: Any) -> None:
         """Offers the sheets that label-print lists for what is typed, first those that begin so."""
-        typed = entry.get_text().lower()
-        self.sheets.clear()
-        with suppress(ToolError):  # glabels, which has the sheets, is not there
-            lines = list_stock(typed) if len(typed) > 1 else ()
-            for line in sorted(lines, key=lambda line: not line.lower().startswith(typed)):
-                self.sheets.append([line.partition(": ")[0], line])
+        sheets.offer_sheets(self.sheets, entry.get_text().lower())
 
     def show_problem(self, problem: ToolError, answers: Answers = ()) -> None:
         """Says why something cannot be done, and what helps: one thing by a button beside it,
@@ -203,8 +200,8 @@ class Window(Gtk.ApplicationWindow):
         if not isinstance(problem, Unfinished):
             return []
         text = _("Go on with label {number}").format(number=problem.done + 1)
-        count = len(self.made.labels.prints) + self.made.labels.job.options.after
-        is_some = problem.done < count
+        labels, _counts = self.ways.sending
+        is_some = problem.done - labels.job.options.after < len(labels.prints)
         return [(text, partial(self.ways.ask_to_go_on, problem))] if is_some else []
 
     def asked_in_dialog(self, text: str, answers: Mapping[bool, str]) -> bool | None:
@@ -303,6 +300,7 @@ class Window(Gtk.ApplicationWindow):
         own = self.chosen if is_same else {**table.paper, "for-print": "", **table.kept, "first": 1}
         self.names = guess.names
         self.take({"symbology": guess.symbology, **own})
+        self.of_printers.recall(own)
         self.offer_patterns(table)
         self.take({"price-as": own.get("price-as", "")})
         self.text_2.set_visible(self.choices()["text-2"])
@@ -328,7 +326,8 @@ class Window(Gtk.ApplicationWindow):
 
     def choices(self) -> Choices:
         """Returns what is chosen."""
-        return {name: self.control(name).get_property(kind) for name, kind in CONTROLS.items()}
+        found = {name: self.control(name).get_property(kind) for name, kind in CONTROLS.items()}
+        return {**found, "printer": self.of_printers.wanted}
 
     def make(self, _control: Any = None, problem: ToolError | None = None) -> None:
         """Makes the labels that are chosen, and then says what problem they are made for."""
@@ -336,6 +335,7 @@ class Window(Gtk.ApplicationWindow):
             self.has_labels = False
             self.chosen = self.choices()
             self.questions.clear()
+            self.of_printers.ask()
             for kind, places in self.table.guess.doubts.items():
                 if self.chosen[kind] is None:
                     self.ask_column(self.table, kind, places)
@@ -383,10 +383,20 @@ class Window(Gtk.ApplicationWindow):
             self.take({"text-2": ""})
 
     def on_printer(self, printer: Any) -> None:
-        """Makes the labels for another kind of printer, with the dots that it usually has."""
+        """Makes the labels for another printer."""
         if not self.is_filling:
+            self.of_printers.on_chosen(printer.get_active_id())
+
+    def on_wheel(self, control: Any, event: Any) -> None:
+        """Leaves a turn of the wheel to the panel."""
+        leave_wheel(control, event)
+
+    def on_language(self, language: Any) -> None:
+        """Makes the labels in another language of printers, with the dots that these have."""
+        form = language.get_active_id()
+        if not self.is_filling and not self.of_printers.take_language(form):
             with self.filling():
-                self.take({"dpi": USUAL_DPI.get(printer.get_active_id(), "600")})
+                self.take({"dpi": USUAL_DPI.get(form, "600")})
             self.make()
 
     def offer_resolution(self, dpi: str) -> None:
@@ -540,11 +550,6 @@ class Window(Gtk.ApplicationWindow):
 def is_of_signs(hint: Text) -> bool:
     """Returns whether a hint is about the signs of prices, of which only the keeper knows."""
     return any(one.option == "decimal" for one in remedies_of(hint))
-
-
-def said(what: Text, hint: Text = NOTHING) -> str:
-    """Returns what a window says: a reason, and below it what to do."""
-    return "\n".join(filter(None, (translated(windowed(text)) for text in (what, hint))))
 
 
 def with_example(name: str, example: str) -> str:

@@ -1,0 +1,267 @@
+"""The list of printers of a window: the printer decides what it is sent, and at how many dots an
+inch. A printer in the network is added once.
+"""
+
+from collections.abc import Mapping, Sequence
+from concurrent.futures import Future, ThreadPoolExecutor
+from functools import partial
+from typing import Any
+
+from labeltools.commands.label_print import print_options
+from labeltools.common.language import _
+from labeltools.common.messages import ToolError
+from labeltools.common.text import translated
+from labeltools.printing.job import planned
+from labeltools.printing.press import labels_of
+from labeltools.sending.cups import Queue, queue_of
+from labeltools.sending.network import address_of, SCHEME
+from labeltools.sending.printers import (
+    default_queue,
+    lost_printer,
+    Printer,
+    printers,
+    QUEUE,
+    USB,
+)
+from labeltools.sending.sender import send_to
+from labeltools.window.gtk import GLib, Gtk
+from labeltools.window.memory import PRINTERS
+from labeltools.window.questions import said
+from labeltools.window.shop import Choices, WindowTalk
+
+ADD, FILE, NONE = "add", "file", "-"  # rows of the list that are no printers
+ICONS = {QUEUE: "printer-symbolic", USB: "printer-symbolic"}
+LANGUAGES = ("zpl", "escpos")  # of printers that take labels one by one
+USUAL_DPI = 203  # of these printers
+DRAWING_DPI = 600
+TEST = b'#{"title":"Test","price":"1,00"}\ncode128 TEST-123\n'
+TEST_SIZE = "50x25"  # millimetres of a test label
+
+
+class Printers:
+    """The list of a window."""
+
+    def __init__(self, window: Any) -> None:
+        self.window = window
+        self.all: dict[str, Printer] = {}
+        self.wanted = ""  # the key of the one that is chosen, or was when labels went out
+        self.is_decided = False  # what it is sent, by choices of older versions
+        self.thread = ThreadPoolExecutor(1)
+        window.printer.set_row_separator_func(lambda model, row: model[row][3] == NONE)
+        window.printer.connect("notify::popup-shown", lambda *_: self.refresh())
+        self.fill([])
+        self.refresh()
+
+    def refresh(self) -> None:
+        """Looks for printers, in a thread of its own."""
+        future = self.thread.submit(found_printers)
+        future.add_done_callback(partial(GLib.idle_add, self.show))
+
+    def show(self, future: "Future[tuple[Sequence[Printer], str]]") -> None:
+        """Shows the printers that were found, and chooses one where none is chosen."""
+        if future.exception() is not None or not self.window.get_visible():
+            return
+        found, default = future.result()
+        self.fill(found)
+        if not self.wanted:
+            first = default or next((one.key for one in found), FILE)
+            first = first if first in self.all else FILE
+            (self.settle if self.is_decided else self.choose)(first)
+
+    def fill(self, found: Sequence[Printer]) -> None:
+        """Fills the list; a printer that is wanted and not there is in it, too."""
+        self.all = {one.key: one for one in found}
+        if self.wanted and self.wanted not in (*self.all, FILE):
+            self.all[self.wanted] = lost_printer(self.wanted)
+        rows = [
+            (one.name, icon_of(one), translated(one.state), key) for key, one in self.all.items()
+        ]
+        rows += [(NONE, "", "", NONE)] if rows else []
+        rows.append((_("Add a network printer…"), "list-add-symbolic", "", ADD))
+        rows.append((_("Save a file…"), "document-save-symbolic", "", FILE))
+        with self.window.filling():
+            self.window.printers.clear()
+            for row in rows:
+                self.window.printers.append(row)
+            self.window.printer.set_active_id(self.wanted or None)
+
+    @property
+    def chosen(self) -> Printer | None:
+        """The printer that is chosen; None for a file."""
+        return self.all.get(self.wanted)
+
+    def recall(self, choices: Choices) -> None:
+        """Takes the printer of choices by which labels went out before. Older ones have no more
+        than the address of one in the network, if they have that.
+        """
+        key = choices.get("printer", "")
+        if not key and choices.get("to") in LANGUAGES and choices.get("address"):
+            key = SCHEME + choices["address"].removeprefix(SCHEME)
+            name = key.removeprefix(SCHEME)
+            kept = {"name": name, "to": choices["to"], "dpi": str(choices.get("dpi", USUAL_DPI))}
+            PRINTERS.keep(key, kept)
+            self.all |= {one.key: one for one in printers({key: kept}) if one.key == key}
+        self.is_decided = bool(choices.get("to"))
+        if key:
+            self.settle(key)
+
+    def settle(self, key: str) -> None:
+        """Shows a printer as chosen; it decides nothing."""
+        self.wanted = key
+        self.fill([one for one in self.all.values() if not one.is_lost])
+        self.show_button()
+
+    def show_button(self) -> None:
+        """Names the button after what it does."""
+        is_file = self.wanted == FILE
+        self.window.print_button.set_label(_("_Save…") if is_file else _("_Print…"))
+
+    def choose(self, key: str) -> None:
+        """Chooses a printer: it decides the language, the dots, and sheets or a roll."""
+        self.wanted = key
+        with self.window.filling():
+            self.window.printer.set_active_id(key)
+        self.show_button()
+        self.window.questions.clear()
+        printer = self.chosen
+        if printer is None or printer.is_lost:
+            self.window.make()
+        elif not printer.form:
+            self.ask_language(printer)
+        elif printer.form in LANGUAGES:
+            self.decide(printer.form, printer.dpi or USUAL_DPI, True)
+        else:
+            future = self.thread.submit(queue_of, key)
+            future.add_done_callback(partial(GLib.idle_add, self.decide_by_queue, key))
+
+    def on_chosen(self, key: str) -> None:
+        """Does what is chosen in the list by the keeper."""
+        if key == ADD:
+            with self.window.filling():
+                self.window.printer.set_active_id(self.wanted or None)
+            self.add()
+        elif key:
+            self.choose(key)
+
+    def decide_by_queue(self, key: str, future: "Future[Queue]") -> None:
+        """Makes the labels for a queue, whose driver is known now."""
+        if key != self.wanted or future.exception() is not None:
+            return
+        queue = future.result()
+        is_roll = bool(queue.papers.known) and not queue.papers.is_office
+        self.decide("pdf", queue.dpi_for(not is_roll) or DRAWING_DPI, is_roll)
+
+    def decide(self, form: str, dpi: int, is_roll: bool) -> None:
+        """Makes the labels for a printer."""
+        with self.window.filling():
+            self.window.take({"to": form, "dpi": str(dpi)})
+            self.window.take({"roll" if is_roll else "sheet": True})
+        self.window.make()
+
+    def ask(self) -> None:
+        """Asks what is not known of the printer that is chosen."""
+        printer = self.chosen
+        if printer is not None and not printer.form and not printer.is_lost:
+            self.ask_language(printer)
+
+    def take_language(self, form: str) -> bool:
+        """Keeps the language of a printer that takes labels one by one, which understands nothing
+        else; returns whether there is one.
+        """
+        printer = self.chosen
+        if printer is None or printer.way == QUEUE:
+            return False
+        if form in LANGUAGES:
+            self.know(printer.key, {"to": form})
+        else:
+            with self.window.filling():
+                self.window.take({"to": printer.form or LANGUAGES[0]})
+        return True
+
+    def ask_language(self, printer: Printer) -> None:
+        """Asks once what a printer understands that does not say it."""
+        shown = (_("Labels (ZPL)"), _("Receipts (ESC/POS)"))
+        answers = [
+            (text, partial(self.know, printer.key, {"to": one}))
+            for text, one in zip(shown, LANGUAGES)
+        ]
+        self.window.questions.ask("printer", _("What does this printer print?"), answers)
+        self.window.let_out(self.window.has_labels)
+
+    def know(self, key: str, more: Mapping[str, str]) -> None:
+        """Keeps what is known of a printer from now on, and chooses it."""
+        PRINTERS.keep(key, {**PRINTERS.all().get(key, {}), **more})
+        known = PRINTERS.all()
+        self.all = {one.key: one for one in self.all.values()} | {
+            one.key: one for one in printers({key: known[key]}) if one.key == key
+        }
+        self.wanted = key
+        self.fill([*self.all.values()])
+        self.choose(key)
+
+    def add(self) -> None:
+        """Asks for a printer in the network, and chooses it."""
+        window = self.window
+        window.new_said.set_text("")
+        window.new_address.grab_focus()
+        tests = window.new_test.connect("clicked", lambda _button: self.test())
+        window.adding.set_default_response(Gtk.ResponseType.OK)
+        while window.adding.run() == Gtk.ResponseType.OK:
+            key, kept = self.new()
+            try:
+                address_of(key)
+            except ToolError as error:
+                window.new_said.set_text(said(error.what, error.hint))
+                continue
+            self.know(key, kept)
+            break
+        window.new_test.disconnect(tests)
+        window.adding.hide()
+
+    def new(self) -> tuple[str, Mapping[str, str]]:
+        """Returns the printer that is typed: its address, and what is kept of it."""
+        address = self.window.new_address.get_text().strip().removeprefix(SCHEME)
+        name = self.window.new_name.get_text().strip() or address
+        form = LANGUAGES[0] if self.window.new_zpl.get_active() else LANGUAGES[1]
+        return SCHEME + address, {
+            "name": name,
+            "to": form,
+            "dpi": self.window.new_dpi.get_active_id(),
+        }
+
+    def test(self) -> None:
+        """Prints a test label, and says what came of it."""
+        key, kept = self.new()
+        self.window.new_said.set_text("…")
+        future = self.thread.submit(print_test, key, kept)
+        future.add_done_callback(partial(GLib.idle_add, self.tested))
+
+    def tested(self, future: "Future[None]") -> None:
+        """Says what came of a test label."""
+        error = future.exception()
+        text = _("Sent: look whether it comes out.")
+        if isinstance(error, ToolError):
+            text = said(error.what, error.hint)
+        elif error is not None:
+            text = str(error)
+        self.window.new_said.set_text(text)
+
+
+def icon_of(printer: Printer) -> str:
+    """Returns the icon of a printer."""
+    if not printer.is_ready:
+        return "printer-warning-symbolic"
+    return ICONS.get(printer.way, "printer-network-symbolic")
+
+
+def found_printers() -> tuple[Sequence[Printer], str]:
+    """Returns the printers, and the queue that is used if none is named."""
+    return [*printers(PRINTERS.all())], default_queue()
+
+
+def print_test(key: str, kept: Mapping[str, str]) -> None:
+    """Prints a test label on a printer in the network; raises `ToolError`."""
+    address_of(key)
+    words = ["--paper", TEST_SIZE, "--to", kept["to"], "--dpi", kept["dpi"]]
+    talk = WindowTalk()
+    send_to(labels_of(planned(print_options(words)), "test", TEST, talk), key, talk)

@@ -1,0 +1,184 @@
+"""The dialog before labels are printed: which of them, and from which tray. It has nothing that
+would change labels, such as a scale.
+"""
+
+import webbrowser
+from collections.abc import Mapping
+from dataclasses import dataclass, replace
+from typing import Any
+from urllib.parse import quote
+
+from labeltools.common.language import _, ngettext
+from labeltools.common.report import Ranges
+from labeltools.layout.layout import LaidOut
+from labeltools.printing.press import Prepared
+from labeltools.printing.selection import ranges_in
+from labeltools.sending.printers import MEDIA, Printer, TRAY
+from labeltools.window.gtk import Gio, GLib, Gtk
+from labeltools.window.memory import PRINTERS
+from labeltools.window.rows import Rows
+
+PAGE = "http://localhost:631/printers/"  # of a queue, in the pages of CUPS
+# the programs of desktops that have the settings of printers, with their words
+SETTINGS = (
+    ("gnome-control-center", "printers"),
+    ("system-config-printer",),
+    ("systemsettings", "kcm_printer_manager"),
+)
+Options = Mapping[str, Mapping[str, str]]  # of a driver: the choices of each, and what is shown
+
+
+@dataclass(frozen=True)
+class Printout:
+    """What is to be printed: labels, with options of CUPS; a trial does not count as printed."""
+
+    labels: Prepared
+    options: Mapping[str, str]
+    is_trial: bool = False
+
+
+class Printing:
+    """The dialog of a window."""
+
+    def __init__(self, window: Any) -> None:
+        self.window = window
+        window.print_rows.connect("changed", self.on_typed)
+        for one in (window.print_all, window.print_some, window.print_trial):
+            one.connect("toggled", self.show_what)
+        window.print_what.connect("changed", self.show_what)
+        window.print_settings.connect("activate-link", self.on_settings)
+        window.print_choose.connect("clicked", self.on_choose)
+        self.rows = Rows(window)
+        self.printer = ""
+
+    def ask(self, printer: Printer, labels: Prepared, options: Options) -> Printout | None:
+        """Asks what is to be printed; returns nothing if that is cancelled."""
+        window = self.window
+        self.labels, self.printer = labels, printer.key
+        window.printing.set_title(_("Print on {printer}").format(printer=printer.name))
+        is_roll = labels.job.form.is_roll or labels.job.plan.sheet.is_single
+        trial = _("_Trial: one label") if is_roll else _("_Trial: the first sheet, on plain paper")
+        window.print_trial.set_label(trial)
+        window.print_all.set_label(all_text(labels, is_roll))
+        window.print_all.set_active(True)
+        window.print_rows.set_text("")
+        window.print_what.set_active_id("rows")
+        window.print_what.set_visible(not is_roll)
+        self.fill(options)
+        self.show_what()
+        answer = window.printing.run()
+        window.printing.hide()
+        return self.wanted() if answer == Gtk.ResponseType.OK else None
+
+    def fill(self, options: Options) -> None:
+        """Fills the choices of a driver, with those of the last time."""
+        kept = PRINTERS.all().get(self.printer, {})
+        for name, choice in ((TRAY, self.window.tray), (MEDIA, self.window.media)):
+            choice.remove_all()
+            choice.append("", _("as the printer is set"))
+            for word, shown in options.get(name, {}).items():
+                choice.append(word, shown)
+            is_known = kept.get(name) in options.get(name, {})
+            choice.set_active_id(kept[name] if is_known else "")
+            for part in (choice, *choice.list_mnemonic_labels()):
+                part.set_visible(name in options)
+        self.window.print_queue.set_visible("/" not in self.printer)
+
+    def on_choose(self, _button: Any) -> None:
+        """Asks for the rows in a list."""
+        chosen = self.rows.choose(self.labels, self.window.print_rows.get_text())
+        if chosen is not None:
+            self.window.print_what.set_active_id("rows")
+            self.window.print_rows.set_text(chosen)
+
+    def on_typed(self, entry: Any) -> None:
+        """Prints only some, once they are typed."""
+        if entry.get_text():
+            self.window.print_some.set_active(True)
+        self.show_what()
+
+    def show_what(self, _control: Any = None) -> None:
+        """Shows how many sheets are needed, and whether there is something to print."""
+        wanted = self.wanted()
+        prints, job = wanted.labels.prints, wanted.labels.job
+        self.window.printing.set_response_sensitive(Gtk.ResponseType.OK, bool(prints))
+        count = job.pages_of(len(prints))
+        stock = self.window.stock.get_text() if job.options.stock else ""
+        text = ngettext(
+            "Put {count} sheet {stock} into the tray.",
+            "Put {count} sheets {stock} into the tray.",
+            count,
+        )
+        if wanted.is_trial:
+            text = _("Put plain paper into the tray.")
+        is_sheet = not (job.form.is_roll or job.plan.sheet.is_single)
+        put = text.format(count=count, stock=stock).replace("  ", " ") if is_sheet else ""
+        left_out = self.window.made.left_out and self.window.left_out.get_text()
+        self.window.print_put.set_text("\n".join(filter(None, (put, left_out or ""))))
+
+    def wanted(self) -> Printout:
+        """Returns what is chosen."""
+        chosen = {TRAY: self.window.tray, MEDIA: self.window.media}
+        options = {name: one.get_active_id() for name, one in chosen.items()}
+        options = {name: word for name, word in options.items() if word}
+        if self.window.print_trial.get_active():
+            is_single = self.labels.job.plan.sheet.is_single or self.labels.job.form.is_roll
+            first = replace(self.labels, prints=self.labels.prints[:1])
+            trial = first if is_single else on_sheets(self.labels, ((1, 1),))
+            return Printout(trial, {}, True)
+        if not self.window.print_some.get_active():
+            return Printout(self.labels, options)
+        ranges = ranges_in(self.window.print_rows.get_text().replace(" ", ""))
+        pick = on_sheets if self.window.print_what.get_active_id() == "sheets" else of_rows
+        return Printout(pick(self.labels, ranges), options)
+
+    def on_settings(self, _link: Any) -> bool:
+        """Opens the settings of printers of the desktop, or else the page of CUPS."""
+        open_settings(self.printer)
+        return True
+
+
+def open_settings(queue: str) -> None:
+    """Opens the settings of printers of the desktop, or else the page of a queue of CUPS."""
+    for words in SETTINGS:
+        if GLib.find_program_in_path(words[0]):
+            Gio.Subprocess.new(list(words), Gio.SubprocessFlags.NONE)
+            return
+    webbrowser.open(PAGE + quote(queue))
+
+
+def all_text(labels: Prepared, is_roll: bool) -> str:
+    """Returns how many labels and sheets all are."""
+    count = len(labels.prints)
+    text = ngettext("_All: {count} label", "_All: {count} labels", count).format(count=count)
+    if is_roll:
+        return text
+    pages = labels.job.pages_of(count)
+    sheets = ngettext("{count} sheet", "{count} sheets", pages).format(count=pages)
+    return f"{text}, {sheets}"
+
+
+def is_in(number: int, ranges: Ranges) -> bool:
+    """Returns whether a number is in one of some ranges."""
+    return any(first <= number <= last for first, last in ranges)
+
+
+def of_rows(labels: Prepared, ranges: Ranges) -> Prepared:
+    """Returns the labels of some rows of the table."""
+    return replace(labels, prints=[one for one in labels.prints if is_in(table_row(one), ranges)])
+
+
+def table_row(item: LaidOut) -> int:
+    """Returns the row of a label in its table."""
+    return item.label.record.origin.number
+
+
+def on_sheets(labels: Prepared, ranges: Ranges) -> Prepared:
+    """Returns the labels that are on some sheets; only the first one may begin at a later cell."""
+    job = labels.job
+    pages = enumerate(labels.prints, 1)
+    prints = [one for number, one in pages if is_in(job.pages_of(number), ranges)]
+    first = job.options.first if is_in(1, ranges) else 1
+    return replace(
+        labels, prints=prints, job=replace(job, options=replace(job.options, first=first))
+    )

@@ -1,0 +1,98 @@
+"""The list of rows of which some are printed: each has a mark, and those that are looked for can be
+marked together.
+"""
+
+from collections.abc import Sequence
+from typing import Any
+
+from labeltools.common.language import ngettext
+from labeltools.common.report import ranges_of
+from labeltools.layout.layout import LaidOut
+from labeltools.lines.file import LineRecord
+from labeltools.printing.press import Prepared
+from labeltools.printing.selection import ranges_in
+from labeltools.window.gtk import Gtk
+
+MARK, ROW, CODE, TITLE, PRICE, IS_NEW = range(6)  # the columns of the list
+
+
+class Rows:
+    """The list of a window."""
+
+    def __init__(self, window: Any) -> None:
+        self.window = window
+        self.found = window.rows.filter_new()
+        self.found.set_visible_func(self.is_found)
+        window.rows_list.set_model(self.found)
+        window.rows_search.connect("search-changed", lambda _entry: self.found.refilter())
+        window.rows_mark.connect("toggled", self.on_mark)
+        window.rows_list.connect(
+            "row-activated", lambda _list, path, _column: self.on_mark(0, path)
+        )
+        for button, rule in (
+            (window.rows_all, lambda _row: True),
+            (window.rows_none, lambda _row: False),
+            (window.rows_new, lambda row: row[IS_NEW]),
+        ):
+            button.connect("clicked", self.mark, rule)
+
+    def choose(self, labels: Prepared, typed: str) -> str | None:
+        """Asks which rows are printed, first those that were typed; returns them as they are typed,
+        or nothing if that is cancelled.
+        """
+        window = self.window
+        printed = window.table.printed_records()
+        self.fill(labels.prints, typed, printed)
+        window.rows_new.set_visible(printed)
+        window.rows_search.set_text("")
+        self.count()
+        answer = window.choosing.run()
+        window.choosing.hide()
+        marked = [row[ROW] for row in window.rows if row[MARK]]
+        ranges = (f"{first}-{last}".removesuffix(f"-{first}") for first, last in ranges_of(marked))
+        return ",".join(ranges) if answer == Gtk.ResponseType.OK else None
+
+    def fill(self, prints: Sequence[LaidOut], typed: str, printed: Sequence[LineRecord]) -> None:
+        """Fills the list with the rows of labels, each once."""
+        before: dict[Any, set[Any]] = {}
+        for old in printed:
+            before.setdefault(old.key, set()).add(old.label.shown)
+        ranges = ranges_in(typed.replace(" ", ""))
+        records = {item.label.record.origin.number: item.label.record for item in prints}
+        self.window.rows.clear()
+        for number, record in sorted(records.items()):
+            is_marked = any(first <= number <= last for first, last in ranges)
+            is_new = record.label.shown not in before.get(record.key, ())
+            code = record.data.decode("utf-8", "replace")
+            shown = (code, record.label.title, record.label.price)
+            self.window.rows.append([is_marked, number, *shown, is_new])
+
+    def is_found(self, model: Any, row: Any, _data: Any) -> bool:
+        """Returns whether a row has what is looked for."""
+        wanted = self.window.rows_search.get_text().casefold()
+        texts = (str(model[row][column]) for column in (CODE, TITLE, PRICE))
+        return not wanted or any(wanted in text.casefold() for text in texts)
+
+    def inner(self, row: Any) -> Any:
+        """Returns a row of the whole list that is shown."""
+        return self.window.rows[self.found.convert_iter_to_child_iter(row.iter)]
+
+    def on_mark(self, _renderer: Any, path: Any) -> None:
+        """Marks a row, or takes its mark away."""
+        row = self.inner(self.found[path])
+        row[MARK] = not row[MARK]
+        self.count()
+
+    def mark(self, _button: Any, rule: Any) -> None:
+        """Marks the rows that are shown by a rule."""
+        for row in self.found:
+            inner = self.inner(row)
+            inner[MARK] = rule(inner)
+        self.count()
+
+    def count(self) -> None:
+        """Shows how many rows have a mark."""
+        count = sum(row[MARK] for row in self.window.rows)
+        text = ngettext("{count} row is marked", "{count} rows are marked", count)
+        self.window.rows_count.set_text(text.format(count=count))
+        self.window.choosing.set_response_sensitive(Gtk.ResponseType.OK, count > 0)

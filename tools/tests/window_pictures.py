@@ -1,0 +1,320 @@
+#!/usr/bin/python3
+"""Draws pictures of the window in its states, on a screen of its own (Xvfb).
+
+It writes STATE.png into a folder: ordinary, more, doubt, file, printers, dialog, adding, rows, sheets, printing,
+printed, waiting, failed, roll, happened; and window.png and window-steps.png for the pages. The
+tables, labels and pages are real; printers and what happens to labels are made up.
+
+    window_pictures.py FOLDER [--language de] [--size 1024x600] [--dark] [--large]
+"""
+
+import argparse
+import os
+import subprocess
+import sys
+import tempfile
+import time
+from collections.abc import Callable, Iterator
+from pathlib import Path
+from typing import Any
+from unittest import mock
+
+import cairo
+
+import support
+
+NAMES = ("Pencil, red", "Pencil, blue", "Soap", "Gum", "Atlas of the sea", "Tea 100 g", "Candle")
+SHOP = "EAN;Name;Price;Labels\n"
+TWO_PRICES = "EAN;Name;Preis A;Preis B\n"
+NUMBERED = (  # the widgets at the steps of the page, and where beside them the number is
+    ("recent_button", 1.6, 0.5),
+    ("ask_code", 0.0, 0.0),
+    ("more_of_table", 0.55, 0.5),
+    ("printer", 1.0, 0.5),
+    ("stock", 1.0, 0.5),
+    ("paper", 0.08, -0.04),
+    ("fold", 0.93, -0.3),
+    ("print_button", 0.5, 1.1),
+)
+RED = (0.78, 0.1, 0.1)
+RADIUS = 13  # pixels
+HEAD = 46  # pixels of the bar with the title, which GTK adds to the height
+MOST = 60.0  # seconds of a wait
+
+
+def shop_table() -> str:
+    """A table of a shop with one wrong number."""
+    rows = [
+        f"{support.ean13(401_234_500_000 + number)};{NAMES[number % len(NAMES)]};"
+        f"{number % 23},{90 - number} €;{number % 3 + 1}\n"
+        for number in range(24)
+    ]
+    rows.insert(5, "4006381333932;Wrong;1,20 €;1\n")
+    return SHOP + "".join(rows)
+
+
+class Camera:
+    """A window of the tools that is shown state by state, and where its pictures are written."""
+
+    def __init__(self, folder: Path, size: tuple[int, int], is_large: bool) -> None:
+        from labeltools.window import gtk, printers, window
+
+        self.folder, self.size = folder, size
+        self.gtk, self.printers = gtk, printers
+        gtk.Gtk.init([])
+        gtk.add_style()
+        if is_large:
+            gtk.Gtk.Settings.get_default().set_property("gtk-xft-dpi", 144 * 1024)
+        self.window: Any = window.Window()
+        self.window.set_default_size(size[0], size[1] - HEAD)
+        self.window.set_size_request(-1, -1)
+        self.window.present()
+        self.settle(0.5)
+        self.window.resize(size[0], size[1] - HEAD)
+        self.window.move(0, 0)
+        screen = gtk.Gdk.Screen.get_default()
+        pointer = gtk.Gdk.Display.get_default().get_default_seat().get_pointer()
+        pointer.warp(screen, size[0] - 1, size[1] - 1)
+
+    def settle(self, seconds: float) -> None:
+        """Lets the window work."""
+        end = time.monotonic() + seconds
+        while time.monotonic() < end:
+            while self.gtk.Gtk.events_pending():
+                self.gtk.Gtk.main_iteration_do(False)
+            time.sleep(0.01)
+
+    def until(self, is_done: Callable[[], Any]) -> None:
+        """Waits for something."""
+        end = time.monotonic() + MOST
+        while not is_done():
+            if time.monotonic() > end:
+                raise TimeoutError("the window did not get there")
+            self.settle(0.05)
+
+    def open(self, text: str | bytes, name: str = "Price list.csv") -> None:
+        """Opens a table."""
+        path = Path(tempfile.mkdtemp(dir=os.environ["XDG_CONFIG_HOME"]), name)
+        path.write_bytes(text.encode() if isinstance(text, str) else text)
+        self.window.open(path)
+        self.until(lambda: self.window.has_labels or self.is_asking())
+        self.settle(0.5)
+
+    def is_asking(self) -> bool:
+        """Whether the window asks something in place of the page."""
+        return bool(self.window.stack.get_visible_child_name() == "asking")
+
+    def pixels(self) -> Any:
+        """What the screen shows."""
+        self.settle(0.7)
+        root = self.gtk.Gdk.Screen.get_default().get_root_window()
+        return self.gtk.Gdk.pixbuf_get_from_window(root, 0, 0, *self.size)
+
+    def shot(self, name: str) -> None:
+        """Writes a picture of the screen."""
+        self.pixels().savev(str(self.folder / f"{name}.png"), "png", [], [])
+
+    def while_shown(self, name: str, dialog: Any, show: Callable[[], object]) -> None:
+        """Writes a picture of a dialog, and closes that."""
+
+        def look() -> bool:
+            if dialog.get_visible():
+                self.shot(name)
+                dialog.response(self.gtk.Gtk.ResponseType.CANCEL)
+                return False
+            return True
+
+        self.gtk.GLib.timeout_add(300, look)
+        show()
+
+    def numbered(self, name: str) -> None:
+        """Writes a picture with the numbers of the steps of the page."""
+        pixels = self.pixels()
+        pixels.savev(str(self.folder / "plain.png"), "png", [], [])
+        surface = cairo.ImageSurface.create_from_png(str(self.folder / "plain.png"))
+        (self.folder / "plain.png").unlink()
+        canvas = cairo.Context(surface)
+        canvas.select_font_face("DejaVu Sans", cairo.FONT_SLANT_NORMAL, cairo.FONT_WEIGHT_BOLD)
+        canvas.set_font_size(15)
+        for number, (widget, right, down) in enumerate(NUMBERED, 1):
+            draw_number(canvas, str(number), *self.place(widget, right, down))
+        surface.write_to_png(str(self.folder / name))
+
+    def place(self, name: str, right: float, down: float) -> tuple[float, float]:
+        """Where a number is, as parts of the width and height of a widget."""
+        if name == "ask_code":  # beside the heading
+            x, y = self.window.panel.translate_coordinates(self.window, 0, 0)
+            return x + 130, y + 12
+        widget = getattr(self.window, name)
+        x, y = widget.translate_coordinates(self.window, 0, 0)
+        area = widget.get_allocation()
+        return x + right * area.width, y + down * area.height
+
+
+def draw_number(canvas: Any, text: str, x: float, y: float) -> None:
+    """Draws a number in a disc."""
+    canvas.new_path()
+    canvas.set_source_rgb(1, 1, 1)
+    canvas.arc(x, y, RADIUS + 1.5, 0, 7)
+    canvas.fill()
+    canvas.set_source_rgb(*RED)
+    canvas.arc(x, y, RADIUS, 0, 7)
+    canvas.fill()
+    canvas.set_source_rgb(1, 1, 1)
+    box = canvas.text_extents(text)
+    canvas.move_to(x - box.x_bearing - box.width / 2, y - box.y_bearing - box.height / 2)
+    canvas.show_text(text)
+
+
+def made_up() -> Iterator[Any]:
+    """Yields printers that nobody has."""
+    from labeltools.sending.cups import REASONS
+    from labeltools.sending.printers import NETWORK, NOT_TRIED, Printer, QUEUE, READY, USB
+    from labeltools.common.text import Text
+
+    yield Printer("laser", "HP LaserJet 400", QUEUE, READY, True, "pdf")
+    yield Printer("office", "Kyocera Büro", QUEUE, REASONS["media-empty"].what, False, "pdf")
+    address = "192.168.1.40"
+    yield Printer(f"tcp://{address}", "Zebra ZD421", NETWORK, Text("{}", address), True, "zpl", 203)
+    yield Printer("/dev/usb/lp0", "lp0", USB, NOT_TRIED)
+
+
+def show_tables(camera: Camera) -> None:
+    """Pictures of tables, and of questions about them."""
+    window = camera.window
+    camera.open(shop_table())
+    camera.shot("ordinary")
+    window.first.set_value(3)
+    camera.until(lambda: window.has_labels)
+    camera.shot("window")
+    camera.numbered("window-steps.png")
+    window.more_of_table.set_expanded(True)
+    window.more_of_paper.set_expanded(True)
+    camera.shot("more")
+    window.more_of_table.set_expanded(False)
+    window.more_of_paper.set_expanded(False)
+    camera.open(TWO_PRICES + "96385074;Gum, red;1,20;0,80\n4006381333931;Pencil;2,00;1,20\n")
+    camera.shot("doubt")
+    camera.open("EAN;Name\n96385074;Füller, blau\n".encode("cp1252"))
+    camera.shot("file")
+    camera.open(shop_table())
+
+
+def show_printers(camera: Camera) -> None:
+    """Pictures of the list of printers and of the dialogs."""
+    from labeltools.sending.printers import MEDIA, TRAY
+
+    window = camera.window
+    window.printer.popup()
+    camera.shot("printers")
+    window.printer.popdown()
+    options = {
+        TRAY: {"1": "Tray 1", "Manual": "Manual feed"},
+        MEDIA: {"Plain": "Plain paper", "Labels": "Labels"},
+    }
+    printer, labels = window.of_printers.all["laser"], window.made.labels
+    ask = window.ways.printing.ask
+    camera.while_shown("dialog", window.printing, lambda: ask(printer, labels, options))
+    camera.while_shown("adding", window.adding, window.of_printers.add)
+    rows = window.ways.printing.rows
+    camera.while_shown("rows", window.choosing, lambda: rows.choose(labels, "2-4, 9"))
+    window.stock.grab_focus()
+    window.stock.set_text("Avery L71")
+    window.completion.complete()
+    camera.shot("sheets")
+    window.stock.set_text("Avery L7160")
+    window.print_button.grab_focus()
+    camera.until(lambda: window.has_labels)
+
+
+def show_events(camera: Camera) -> None:
+    """Pictures of what happens to labels."""
+    from labeltools.common.text import Text
+    from labeltools.sending.cups import JobState, REASONS, SentJob
+    from labeltools.sending.sender import Unfinished
+    from labeltools.window.ways import event_of
+
+    window = camera.window
+    job = SentJob("HP LaserJet 400", 12)
+    trouble = Text("{}: {}", job.queue, REASONS["media-empty"])
+    for name, state in (
+        ("printed", JobState(Text(""), "", True, True)),
+        ("waiting", JobState(trouble, "", False, is_waiting=True)),
+    ):
+        event = event_of(job, 49, state)
+        if event is not None:
+            window.events.show(event)
+        camera.shot(name)
+    window.of_printers.choose("tcp://192.168.1.40")
+    camera.until(lambda: window.has_labels)
+    camera.shot("roll")
+    window.working.show()
+    window.progress.set_fraction(23 / 49)
+    window.progress.set_text("23 / 49")
+    camera.shot("printing")
+    window.working.hide()
+    broken = Unfinished(Text("{}: the printer broke off", "Zebra ZD421"))
+    broken.printer, broken.done = "tcp://192.168.1.40", 46
+    window.ways.sending = window.made.labels, True
+    window.show_problem(broken)
+    camera.shot("failed")
+    window.history_button.set_active(True)
+    camera.shot("happened")
+
+
+def draw(options: argparse.Namespace) -> None:
+    """Draws all, where there is a screen."""
+    sys.path.insert(0, str(support.TOOLS))
+    width, _, height = options.size.partition("x")
+    found = mock.patch("labeltools.window.printers.found_printers", lambda: ([*made_up()], "laser"))
+    from labeltools.sending.cups import Queue
+
+    queue = mock.patch("labeltools.window.printers.queue_of", lambda name: Queue(name, 600, {}))
+    with found, queue:
+        camera = Camera(Path(options.folder), (int(width), int(height)), options.large)
+        camera.until(lambda: camera.window.of_printers.wanted)
+        for show in (show_tables, show_printers, show_events):
+            show(camera)
+        camera.window.destroy()
+
+
+def main() -> None:
+    """Starts a screen, and draws on it."""
+    parser = argparse.ArgumentParser(description=(__doc__ or "").splitlines()[0])
+    parser.add_argument("folder")
+    parser.add_argument("--language", default="en")
+    parser.add_argument("--size", default="1024x600")
+    parser.add_argument("--dark", action="store_true")
+    parser.add_argument("--large", action="store_true")
+    options = parser.parse_args()
+    Path(options.folder).mkdir(parents=True, exist_ok=True)
+    if os.environ.get("OF_WINDOW_PICTURES"):
+        draw(options)
+        return
+    with tempfile.TemporaryDirectory() as home:
+        reading, writing = os.pipe()
+        words = f"Xvfb -displayfd {writing} -screen 0 {options.size}x24 -nolisten tcp".split()
+        screen = subprocess.Popen(words, pass_fds=[writing], stderr=subprocess.DEVNULL)
+        os.close(writing)
+        with os.fdopen(reading) as file:
+            number = file.readline().strip()
+        environment = {
+            **support.speaking(options.language, home),
+            "OF_WINDOW_PICTURES": "1",
+            "DISPLAY": f":{number}",
+            "GDK_BACKEND": "x11",
+            "NO_AT_BRIDGE": "1",
+            "XDG_CONFIG_HOME": home,
+            "XDG_DATA_HOME": home,
+            "DBUS_SESSION_BUS_ADDRESS": "disabled:",
+            **({"GTK_THEME": "Adwaita:dark"} if options.dark else {}),
+        }
+        try:
+            subprocess.run([sys.executable, *sys.argv], env=environment, check=True)
+        finally:
+            screen.terminate()
+            screen.wait()
+
+
+if __name__ == "__main__":
+    main()
