@@ -173,7 +173,7 @@ def made_up() -> Iterator[Any]:
     from labeltools.common.text import Text
 
     yield Printer("laser", "HP LaserJet 400", QUEUE, READY, True, "pdf")
-    yield Printer("office", "Kyocera Büro", QUEUE, REASONS["media-empty"], False, "pdf")
+    yield Printer("office", "Kyocera Büro", QUEUE, REASONS["media-empty"].what, False, "pdf")
     address = "192.168.1.40"
     yield Printer(f"tcp://{address}", "Zebra ZD421", NETWORK, Text("{}", address), True, "zpl", 203)
     yield Printer("/dev/usb/lp0", "lp0", USB, NOT_TRIED)
@@ -236,7 +236,7 @@ def show_events(camera: Camera) -> None:
 
     window = camera.window
     job = SentJob("HP LaserJet 400", 12)
-    trouble = Text("{}: {}", job.queue, REASONS["media-empty"])
+    trouble = Text("{}: {}", job.queue, REASONS["media-empty"].what)
     for name, state in (
         ("printed", JobState(Text(""), "", True, True)),
         ("waiting", JobState(trouble, "", False, is_waiting=True)),
