@@ -112,8 +112,8 @@ class Printer:
             self.read_labels(line)
         self.ended += 1
 
-    def ends_before(self, line: socket.socket) -> bool:
-        """Whether it ends a connection before it has taken a label."""
+    def ends_early(self, line: socket.socket) -> bool:
+        """Whether the connection ends before a label is read."""
         self.torn -= 1
         if self.hangs_up:
             line.recv(1, socket.MSG_PEEK)  # it is there, and unread
@@ -131,7 +131,7 @@ class Printer:
     def read_labels(self, line: socket.socket) -> None:
         """Reads labels; a part of one is no label."""
         buffer = b""
-        if self.ends_before(line):
+        if self.ends_early(line):
             return
         if self.waits:
             self.told.wait()
