@@ -552,8 +552,9 @@ def print_by(
 def job_of(key: str) -> SentJob:
     """Returns the job of a key; raises `ValueError` if it is none.
 
-    >>> job_of(SentJob("till.3", 7, 1764392400).key)
-    SentJob(queue='till.3', number=7, created=1764392400)
+    >>> job = SentJob("till.3", 7, 1764392400)
+    >>> job.key, job_of(job.key) == job
+    ('7.1764392400.till.3', True)
     """
     number, created, queue = key.split(".", 2)
     return SentJob(queue, int(number), int(created))
