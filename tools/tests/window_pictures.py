@@ -236,7 +236,7 @@ def show_events(camera: Camera) -> None:
 
     window = camera.window
     job = SentJob("HP LaserJet 400", 12)
-    trouble = Text("{}: {}", job.queue, REASONS["media-empty"])
+    trouble = Text("{}: {}", job.queue, REASONS["media-empty"].what)
     for name, state in (
         ("printed", JobState(Text(""), "", True, True)),
         ("waiting", JobState(trouble, "", False, is_waiting=True)),
