@@ -7,6 +7,9 @@
 #include <stdlib.h>
 
 enum { MOST = 1024, STRIDE = MOST / 8 };
+/* Bytes that only version 10 has room for. */
+#define TEN "abcdefghij"
+#define LARGE TEN TEN TEN TEN TEN TEN TEN TEN TEN TEN TEN TEN TEN TEN TEN TEN TEN TEN TEN TEN TEN
 
 static unsigned char bits[MOST * STRIDE], turned[MOST * STRIDE];
 static char digits[MOST * MOST], out[LABELS_MAX_DATA];
@@ -88,6 +91,8 @@ int main(int count, char **words) {
         draw(LABELS_EAN8, "7351353", side);
     else if (strncmp(name, "qr-", 3) == 0)
         draw(LABELS_QR, "HELLO", side);
+    else if (strncmp(name, "large-", 6) == 0)
+        draw(LABELS_QR, LARGE, side);
     else
         for (uint32_t y = 0; y < height; y++)
             for (uint32_t x = 0; x < width; x++)

@@ -9,7 +9,8 @@ from support import LIB, PROVED, WithLibrary, run, text_of
 
 FLAGS = ("-std=c11", "-O2", "-g", "-Wall", "-Wextra", "-Werror", f"-I{LIB}", f"-I{LIB}/tests")
 PICTURES = "blank row column dot last corner dark rows columns squares noise below".split()
-SYMBOLS = [*(f"{symbol}-{turns}" for symbol in ("ean8", "qr") for turns in range(4)), "qr-finders"]
+# Of the smallest QR version and of the largest, in each direction; and one with four finder patterns.
+SYMBOLS = [*(f"{symbol}-{turns}" for symbol in ("ean8", "qr", "large") for turns in range(4)), "qr-finders"]
 # The number of divisors of a side is that of the scales that it has room for.
 MANY_DIVISORS, PRIME = 360, 359
 MOST_FOR_A_DOT = 75

@@ -7,10 +7,12 @@ documentation of its number formats says.
 """
 
 import io
+import itertools
 import subprocess
 import unittest
 import zipfile
-from typing import Sequence
+from typing import Mapping, Sequence
+from unittest import mock
 from xml.sax.saxutils import escape, quoteattr
 
 import support
@@ -40,7 +42,7 @@ ODS_SPACES = " ".join(
 )
 
 
-def packed(parts: dict[str, str], method: int = zipfile.ZIP_DEFLATED) -> bytes:
+def packed(parts: Mapping[str, str | bytes], method: int = zipfile.ZIP_DEFLATED) -> bytes:
     """A zip file of these parts."""
     stream = io.BytesIO()
     with zipfile.ZipFile(stream, "w", method) as archive:
@@ -348,6 +350,89 @@ def unpacked(data: bytes) -> dict[str, str]:
     """The parts of a zip file."""
     with zipfile.ZipFile(io.BytesIO(data)) as archive:
         return {name: archive.read(name).decode() for name in archive.namelist()}
+
+
+class Written(WorkbookTest):
+    """Rows and strings as programs write them are read by a pattern, all others by the parser: both
+    say the same of a file, wherever its pieces end.
+    """
+
+    NAMES = ("EAN", "Name", "Preis", "Käse & Co", "Tee, grün", "zu _x0041_", PENCIL, SOAP)
+    ROWS = (
+        '<row r="1" spans="1:3"><c r="A1" t="s"><v>0</v></c><c r="B1" t="s"><v>1</v></c>'
+        '<c r="C1" t="s"><v>2</v></c></row>',
+        '<row r="2"><c r="A2" t="s"><v>6</v></c><c r="B2" t="s"><v>3</v></c><c r="C2"><v>1.5</v></c></row>',
+        '<row r="3" ht="0"><c r="A3" t="s"><v>7</v></c></row>',
+        '<row r="4"/>',
+        f'<row r="5"><c r="A5" t="str"><f>"x"&amp;1</f><v>{BOOK}</v></c><c r="B5" t="s"><v>4</v></c>'
+        '<c r="C5"/></row>',
+        f'<row r="7" s="1"><c r="A7"><v>{SMALL}</v></c><c r="B7" t="s"><v>5</v></c>'
+        '<c r="C7" s="0"><f>A7*2</f><v>3.25</v></c></row>',
+        '<row r="9"><c r="A9" t="s"><v>6</v></c><c r="B9" t="inlineStr"><is><t>Tee</t></is></c></row>',
+    )
+    LINES = [
+        ({"row": 2, "title": "Käse & Co", "price": "1.5"}, f"ean13 {PENCIL}"),
+        ({"row": 5, "title": "Tee, grün"}, f"ean13 {BOOK}"),
+        ({"row": 7, "title": "zu A", "price": "3.25"}, f"ean8 {SMALL}"),
+        ({"row": 9, "title": "Tee"}, f"ean13 {PENCIL}"),
+    ]
+
+    def said_of(self, data: bytes) -> tuple[object, list[str]]:
+        """The labels of a file and their lines, and what is said."""
+        words = "--code EAN --title Name --price Preis --decimal point".split()
+        done = support.run_here("label-table", *words, input=data)
+        return parts_of(done.stdout)[1] if done.stdout else None, support.messages(done)
+
+    def strings(self, before: str = "", after: str = "") -> str:
+        """Shared strings, each with something before and after its text."""
+        return "".join(f"<si>{before}<t>{escape(one)}</t>{after}</si>" for one in self.NAMES)
+
+    def test_each_form_says_the_same_wherever_its_pieces_end(self) -> None:
+        plain, strings = "".join(self.ROWS), self.strings()
+        odd = plain.replace('"><v>', '" ph="0"><v>').replace("<row r", "\n<row  r")
+        remark = "<!-- <row r='1'><c r='A1'><v>7</v></c></row> -->"
+        wanted = self.said_of(xlsx(plain, strings=strings))
+        self.assertEqual(wanted[0], self.LINES)
+        self.assertEqual(len(wanted[1]), 4)  # a hidden row, and what is odd
+        forms = {
+            "plain": xlsx(plain, strings=strings),
+            "attributes and spaces": xlsx(odd, strings=strings),
+            "a remark": xlsx(plain.replace('<row r="5', f'{remark}<row r="5'), strings=strings),
+            "a remark in front": xlsx(remark + plain, strings=strings),
+            "letters with a form": xlsx(plain, strings=self.strings("", "<rPh><t>x</t></rPh>")),
+            "spaces": xlsx(plain, strings=strings.replace("<si>", "\n <si>")),
+            "data as it is": xlsx(plain, strings=strings.replace("Tee,", "<![CDATA[Tee,]]>")),
+        }
+        sizes = (1 << 16, 1, 2, 3, 5, 7, 11, 13, 64, 100, 177, 500, 1000)
+        for (form, data), size in itertools.product(forms.items(), sizes):
+            with mock.patch("labeltools.sheets.workbook.PIECE", size):
+                self.assertEqual(self.said_of(data), wanted, f"{form}, pieces of {size} bytes")
+
+    def test_strings_in_another_encoding(self) -> None:
+        parts = unpacked(xlsx("".join(self.ROWS), strings=self.strings()))
+        name = "xl/sharedStrings.xml"
+        text = parts[name].replace('encoding="UTF-8"', 'encoding="ISO-8859-1"')
+        data = packed({**parts, name: text.encode("latin-1")})
+        self.assertEqual(self.said_of(data)[0], self.LINES)
+        wrong = packed({**parts, name: parts[name].encode("latin-1")})
+        self.assertIn("is damaged", self.said_of(wrong)[1][0])
+
+    def test_rows_that_no_spreadsheet_writes(self) -> None:
+        """What the parser refuses is refused, though it stands among plain rows."""
+        for text, problem in (
+            ("</row>", "is damaged"),
+            ("<row r='8'>", "is damaged"),
+            ('<row r="1"><c r="A1"/></row>', "out of order"),
+            ('<row r="8"><c r="B8"/><c r="A8"/></row>', "out of order"),
+            ('<row r="8"><c r="A8" t="s"><v>99</v></c></row>', "is damaged"),
+            ('<row r="8"><c r="A8"><v>1e999</v></c></row>', "is damaged"),
+            ("<!DOCTYPE a>", "is damaged"),
+            ("\x01", "is damaged"),
+        ):
+            rows_of = (*self.ROWS[:-1], text, self.ROWS[-1])
+            said = self.said_of(xlsx("".join(rows_of), strings=self.strings()))
+            self.assertIsNone(said[0], text)
+            self.assertIn(problem, said[1][-1], text)
 
 
 class Formats(WorkbookTest):

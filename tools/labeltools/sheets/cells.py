@@ -41,6 +41,7 @@ UNSEEN_PRICE = re.compile("C[cf]|Z[lp]")
 IS_ROUNDED_DATA = re.compile("[0-9](?:[.,][0-9]+)?[Ee][+][0-9]{2,}")
 ROUNDED = Text("the spreadsheet has rounded the number")
 ROUNDED_HINT = Text("format the column as text, enter it again")
+HAS_DIGIT = re.compile("[0-9]")
 STRUCK = Text("has letters that are struck through")
 UNSEEN = Text("has white letters, which nobody sees")
 WITHOUT = Text("enter it again without them")
@@ -260,7 +261,7 @@ def taken_of(cell: Special, use: Use) -> str:
     if use in (DIGITS, DATA):
         return cell.digits(use is DATA)
     if use is COPIES and kind is CellKind.NUMBER:
-        if not re.search("[0-9]", shown := cell.shown()):  # TRUE, though its value is 1
+        if not HAS_DIGIT.search(shown := cell.shown()):  # TRUE, though its value is 1
             raise RowError(Text("is shown as {}, which is not a number", quoted(shown)), AS_TEXT)
         return cell.value
     return cell.shown() if use is MARK else cell.printed()

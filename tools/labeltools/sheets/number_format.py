@@ -291,6 +291,7 @@ def with_minutes(parts: Sequence[str]) -> tuple[str, ...]:
     return tuple(found)
 
 
+@lru_cache(maxsize=256)
 def is_date_format(number_format: str) -> bool:
     """Returns whether a format shows a date, of whatever kind; those that are not understood are
     looked at too.

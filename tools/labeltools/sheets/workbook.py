@@ -48,6 +48,8 @@ DAMAGE = (
     ValueError,
     ArithmeticError,
 )
+REMARK = re.compile(b"<[!?]")
+OTHER_ENCODING = re.compile(rb"<\?xml[^>]* encoding=.(?!utf-8\W)", re.IGNORECASE)
 REFERENCE = re.compile("([A-Z]{1,3})([0-9]{1,7})")
 SAVE_AGAIN = Text("open it in the spreadsheet and save it again")
 TOO_LARGE = Text("has a row or another element of more than 1 MB, or elements {} deep", DEEPEST)
@@ -183,11 +185,15 @@ class Reader(Generic[F]):
         parser.CharacterDataHandler = self.texts.append
         for piece in chain(pieces(archive, part), [b""]):
             self.size += len(piece)
-            parser.Parse(piece, not piece)
+            self.feed(piece)
             if self.size > LARGEST_ROW or self.others > MOST_OTHERS:
                 raise ToolError(TOO_LARGE, SAVE_AGAIN)
             yield from self.found
             self.found.clear()
+
+    def feed(self, piece: bytes) -> None:
+        """Gives a piece to the parser; behind the last one is an empty one."""
+        self.parser.Parse(piece, not piece)
 
     def begin(self, name: str, attributes: Attributes) -> None:
         """Begins an element."""
@@ -218,15 +224,99 @@ class Reader(Generic[F]):
         return "".join(self.texts)
 
 
+class QuickReader(Reader[F]):
+    """Reads elements that stand side by side in another one: a pattern reads those that are as
+    plain as most programs write them, in a fifth of the time, and the parser all others.
+
+    `ends` are what such an element begins and ends with, and the end of what they are in; `plain`
+    is the pattern of some of them, in which letters beyond ASCII are the bytes of UTF-8.
+    """
+
+    ends: tuple[str, str, str]
+    plain: re.Pattern[str]
+
+    def __init__(self) -> None:
+        super().__init__()
+        self.rest = b""  # of a piece: an element that goes on in the next one
+        self.has_begun = False
+        self.is_quick = True
+
+    def is_between(self) -> bool:
+        """Returns whether the parser is where such an element may begin."""
+        raise NotImplementedError
+
+    def take(self, found: re.Match[str]) -> None:
+        """Takes elements that are plain."""
+        raise NotImplementedError
+
+    def feed(self, piece: bytes) -> None:
+        """Gives a piece to the parser, but for what is plain."""
+        data = self.rest + piece
+        if not piece or REMARK.search(data, 1) or OTHER_ENCODING.match(data):
+            self.is_quick = False  # a remark may have such elements in it
+        read = self.read_plain(data) if self.is_quick else 0
+        self.rest = data[read:] if self.is_quick else b""
+        if not self.is_quick:
+            self.parser.Parse(data[read:], not piece)
+
+    def read_plain(self, data: bytes) -> int:
+        """Reads elements, and returns how many bytes they have; from the end of the last one on the
+        part is not quick any more.
+        """
+        text = data.decode("latin-1")
+        first, last, outer = self.ends
+        at = 0
+        if not self.has_begun:
+            at = max(0, text.find(first))
+            self.parser.Parse(data[:at], False)
+            self.has_begun = True
+            self.is_quick = self.is_between()
+        while self.is_quick:
+            while found := self.plain.match(text, at):
+                self.take(found)
+                self.size = 0
+                at = found.end()
+            end = text.find(last, at) + len(last)
+            if end < len(last):
+                self.is_quick = outer not in text[at:]
+                break
+            self.parser.Parse(data[at:end], False)
+            self.is_quick = self.is_between()
+            at = end
+        return at
+
+
 class Elements(Reader[Element]):
-    """Finds the elements of a part, but none in elements of the name `passed`: of these, as of the
-    rows of a sheet, only the ends are looked at.
+    """Finds the elements of a part, but none in elements of the name `passed`, such as the rows of
+    a sheet: of these only the ends are looked at, and not even these if it is written as programs
+    do.
     """
 
     def __init__(self, passed: str) -> None:
         super().__init__()
+        self.ends = f"<{passed}>".encode(), f"</{passed}>".encode()
+        self.rest = b""  # where its end may begin
+        self.is_passing = False
         self.passed = passed
         self.path: list[str] = []
+
+    def feed(self, piece: bytes) -> None:
+        """Gives a piece to the parser, but nothing of what is passed."""
+        data = self.rest + piece
+        begin, end = self.ends
+        if not self.is_passing and begin in data and self.passed:
+            before, _, data = data.partition(begin)
+            self.parser.Parse(before + begin, False)
+            self.is_passing = self.parser.StartElementHandler is None
+        self.rest = b""
+        if self.is_passing:
+            self.size = 0
+            if end not in data and piece:
+                self.rest = data[-len(end) :]
+                return
+            data = data[max(0, data.find(end)) :]
+            self.is_passing = False
+        self.parser.Parse(data, not piece)
 
     def begun(self, name: str, attributes: Attributes) -> None:
         """Finds an element."""

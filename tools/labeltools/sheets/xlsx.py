@@ -41,8 +41,8 @@ from labeltools.sheets.workbook import (
     MOST_COLUMNS,
     NOT_SAVED,
     NOT_SAVED_HINT,
+    QuickReader,
     range_corners,
-    Reader,
     rows_from,
     SAVE_AGAIN,
     TOO_LARGE,
@@ -56,6 +56,23 @@ ESCAPED = re.compile("_x([0-9A-Fa-f]{4})_")
 # an address and a text, as a formula has them
 HYPERLINK = re.compile(r'\s*HYPERLINK\("([^"]+)"[,)].*', re.DOTALL | re.IGNORECASE)
 ROWS = "sheetData"  # a sheet has its rows in it
+# rows and strings as most programs write them
+ASCII = "[ -%'-;=?-~]"
+WHITE = "[ \t\r\n]*"
+PLAIN_CELL = re.compile(
+    '<c r="([A-Z]{1,3})[0-9]{1,7}"(?: s="([0-9]{1,9})")?(?: t="(s|n|b|e|str)")?'
+    f"(?:/>|>(?:<f>({ASCII}+)</f>)?(?:<v>({ASCII}+)</v>)?</c>)"
+)
+ATTRIBUTE = re.compile(f' ([A-Za-z0-9:]+)="({ASCII.replace(" -", " !#-")}*)"')
+WITHOUT_GROUPS = re.compile(r"\((?!\?)")
+PLAIN_ROW = re.compile(
+    rf"{WHITE}<row((?:{WITHOUT_GROUPS.sub('(?:', ATTRIBUTE.pattern)})*)"
+    rf"(?:/>|>((?:{WITHOUT_GROUPS.sub('(?:', PLAIN_CELL.pattern)})*)</row>)"
+)
+LETTER = "[^<>&\r\x00-\x08\x0b\x0c\x0e-\x1f\xef]"  # U+FFFE, which is none, begins with EF
+PLAIN_STRINGS = re.compile(rf'(?:{WHITE}<si><t(?: xml:space="preserve")?>{LETTER}*</t></si>)+')
+PLAIN_STRING = re.compile("<t[^>]*>([^<]*)</t>")
+MOST_NUMBERS = 1 << 12  # that are kept
 FALSE = ("0", "false")
 PLACES = {"superscript": Mark.RAISED, "subscript": Mark.LOWERED}
 # white by the numbers of themes and of palettes (18.8.3, 18.8.27)
@@ -71,7 +88,7 @@ XlsxRuns = Sequence[
 ]  # letters; those without a form have that of their cell
 
 
-class Strings(Reader[F]):
+class Strings(QuickReader[F]):
     """Reads strings, run by run; `form` is that of the run that is read."""
 
     def __init__(self) -> None:
@@ -110,7 +127,21 @@ class Strings(Reader[F]):
 class SharedStrings(Strings[str | XlsxRuns]):
     """Finds the shared strings of a file."""
 
+    ends = "<si>", "</si>", "</sst>"
+    plain = PLAIN_STRINGS
     letters = 0
+
+    def is_between(self) -> bool:
+        """Returns whether the next element is a string."""
+        return self.depth == 1
+
+    def take(self, found: re.Match[str]) -> None:
+        """Takes strings that are plain."""
+        texts = PLAIN_STRING.findall(found[0].encode("latin-1").decode("utf-8"))
+        self.letters += len(found[0])
+        if self.letters > LARGEST_TEXTS:
+            raise ToolError(TOO_LARGE, SAVE_AGAIN)
+        self.found += map(without_escapes, texts)
 
     def begun(self, name: str, attributes: Attributes) -> None:
         """Takes what begins."""
@@ -159,6 +190,18 @@ class Book:
     asks_again: bool
     talk: Talk
     is_reported: bool = False
+    numbers: dict[tuple[str, str], Cell] = field(default_factory=dict)
+
+    def number(self, value: str, style: str) -> Cell:
+        """Returns the cell of a number; those that are alike are one, such as prices."""
+        found = self.numbers.get((value, style))
+        if found is None:
+            look = self.looks[style]
+            number = XlsxNumber(value, exact_of(value), look.number_format, self)
+            if len(self.numbers) >= MOST_NUMBERS:
+                self.numbers.clear()
+            found = self.numbers[value, style] = formed(number, look.form)
+        return found
 
     def has_saved(self, value: str) -> bool:
         """Returns whether the value of a formula was calculated; reports once that it may be
@@ -172,18 +215,22 @@ class Book:
 
 @dataclass(slots=True)
 class XlsxNumber(Special):
-    """A cell with a number."""
+    """A cell with a number, or several that are alike; what is worked out once is kept."""
 
     value: str
     exact: Decimal
     number_format: str
     book: Book
+    is_moment: bool | None = None
+    text: str = ""
+    is_kept: bool = False
 
     @property
     def kind(self) -> CellKind:
         """What it is by its format; a number may be shown as a date or a time."""
-        is_moment = number_format.is_of_time(self.number_format, self.exact)
-        return CellKind.MOMENT if is_moment else CellKind.NUMBER
+        if self.is_moment is None:
+            self.is_moment = number_format.is_of_time(self.number_format, self.exact)
+        return CellKind.MOMENT if self.is_moment else CellKind.NUMBER
 
     def number(self) -> Decimal | None:
         """Returns the number that it has."""
@@ -191,15 +238,20 @@ class XlsxNumber(Special):
 
     def shown(self) -> str:
         """Returns the number as its format shows it."""
-        book = self.book
-        return book.formatter.shown(self.number_format, self.exact, book.is_from_1904)
+        if not self.text:
+            book = self.book
+            shown = book.formatter.shown(self.number_format, self.exact, book.is_from_1904)
+            self.text = shown
+        return self.text
 
     def printed(self) -> str:
         """Returns the number as its format shows it, and keeps it as an example of the signs in
         it.
         """
         text = self.shown()
-        self.book.formatter.keep(self.number_format, text)
+        if not self.is_kept:
+            self.book.formatter.keep(self.number_format, text)
+            self.is_kept = True
         return text
 
     def digits(self, is_data: bool) -> str:
@@ -364,6 +416,9 @@ class SheetReader(Strings[Row]):
     row and of the cell that are read. The value and the formula are None where a cell has none.
     """
 
+    ends = "<row", "</row>", f"</{ROWS}>"
+    plain = PLAIN_ROW
+
     def __init__(self, book: Book, beside: Beside) -> None:
         super().__init__()
         self.book = book
@@ -377,6 +432,18 @@ class SheetReader(Strings[Row]):
         self.cell: Attributes = {}
         self.value: str | None = None
         self.formula: str | None = None
+
+    def is_between(self) -> bool:
+        """Returns whether the next element is a row."""
+        return self.has_rows and not self.is_inside
+
+    def take(self, found: re.Match[str]) -> None:
+        """Takes a row that is plain."""
+        self.begin_row(dict(ATTRIBUTE.findall(found[1])))
+        for letters, style, kind, formula, value in PLAIN_CELL.findall(found[2] or ""):
+            self.value, self.formula = value or None, formula or None
+            self.add_cell(column_index(letters), kind or "n", style or "0")
+        self.end_row()
 
     def begun(self, name: str, attributes: Attributes) -> None:
         """Takes what begins."""
@@ -419,32 +486,39 @@ class SheetReader(Strings[Row]):
         self.links = dict(self.beside.links.get(self.number, {}))
 
     def end_cell(self) -> None:
+        """Ends a cell."""
+        reference = self.cell.get("r")
+        place = len(self.cells)
+        if reference:
+            place = column_index(reference.rstrip("0123456789"))
+        self.add_cell(place, self.cell.get("t", "n"), self.cell.get("s", "0"))
+
+    def add_cell(self, place: int, kind: str, style: str) -> None:
         """Puts the cell that was read in its place."""
-        cells, reference = self.cells, self.cell.get("r")
-        place = column_index(reference.rstrip("0123456789")) if reference else len(cells)
+        cells = self.cells
         if place < len(cells):
             raise out_of_order(self.number)
-        look = self.book.looks[self.cell.get("s", "0")]
-        cell = self.cell_by(look)
+        cell = self.cell_by(kind, style)
         with_empty_cells(cells, place).append(cell)
         if isinstance(cell, str):
             self.letters += len(cell)
         if self.formula and (found := HYPERLINK.fullmatch(self.formula)):
             self.links[place] = found[1]
 
-    def cell_by(self, look: Look) -> Cell:
+    def cell_by(self, kind: str, style: str) -> Cell:
         """Returns the cell by its type, and its value, if there is one."""
-        kind, value, book = self.cell.get("t", "n"), self.value or "", self.book
+        value, book = self.value or "", self.book
         if self.formula is not None:
             is_empty_text = kind == "str" and self.value is not None
             if not (value or is_empty_text) or not book.has_saved(value):
                 return Fault(NOT_SAVED, NOT_SAVED_HINT)
         elif not value and kind != "inlineStr":
             return ""
+        if kind == "n":
+            return book.number(value, style)
+        look = book.looks[style]
         if kind == "s":
             return text_of(book.strings[value], look)
-        if kind == "n":
-            return formed(XlsxNumber(value, exact_of(value), look.number_format, book), look.form)
         if kind in ("str", "inlineStr"):
             return text_of(without_escapes(value) or self.string(), look)
         if kind == "e":

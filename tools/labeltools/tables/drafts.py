@@ -99,7 +99,8 @@ class DraftReader:
         typed = cell if isinstance(cell, str) else cell.value
         if not typed.isdigit() or typed == self.code_name or self.other_names:  # but most rows
             self.refuse_names(row)
-        self.variants.see(row)
+        if self.columns.variants_of:
+            self.variants.see(row)
         if not all(column.has(row, value) for column, value in self.columns.where):
             return None
         columns = self.columns
