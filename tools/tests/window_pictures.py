@@ -232,7 +232,9 @@ def show_events(camera: Camera) -> None:
     from labeltools.common.text import Text
     from labeltools.sending.cups import JobState, REASONS, SentJob
     from labeltools.sending.sender import Unfinished
+    from labeltools.window.shop import WindowTalk
     from labeltools.window.ways import event_of
+    from labeltools.window.work import progress_text
 
     window = camera.window
     job = SentJob("HP LaserJet 400", 12)
@@ -250,7 +252,9 @@ def show_events(camera: Camera) -> None:
     camera.shot("roll")
     window.working.show()
     window.progress.set_fraction(23 / 49)
-    window.progress.set_text("23 / 49")
+    talk = WindowTalk()
+    talk.done, talk.total, talk.printer = 23, 49, "Zebra ZD421"
+    window.progress.set_text(progress_text(talk))
     camera.shot("printing")
     window.working.hide()
     broken = Unfinished(Text("{}: the printer broke off", "Zebra ZD421"))

@@ -35,6 +35,7 @@ LANGUAGES = ("zpl", "escpos")  # of printers that take labels one by one
 USUAL_DPI = 203  # of these printers
 DRAWING_DPI = 600
 TEST = b'#{"title":"Test","price":"1,00"}\ncode128 TEST-123\n'
+Row = tuple[str, str, str, str]  # of the list: a name, an icon, a state, a key
 TEST_SIZE = "50x25"  # millimetres of a test label
 
 
@@ -77,12 +78,10 @@ class Printers:
             (one.name, icon_of(one), translated(one.state), key) for key, one in self.all.items()
         ]
         rows += [(NONE, "", "", NONE)] if rows else []
-        rows.append((_("Add a network printer…"), "list-add-symbolic", "", ADD))
+        rows.append((_("Network printer…"), "list-add-symbolic", "", ADD))
         rows.append((_("Save a file…"), "document-save-symbolic", "", FILE))
         with self.window.filling():
-            self.window.printers.clear()
-            for row in rows:
-                self.window.printers.append(row)
+            show_rows(self.window.printers, rows)
             self.window.printer.set_active_id(self.wanted or None)
 
     @property
@@ -245,6 +244,17 @@ class Printers:
         elif error is not None:
             text = str(error)
         self.window.new_said.set_text(text)
+
+
+def show_rows(model: Any, rows: Sequence[Row]) -> None:
+    """Shows rows in a list, which may be open: it is made anew only for other printers."""
+    if [row[3] for row in model] != [row[3] for row in rows]:
+        model.clear()
+        for new in rows:
+            model.append(new)
+    for old, new in zip(model, rows):
+        if tuple(old) != new:
+            model[old.iter] = new
 
 
 def icon_of(printer: Printer) -> str:
