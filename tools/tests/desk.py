@@ -122,9 +122,10 @@ class Desk(unittest.TestCase):
         self.path = f"{self.folder}/journal"
         self.records = read_lines(TICKETS, "lines").records
         # A printer of these tests has its time on a busy machine too.
-        patient = mock.patch("labeltools.sending.network.FAREWELL", float(support.SECONDS))
-        self.addCleanup(patient.stop)
-        patient.start()
+        for name, seconds in (("FAREWELL", float(support.SECONDS)), ("ANSWER", 10.0)):
+            patient = mock.patch(f"labeltools.sending.network.{name}", seconds)
+            self.addCleanup(patient.stop)
+            patient.start()
 
     def events(self) -> list[str]:
         """The events of the journal."""

@@ -15,6 +15,16 @@ import threading
 import time
 
 LABEL = re.compile(rb"\^XA.*?\^XZ\n", re.DOTALL)
+QUESTION = re.compile(rb"~HS|~HQES|(?:\x10\x04.){2}", re.DOTALL)
+# what ~HS answers: whether the paper is out, whether it is paused, how many labels wait, and
+# whether the head is open
+STATUS = (
+    b"\x02030,%d,%d,0320,%03d,0,0,0,000,0,0,0\x03\r\n"
+    b"\x02001,0,%d,0,0,2,4,0,00000000,1,000\x03\r\n"
+    b"\x020000,0\x03\r\n"
+)
+READY = STATUS % (0, 0, 0, 0)
+ERRORS = b"\x02\r\n\r\n  PRINTER STATUS\r\n ERRORS: %d 00000000 %08X\r\n WARNINGS: 0 .. \x03"
 QUIET = 20.0  # seconds without a connection after which the program ends
 BROKEN = struct.pack("ii", 1, 0)  # a connection that is closed so is reset
 LEAST = 512  # bytes
@@ -27,7 +37,9 @@ class Printer:
     before it goes on, one that `waits` before it reads anything, and one that `lingers` before it
     ends a connection; `slow` are the seconds that it takes for each piece; `says` is what it
     sends. `rude` breaks each connection off at its end, `hangs_up` before it reads anything; one
-    that `ends` ends it after a label.
+    that `ends` ends it after a label. It answers a question by the next of `answers`, of which the
+    last one stays, after `late` seconds; nothing where there is none. ~HQES is answered by its
+    `errors`. One that `is_shy` ends its first connection at a question.
     """
 
     def __init__(
@@ -44,6 +56,10 @@ class Printer:
         waits: bool = False,
         lingers: bool = False,
         ends: bool = False,
+        answers: tuple[bytes, ...] = (READY,),
+        late: float = 0.0,
+        errors: int = 0,
+        is_shy: bool = False,
     ) -> None:
         self.server = socket.create_server(("127.0.0.1", port))
         # of each connection from its beginning, so that the system takes little by itself
@@ -61,6 +77,11 @@ class Printer:
         self.waits = waits
         self.lingers = lingers
         self.ends = ends
+        self.answers = [*answers]
+        self.late = late
+        self.errors = ERRORS % (errors > 0, errors)
+        self.is_shy = is_shy
+        self.asked: list[bytes] = []
         self.connections = 0
         self.ended = 0
         self.pieces = 0
@@ -91,24 +112,34 @@ class Printer:
             self.read_labels(line)
         self.ended += 1
 
-    def read_labels(self, line: socket.socket) -> None:
-        """Reads labels; a part of one is no label."""
-        buffer = b""
+    def ends_early(self, line: socket.socket) -> bool:
+        """Whether the connection ends before a label is read."""
         self.torn -= 1
         if self.hangs_up:
             line.recv(1, socket.MSG_PEEK)  # it is there, and unread
-            return
-        if self.torn == 0:
-            line.recv(100)
+        elif self.torn == 0:
+            if not self.answered(line, line.recv(100)):
+                line.recv(100)
             line.setsockopt(socket.SOL_SOCKET, socket.SO_LINGER, BROKEN)
+        elif self.is_shy:
+            self.is_shy = False
+            line.recv(10)
+        else:
+            return False
+        return True
+
+    def read_labels(self, line: socket.socket) -> None:
+        """Reads labels; a part of one is no label."""
+        buffer = b""
+        if self.ends_early(line):
             return
         if self.waits:
             self.told.wait()
         while data := self.received(line):
-            buffer += data
+            buffer = self.answered(line, buffer + data)
             found = self.label.findall(buffer)
             self.keep(found)
-            buffer = buffer[sum(map(len, found)) :]
+            buffer = self.answered(line, buffer[sum(map(len, found)) :])
             if self.stuck and len(self.labels) >= self.stuck:
                 self.told.wait()
             if self.breaks(buffer):
@@ -121,6 +152,19 @@ class Printer:
         if self.lingers:
             self.at_end.set()
             self.told.wait()
+
+    def answered(self, line: socket.socket, buffer: bytes) -> bytes:
+        """What is left of some bytes behind questions, which are answered."""
+        while found := QUESTION.match(buffer):
+            buffer = buffer[found.end() :]
+            self.asked.append(found[0])
+            time.sleep(self.late)
+            if found[0] == b"~HQES":
+                line.sendall(self.errors)
+            elif self.answers:
+                line.sendall(self.answers[0])
+                del self.answers[: len(self.answers) > 1]
+        return buffer
 
     def breaks(self, begun: bytes) -> bool:
         """Whether it breaks off now, which it does once; a label may have begun."""

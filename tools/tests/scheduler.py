@@ -62,6 +62,15 @@ def option(name: str, **choices: str) -> str:
     return "\n".join(lines)
 
 
+def own(name: str, *choices: str) -> str:
+    """An option of a vendor, each choice of which is another number in the heads of pages."""
+    lines = [f'Option "{name}/{name}" PickOne AnySetup 10']
+    for number, choice in enumerate(choices):
+        code = f"<</cupsInteger{len(name) % 8} {number}>>setpagedevice"
+        lines.append(f'{"" if number else "*"}Choice "{choice}" "{code}"')
+    return "\n".join([*lines, ""])
+
+
 def default(resolution: str) -> str:
     """A driver's word that says its resolution, and no option for it."""
     return f'Attribute "DefaultResolution" "" "{resolution}"\n'
@@ -95,6 +104,16 @@ KINDS = {
     "silent": option("Quality", Normal=""),
     # one that takes paper of any size, but prints nothing on its edge of 4.2 mm, on both sides
     "edged": "VariablePaperSize Yes\nMinSize 72 72\nMaxSize 612 1008\nDuplex normal\n"
+    + option("Resolution", _300dpi="300 300"),
+    # foomatic where nobody told it the edges
+    "general": "HWMargins 18 36 18 36\nVariablePaperSize Yes\nMinSize 36 36\nMaxSize 612 1008\n"
+    + "Filter application/vnd.cups-pdf 0 foomatic-rip\n"
+    + 'Attribute "FoomaticRIPCommandLine" "" "gs -q -dBATCH -dNOPAUSE -sDEVICE=pbmraw -r300 '
+    + '-sOutputFile=- -"\n',
+    # vendors' own words for what turns a page, or puts several on a sheet
+    "vendor": own("StpOrientation", "Portrait", "Landscape")
+    + own("NupPages", "1up", "2up")
+    + own("FXLayout", "Off", "4up")
     + option("Resolution", _300dpi="300 300"),
     # one with two trays
     "trays": option("Resolution", _600dpi="600 600")

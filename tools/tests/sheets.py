@@ -6,7 +6,8 @@ from dataclasses import dataclass
 from typing import Any, Callable, Collection, Sequence
 from xml.sax.saxutils import escape
 
-from test_table_workbooks import cell, ods, ods_cell, rows, xlsx
+from workbooks import cell, ods, ods_cell, rows, xlsx
+
 
 COLOURS = 'xmlns:fo="urn:oasis:names:tc:opendocument:xmlns:xsl-fo-compatible:1.0"'
 FIRST_FORMAT = 164  # the number of the first one that a file of .xlsx has itself

@@ -16,7 +16,7 @@ from pathlib import Path
 from typing import Sequence
 
 import support
-from test_program import DRAWN, EAN8, OPTIONS, pbm, REFUSED
+from program_lines import DRAWN, EAN8, OPTIONS, pbm, REFUSED
 
 # A call: where it reads or writes, how many bytes it asks for, and how many it moves; -1 where it
 # fails.

@@ -10,8 +10,8 @@ from typing import Sequence
 
 import support
 from sheets import Cell, COLOURS, KINDS, Look, of_ods, of_xlsx, Sheet
-from test_table import BOOK, parts_of, PENCIL, SMALL, SOAP
-from test_table_workbooks import cell, ods, ods_cell, ODS_SPACES, rows, table, WorkbookTest, xlsx
+from table_test import BOOK, parts_of, PENCIL, SMALL, SOAP, WorkbookTest
+from workbooks import cell, ods, ods_cell, ODS_SPACES, rows, table, xlsx
 
 HEAD = ["EAN", "Name", "Price"]
 PRICED = "--code EAN --title Name --price Price --decimal .".split()

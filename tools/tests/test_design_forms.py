@@ -18,7 +18,7 @@ import support
 from labeltools.designs.svg_layout import SvgLayout
 from laying import documents_of
 from reading import fault_in
-from test_forms import dots_of_svg, rendered
+from rendering import dots_of_svg, rendered
 
 DPIS = (203, 300, 600)
 DOTS = ("png", "zpl", "escpos")  # the same dots as those of PBM

@@ -3,6 +3,9 @@
 import errno
 import functools
 import os
+import re
+import signal
+import time
 import unittest
 from pathlib import Path
 from unittest import mock
@@ -15,7 +18,9 @@ from labeltools.lines.file import read_lines
 from labeltools.printing.selection import ranges_in, selection_of
 from labeltools.sending.journal import Journal
 from labeltools.sending.network import NetworkPrinter
-from printers import Printer
+from printers import Printer, READY, STATUS
+
+RECEIPT = re.compile(rb".*?\x1dV\x42\x00", re.DOTALL)  # up to its cut
 
 
 def setUpModule() -> None:
@@ -40,7 +45,11 @@ class Chosen(Desk):
             codes.write_bytes(data)
             self.assertEqual(self.rows("", f"@{codes}"), [2, 6])
         codes.write_bytes(b"\n")  # without codes all labels would be chosen
-        self.said(printed("--only-code", f"@{codes}"), 1, "codes: there is no code\n$")
+        self.said(
+            printed("--only-code", f"@{codes}"),
+            1,
+            "codes: there is no code; write a code on each line\n$",
+        )
 
     def test_each_code_once(self) -> None:
         lines = b"qr 4006381333931\nean13 4006381333931\nean13 400638133393\nqr A\nqr A\n"
@@ -81,13 +90,16 @@ class Network(Desk):
     def test_each_label_arrives(self) -> None:
         """At a slow printer too, at one that talks, and at one that waits until it is heard."""
         says = b"\x02030,0,0\x03\r\n"
-        for printer in (
-            Printer(),
-            Printer(slow=0.02),
-            Printer(says=says * 200),
-            Printer(says=says * 40_000),
+        for printer, word in (
+            (Printer(), "printed by"),
+            (Printer(slow=0.02), "printed by"),
+            (Printer(says=says * 200), "sent to"),
+            (Printer(says=says * 40_000), "sent to"),
         ):
-            self.said(printed("--print", printer.start().name), 0, "30 labels taken by tcp://127")
+            seconds = 0.3 if printer.says else 10.0
+            with mock.patch("labeltools.sending.network.ANSWER", seconds):
+                done = printed("--print", printer.start().name)
+            self.said(done, 0, f"30 labels {word} tcp://127")
             self.assertEqual(len(set(printer.labels)), 30)
 
     def test_off(self) -> None:
@@ -131,6 +143,91 @@ class Network(Desk):
             self.said(done, 2, "needs labels one by one: give --to zpl or escpos")
 
 
+def left(count: int, is_paper_out: bool = False, is_open: bool = False) -> bytes:
+    """What ~HS answers of a printer with labels that it has not printed yet."""
+    return STATUS % (is_paper_out, 0, count, is_open)
+
+
+class Answers(Desk):
+    """What printers answer before a run and after it."""
+
+    def result(self, printer: Printer, status: int, pattern: str, seconds: float = 10.0) -> None:
+        """Runs label-print on a printer, which answers in some seconds or not at all."""
+        with mock.patch("labeltools.sending.network.ANSWER", seconds):
+            done = printed("--print", printer.start().name)
+        self.said(done, status, pattern)
+        self.assertEqual(len(set(printer.labels)), 30)
+
+    def test_what_is_wrong_is_said_before(self) -> None:
+        open_head = left(0, is_open=True)
+        said = r"its head is open; close it\nlabel-print: 30 labels printed by tcp://\S+\n$"
+        self.result(Printer(answers=(open_head, READY)), 0, said)
+        said = r": 7 labels are left in the printer\nlabel-print: 30 labels printed by"
+        self.result(Printer(answers=(left(7), READY)), 0, said)
+
+    def test_labels_are_printed_once_the_printer_has_none_left(self) -> None:
+        printer = Printer(answers=(READY, left(30), left(3), left(1), READY))
+        self.result(printer, 0, "^label-print: 30 labels printed by tcp://127")
+        self.assertEqual(printer.asked.count(b"~HS"), 5)
+
+    def test_what_is_left_and_why(self) -> None:
+        for printer, said in (
+            (
+                Printer(answers=(READY, left(4, is_paper_out=True))),
+                "30 labels sent to .*; 4 labels are left in the printer; it has no paper: put so",
+            ),
+            (
+                Printer(answers=(READY, left(4)), errors=8),
+                "; 4 labels are left in the printer; its cutter is stuck: free it\n$",
+            ),
+            (Printer(answers=(READY, left(1))), "; 1 label is left in the printer\n$"),
+        ):
+            with mock.patch("labeltools.sending.watch.IDLE", 0.5):
+                self.result(printer, 1, said)
+
+    def test_others_are_printed_on_as_before(self) -> None:
+        """Those that answer late, or something else, or nothing; they are not asked again."""
+        for printer in (
+            Printer(late=1.0),
+            Printer(answers=(b"HTTP/1.0 400 Bad Request\r\n\r\n",)),
+            Printer(answers=(b"\x02000,0\x03\r\n" * 3,)),
+            Printer(answers=()),
+            Printer(is_shy=True),
+        ):
+            self.result(printer, 0, r"^label-print: 30 labels sent to tcp://\S+\n$", 0.2)
+            self.assertLessEqual(len(printer.asked), 1)
+
+    def test_receipt_printers(self) -> None:
+        """They do not say whether they have printed all."""
+        for answers, status, said in (
+            ((b"\x12\x12",), 0, r"^label-print: 2 labels sent to tcp://\S+\n$"),
+            ((b"\x16\x12", b"\x12\x12"), 0, "a cover is open; close it\n.* 2 labels sent to"),
+            ((b"\x12\x12", b"\x12\x72"), 1, "2 labels sent to .*; it has no paper: put some in"),
+        ):
+            printer = Printer(answers=answers).start()
+            printer.label = RECEIPT
+            words = ("--to", "escpos", "--print", printer.name)
+            self.said(printed(*words, input=TICKETS[:20]), status, said)
+            self.assertEqual(len(printer.labels), 2)
+
+    def test_a_signal_ends_the_waiting(self) -> None:
+        printer = Printer(answers=(READY, left(5))).start()
+        run = self.begin(
+            "--print",
+            printer.name,
+            code="from labeltools.sending import watch; " f"watch.IDLE = {support.SECONDS}.0",
+        )
+        run.stdin.write(TICKETS)
+        run.stdin.close()
+        printer.wait(30)
+        while len(printer.asked) < 4:
+            time.sleep(0.01)
+        run.send_signal(signal.SIGTERM)
+        said = run.stderr.read()
+        self.assertEqual(run.wait(support.SECONDS), -signal.SIGTERM)
+        self.assertIn(b"it took 30 labels whole, and these are all\n", said)
+
+
 class Journals(Desk):
     """--journal and --again."""
 
@@ -161,7 +258,7 @@ class Journals(Desk):
         lanes[0].labels.clear()
         again = ("--only", "5-", "--again", lanes[0].name)
         done = printed("--journal", self.path, "--print", lanes[0].name, *again)
-        self.said(done, 0, "19 labels taken")
+        self.said(done, 0, "19 labels printed")
         paper += lanes[0].labels
         self.assertEqual(sorted(paper), sorted(labels_in(printed())))
 

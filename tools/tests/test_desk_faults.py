@@ -193,7 +193,7 @@ class Rows(Desk):
 
         def look(line: NetworkPrinter) -> socket.socket:
             done.append(line)
-            if len(done) % 4 == 3:
+            if len(done) % 5 == 4:  # the first is for a question
                 line.drop()
                 raise Unreachable(Text("{}: Connection refused", line.name))
             return open_line(line)
@@ -391,7 +391,7 @@ class Reprints(Desk):
         self.said(done, 1, f"{gone} --again {printer.name}; {rest}")
         thrown = len(printer.labels)
         done = printed(*words, "--only", f"3-{last}", "--again", printer.name)
-        self.said(done, 1, f"{last - 2} labels taken by {printer.name}")
+        self.said(done, 1, f"{last - 2} labels printed by {printer.name}")
         self.assertEqual(len(printer.labels), thrown + last - 2)
 
     def events_of(self, printer: str) -> tuple[int, int]:
@@ -414,7 +414,7 @@ class Streams(Desk):
         self.assertRegex(stream.answer(b"qr T00001\n"), "^doubtful 2 may be on paper, from")
         again = ("--only-code", "T00001", "--again", printer.name)
         done = support.run("label-print", *ROLL, *words, *again, input=TICKETS)
-        self.said(done, 0, "1 label taken by")
+        self.said(done, 0, "1 label printed by")
         self.assertEqual(stream.answer(b"qr T00001\n"), "known 3 qr T00001\n")
         self.assertRegex(stream.answer(b"qr T00002\n"), "^taken 4 ")
         self.assertEqual(len(printer.labels), 2)

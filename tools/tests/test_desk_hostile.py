@@ -263,7 +263,7 @@ class Doubts(Desk):
         self.said(done, 1, "line 1: may be on paper, from tcp://")
         again = ("--only", "1", "--again", printer.name)
         done = support.run("label-print", *ROLL, *words, *again, input=lines)
-        self.said(done, 0, "1 label taken by")
+        self.said(done, 0, "1 label printed by")
         self.assertEqual(stream.answer(b"qr T00001\n"), "known 3 qr T00001\n")
 
     def test_a_stream_to_standard_output_goes_on(self) -> None:

@@ -163,6 +163,12 @@ code title ?price ?price
 barcode;itemcallnumber;title;author;isbn
 39087001234567;QA-76;Herbstlicht;K. Lenz;978-3-16-148410-0
 ?code - title - ?code
+ArtNr;KurzBez;Bez;EANNr;Vk0Brutto;Vk0Netto
+100231;BLEIST;Bleistift, weich;4006381333931;0,80;0,67
+- - title code price -
+Copy Barcode;Title;ISBN;Price
+39087001234567;Herbstlicht;978-3-16-148410-0;24.00
+?code title ?code price
 Order ID;Ticket code;Barcode URL;Name;First name;Event name
 ORD-20041;VK7Q1XH2A;https://t.example/1;Anna Adler;Anna;Autumn concert
 - code - title - -
@@ -174,6 +180,7 @@ SYMBOLOGIES = {
     "Regal": "qr",
     **dict.fromkeys(("Inventarnummer", "Charge", "Bestellnummer", "Artikelnummer"), "code128"),
     **dict.fromkeys(("N° billet", "Etikett", "Order ID", "Product ID"), "code128"),
+    "Copy Barcode": "code128",
 }
 
 LANGUAGES = (

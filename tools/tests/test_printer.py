@@ -1,9 +1,9 @@
 """label-print and CUPS: the line to type, --print, and the edges of a page."""
 
 import fcntl
-import hashlib
 import os
 import re
+import shlex
 import signal
 import subprocess
 import tempfile
@@ -33,6 +33,7 @@ from labeltools.sending.cups import (
     queue_of,
     queues,
     SentJob,
+    UnknownJob,
 )
 from laying import laid_out, look
 from printers import Printer
@@ -305,7 +306,7 @@ class Queues(unittest.TestCase):
             subprocess.run([*command, "plain"], check=True)
             return self.printed(*self.SHEET, "--print", "plain").stderr.decode()
 
-        said = "at 600 dpi: job [0-9]+; it waits in the queue: plain: it is paused\n$"
+        said = "job [0-9]+; it waits in the queue: plain: it is paused; cupsenable plain lets it go on\n$"
         self.assertRegex(printed("cupsdisable"), said)
         sent = SentJob("plain", int(re.findall("job ([0-9]+)", printed("cupsdisable"))[0]))
         self.assertEqual(sent.state().trouble, "plain: it is paused")
@@ -339,6 +340,8 @@ class Queues(unittest.TestCase):
         *("fit-to-page-default=true", "print-scaling-default=fit", "copies-default=2"),
         *("orientation-requested-default=4", "sides-default=two-sided-long-edge"),
         *("job-sheets-default=standard,standard", "Duplex=DuplexNoTumble"),
+        *("page-ranges-default=1", "page-label-default=SECRET", "position-default=top-left"),
+        *("outputorder-default=reverse", "page-delivery-default=reverse-order-face-up"),
     )
 
     def test_the_defaults_of_a_queue_touch_no_label(self) -> None:
@@ -352,7 +355,7 @@ class Queues(unittest.TestCase):
                 done = self.printed(*words, "--print", name)
                 self.assertIn(b"CUPS reports it as printed", done.stderr)
                 found.append(self.scheduler.printed(name))
-            self.assertEqual(*map(pages_in, found))
+            self.assertEqual(*found)
         roll = (*self.ROLL, "--to", "zpl")
         plain = self.printed(*roll, "--dpi", "203").stdout
         label_printer = Printer().start()
@@ -362,6 +365,75 @@ class Queues(unittest.TestCase):
         self.assertEqual(self.printed(*roll, "--print", "banners").returncode, 0)
         label_printer.wait(5)
         self.assertEqual(b"".join(label_printer.labels), plain)
+
+    def test_words_of_vendors_and_qualities_touch_no_label(self) -> None:
+        """Those that a driver knows are said for each job; the quality leaves the dots."""
+        for kind, changes in (
+            ("vendor", ("StpOrientation=Landscape", "NupPages=2up", "FXLayout=4up")),
+            ("quality", ("print-quality-default=3",)),
+        ):
+            found = []
+            for name, options in ((f"{kind}-as-it-is", ()), (f"{kind}-changed", changes)):
+                self.add(name, kind)
+                if options:
+                    self.scheduler.change(name, *options)
+                self.assertEqual(self.printed(*self.SHEET, "--print", name).returncode, 0)
+                found.append(self.scheduler.printed(name))
+            self.assertEqual(*found)
+
+    def test_paper_that_a_driver_does_not_know(self) -> None:
+        """It is asked for: a general edge, a size below the least, and the dots of a roll."""
+        self.add("any-size", "edged")
+        self.add("general", "general")
+        small = ("--paper", "60x24", "--edge", "4.3")
+        given = "--paper-as-given"
+        edges = "how near to the edge it prints: 5 labels may be cut; give --paper-as-given if it p"
+        for queue, words, said in (
+            ("general", self.ROLL, f"general does not say {edges}"),
+            ("any-size", small, "below 25.4 by 25.4 mm: if it takes 60 by 24 mm all the same give"),
+            ("any-size", (*self.ROLL, given), "would be cut; give --edge 4.3,4.3,4.3,4.3"),
+            ("silent", self.ROLL, "resolution: look at its manual, and give --dpi 203 or 300 or"),
+            ("zebra", (*self.ROLL, "--to", "zpl", given), f"{given} is only for a PDF on a queue"),
+        ):
+            with self.subTest(queue=queue, words=words):
+                done = self.printed(*words, "--print", queue)
+                self.assertEqual(done.returncode, 2, done.stderr)
+                self.assertIn(said, done.stderr.decode())
+        for queue, words in (("general", self.ROLL), ("any-size", small)):
+            done = self.printed(*words, given, "--print", queue)
+            self.assertIn(b"CUPS reports it as printed", done.stderr)
+            job = self.scheduler.printed(queue)
+            is_picture = queue == "general"
+            page = jobs.pictures_of_pbm(job)[0] if is_picture else raster_of(job)[1]
+            bars = next(bars_of((*words, "--dpi", "300"), FIVE))
+            self.assertIsNotNone(shift_of(page, bars), queue)
+
+    def test_a_label_printer_with_the_driver_of_another(self) -> None:
+        """The command that is said makes a queue on which it prints."""
+        labels = Printer().start()
+        self.addCleanup(labels.off)
+        self.add("till", "plain", labels.name.replace("tcp", "socket"))
+        roll = (*self.ROLL, "--to", "zpl", "--dpi", "203")
+        said = self.printed(*roll, "--print", "till").stderr.decode()
+        self.assertIn(f"give --print {labels.name}, or make a queue without a driver", said)
+        self.assertIn(
+            "a label printer give", self.printed(*self.ROLL, "--print", "till").stderr.decode()
+        )
+        subprocess.run(shlex.split(said[said.index("lpadmin") :]), check=True, capture_output=True)
+        self.addCleanup(self.scheduler.remove, "till-labels")
+        done = self.printed(*roll, "--print", "till-labels")
+        self.assertIn(b"CUPS reports it as printed", done.stderr)
+        labels.wait(5)
+        self.assertEqual(b"".join(labels.labels), self.printed(*roll).stdout)
+
+    def test_a_number_that_another_job_has(self) -> None:
+        """CUPS counts again once it has forgotten all: the time of a job tells it from others."""
+        said = self.printed(*self.SHEET, "--print", "plain").stderr.decode()
+        number = int(re.findall("job ([0-9]+)", said)[0])
+        self.assertTrue(SentJob("plain", number).state().is_printed)
+        for job in (SentJob("both", number), SentJob("plain", number, 1), SentJob("plain", 9999)):
+            with self.assertRaisesRegex(UnknownJob, "does not know job .* any more"):
+                job.state()
 
     def test_paper_that_a_printer_has_not(self) -> None:
         self.add("any-size", "edged")
@@ -376,9 +448,13 @@ class Queues(unittest.TestCase):
             ("plain", grid, "for labels on sheets give --stock, or --cell with --columns"),
             ("file-dymo", self.SHEET, "file-dymo has no paper of 210 by 297 mm: the nearest"),
             ("file-dymo", turned, "it has 35.63 by 88.9 mm: give the sides in this order"),
-            ("any-size", ("--paper", "20x20"), "no paper of 20 by 20 mm"),
+            ("any-size", ("--paper", "300x300"), "no paper of 300 by 300 mm: the nearest"),
             ("any-size", self.ROLL, "5 labels would be cut; give --edge 4.3,4.3,4.3,4.3"),
-            ("plain", (*self.ROLL, "--to", "zpl"), "plain is an office printer: it does not under"),
+            (
+                "plain",
+                (*self.ROLL, "--to", "zpl"),
+                "prints zpl as letters: for an office printer g",
+            ),
         ):
             with self.subTest(queue=queue, words=words):
                 done = self.printed(*words, "--print", queue)
@@ -404,7 +480,11 @@ class Queues(unittest.TestCase):
             ("plain", 0, "CUPS reports it as printed"),
             ("broken", 1, "it waits in the queue: .*Filter failed"),
             ("given-up", 1, "it was not printed: CUPS gave up job [0-9]+"),
-            ("holds", 1, "it waits in the queue: holds: job [0-9]+ is held"),
+            (
+                "holds",
+                1,
+                "it waits in the queue: holds: job ([0-9]+) is held: .*lp -i holds-.* -H resume",
+            ),
         ):
             with self.subTest(queue=name):
                 paper = self.ROLL if name == "given-up" else self.SHEET
@@ -457,11 +537,6 @@ class Queues(unittest.TestCase):
         self.assertIn(b"apt-get install python3-cups", done.stderr)
 
 
-def pages_in(job: bytes) -> tuple[int, str]:
-    """How many pages of raster a job has, and a mark of the dots of the first one."""
-    return job.count(job[:4]), hashlib.sha256(raster_of(job)[1].tobytes()).hexdigest()
-
-
 def larger(bars: Bars, across: int, down: int) -> Bars:
     """Bars of which each dot is several of the printer's."""
     dots = bars.dots.repeat(across, axis=1).repeat(down, axis=0)
@@ -480,11 +555,11 @@ class Devices(unittest.TestCase):
             device.touch()
             words = (*self.WORDS, "--print", str(device))
             done = support.printed(*words, input=LINES)
-            self.assertEqual(support.messages(done)[-1], f"label-print: 3 labels taken by {device}")
+            self.assertEqual(support.messages(done)[-1], f"label-print: 3 labels sent to {device}")
             self.assertEqual(device.read_bytes(), plain)
-            for taken in (3, 0):
+            for said in ("3 labels sent to", "nothing to print: 3 labels are in"):
                 done = support.printed(*words, "--journal", f"{folder}/journal", input=LINES)
-                self.assertIn(f"label-print: {taken} labels taken by", support.messages(done)[-1])
+                self.assertIn(f"label-print: {said}", support.messages(done)[-1])
             self.assertEqual(device.read_bytes(), plain * 2)
 
     def begun(self, device: Path) -> "subprocess.Popen[bytes]":

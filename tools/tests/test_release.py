@@ -12,7 +12,7 @@ import unittest
 from pathlib import Path
 
 import support
-from test_install import command_of, make, PROVED_ARM64
+from making import command_of, make, PROVED_ARM64
 
 MOST_OF_LABELS = 250_000  # bytes of the program's package
 # Each package, and the processors that it is for.

@@ -9,8 +9,8 @@ import unittest
 import zipfile
 
 import support
-from test_table import SMALL, TableTest
-from test_table_workbooks import cell, ods, ods_cell, packed, rows, table, unpacked, xlsx
+from table_test import SMALL, TableTest
+from workbooks import cell, ods, ods_cell, packed, rows, table, unpacked, xlsx
 
 SECONDS = 90
 MEMORY = 500 << 20

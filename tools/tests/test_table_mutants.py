@@ -22,19 +22,8 @@ import support
 from labeltools.common.messages import Silence, ToolError
 from labeltools.tables.table import lines_of_table
 from labeltools.tables.table_options import ColumnOptions, TableOptions
-from test_table import BOOK, PENCIL, SMALL
-from test_table_workbooks import (
-    cell,
-    KINDS,
-    ods,
-    ods_cell,
-    packed,
-    relations,
-    rows,
-    table,
-    unpacked,
-    xlsx,
-)
+from table_test import BOOK, PENCIL, SMALL
+from workbooks import cell, KINDS, ods, ods_cell, packed, relations, rows, table, unpacked, xlsx
 
 SEED = 60
 MUTANTS = 4000

@@ -28,7 +28,7 @@ from labeltools.sheets.cells import PRINTED, taken_of
 from labeltools.sheets.number_format import Formatter, Signs
 from labeltools.sheets.rows import Row
 from labeltools.tables.table import rows_of_workbook
-from test_table_workbooks import ods, ods_cell, table
+from workbooks import ods, ods_cell, table
 
 SEED = 60
 MANIFEST_SPACE = "urn:oasis:names:tc:opendocument:xmlns:manifest:1.0"

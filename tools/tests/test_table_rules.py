@@ -13,8 +13,8 @@ import unittest
 import support
 from labeltools.common.messages import quoted
 from sheets import Cell, KINDS, Sheet
-from test_table import BOOK, Label, parts_of, PENCIL, SMALL, SOAP, TableTest
-from test_table_workbooks import (
+from table_test import BOOK, Label, parts_of, PENCIL, SMALL, SOAP, TableTest
+from workbooks import (
     cell,
     KINDS as SPACE,
     ods,
@@ -221,7 +221,8 @@ class Prices(RulesTest):
         text = f"EAN;Preis\n{SMALL};1.005\n{BOOK};0.80\n"
         status, messages, labels = self.said(text, *arguments)
         problem = 'row 2: column 2 ("Preis") has "1.005", which cannot be printed like that: '
-        problem += "it has three digits after ., which is the decimal sign of its column"
+        problem += "it has three digits after ., which is the decimal sign of its column; "
+        problem += "write two decimals"
         self.assertEqual((status, messages, len(labels)), (1, [problem], 1))
 
     def test_a_currency_in_a_column_of_its_own(self) -> None:
@@ -252,9 +253,11 @@ class Prices(RulesTest):
         self.assertEqual(found, [("1.00 EUR", "2.00 EUR/kg"), ("1.00 Soap", "2.00 Soap/kg")])
         cannot = "which cannot be printed like that: it has"
         for message in (
-            'row 4: column 4 ("Währung") has "7", which is not a currency',
-            f'row 5: column 2 ("Preis") has "1.00", {cannot} no currency, and its row has none',
-            f'row 6: column 2 ("Preis") has "1.00 €", {cannot} EUR, and its row has USD',
+            'row 4: column 4 ("Währung") has "7", which is not a currency: write it as EUR or €',
+            f'row 5: column 2 ("Preis") has "1.00", {cannot} no currency, and its row has none; '
+            "write it into one of them",
+            f'row 6: column 2 ("Preis") has "1.00 €", {cannot} EUR, and its row has USD; '
+            "write the same currency in both",
             'row 3 has the currency "Soap", which is not known: if it is right, give '
             "--currency-name Soap",
         ):

@@ -1,9 +1,8 @@
 """Tests of tools/label-table with spreadsheets' own files, .xlsx and .ods: what is read, and what
 is refused.
 
-The files are made here, part by part, so that each may be as a spreadsheet writes it or as a
-hostile hand does. What number formats show was seen in LibreOffice 7.4 and is what Excel's
-documentation of its number formats says.
+What number formats show was seen in LibreOffice 7.4 and is what Excel's documentation of its number
+formats says.
 """
 
 import io
@@ -11,197 +10,101 @@ import itertools
 import subprocess
 import unittest
 import zipfile
-from typing import Mapping, Sequence
 from unittest import mock
-from xml.sax.saxutils import escape, quoteattr
+from xml.sax.saxutils import escape
 
 import support
-from test_table import BOOK, Label, parts_of, PENCIL, SMALL, SOAP, TableTest
+from table_test import BOOK, parts_of, PENCIL, SMALL, SOAP, WorkbookTest
+from workbooks import cell, MAIN, ods, ods_cell, packed, relations, rows, table, unpacked, xlsx, XML
 
-MAIN = "http://schemas.openxmlformats.org/spreadsheetml/2006/main"
 STRICT = "http://purl.oclc.org/ooxml/spreadsheetml/main"
-KINDS = "http://schemas.openxmlformats.org/officeDocument/2006/relationships"
-RELATIONS = "http://schemas.openxmlformats.org/package/2006/relationships"
-XML = '<?xml version="1.0" encoding="UTF-8" standalone="yes"?>\n'
 AGAIN = "open it in the spreadsheet and save it again"
 LARGE = f"has a row or another element of more than 1 MB, or elements 100 deep: {AGAIN}"
 LIMITS = "has more than 1048576 rows, 16384 columns or 256 merges across a row"
 DAMAGED = "label-table: standard input is damaged, has a password, or is neither .xlsx nor .ods "
-ODS_SPACES = " ".join(
-    f'xmlns:{prefix}="urn:oasis:names:tc:opendocument:xmlns:{name}:1.0"'
-    for prefix, name in (
-        *(
-            ("office", "office"),
-            ("table", "table"),
-            ("text", "text"),
-            ("style", "style"),
-            ("draw", "drawing"),
-        ),
-        ("calcext", "calcext"),
-    )
-)
 
 
-def packed(parts: Mapping[str, str | bytes], method: int = zipfile.ZIP_DEFLATED) -> bytes:
-    """A zip file of these parts."""
-    stream = io.BytesIO()
-    with zipfile.ZipFile(stream, "w", method) as archive:
-        for name, text in parts.items():
-            archive.writestr(name, text)
-    return stream.getvalue()
-
-
-def cell(value: object, reference: str = "", style: int = 0, more: str = "") -> str:
-    """A cell of .xlsx: a number, a text as it is inline, or nothing."""
-    place = (f' r="{reference}"' if reference else "") + (f' s="{style}"' if style else "")
-    if value is None:
-        return f"<c{place}>{more}</c>"
-    if isinstance(value, str):
-        return f'<c{place} t="inlineStr"><is><t xml:space="preserve">{escape(value)}</t></is></c>'
-    return f"<c{place}>{more}<v>{value}</v></c>"
-
-
-def rows(*lines: Sequence[object]) -> str:
-    """Rows of .xlsx, from 1 on; a cell is a value, or XML as it is."""
-    texts = []
-    for number, line in enumerate(lines, 1):
-        cells = [text if str(text).startswith("<c") else cell(text) for text in line]
-        texts.append(f'<row r="{number}">{"".join(map(str, cells))}</row>')
-    return "".join(texts)
-
-
-def xlsx(
-    sheet: str,
-    *others: tuple[str, str, str],
-    formats: Sequence[str | int] = (),
-    strings: str = "",
-    before: str = "",
-    after: str = "",
-    date1904: bool = False,
-    namespace: str = MAIN,
-    styles: str = "",
-    calculation: str = "",
-) -> bytes:
-    """An .xlsx file with a sheet of these rows, and others (name, state, rows); style 1 has the
-    first of `formats`, and further ones are in `styles`.
+class Written(WorkbookTest):
+    """Rows and strings as programs write them are read by a pattern, all others by the parser: both
+    say the same of a file, wherever its pieces end.
     """
-    names = [("Tabelle1", "visible", sheet), *others]
-    listed = "".join(
-        f'<sheet name={quoteattr(name)} sheetId="{number}" state="{state}" r:id="rId{number}"/>'
-        for number, (name, state, _) in enumerate(names, 1)
+
+    NAMES = ("EAN", "Name", "Preis", "Käse & Co", "Tee, grün", "zu _x0041_", PENCIL, SOAP)
+    ROWS = (
+        '<row r="1" spans="1:3"><c r="A1" t="s"><v>0</v></c><c r="B1" t="s"><v>1</v></c>'
+        '<c r="C1" t="s"><v>2</v></c></row>',
+        '<row r="2"><c r="A2" t="s"><v>6</v></c><c r="B2" t="s"><v>3</v></c><c r="C2"><v>1.5</v></c></row>',
+        '<row r="3" ht="0"><c r="A3" t="s"><v>7</v></c></row>',
+        '<row r="4"/>',
+        f'<row r="5"><c r="A5" t="str"><f>"x"&amp;1</f><v>{BOOK}</v></c><c r="B5" t="s"><v>4</v></c>'
+        '<c r="C5"/></row>',
+        f'<row r="7" s="1"><c r="A7"><v>{SMALL}</v></c><c r="B7" t="s"><v>5</v></c>'
+        '<c r="C7" s="0"><f>A7*2</f><v>3.25</v></c></row>',
+        '<row r="9"><c r="A9" t="s"><v>6</v></c><c r="B9" t="inlineStr"><is><t>Tee</t></is></c></row>',
     )
-    targets = [
-        (f"rId{number}", "worksheet", f"worksheets/sheet{number}.xml")
-        for number in range(1, len(names) + 1)
+    LINES = [
+        ({"row": 2, "title": "Käse & Co", "price": "1.5"}, f"ean13 {PENCIL}"),
+        ({"row": 5, "title": "Tee, grün"}, f"ean13 {BOOK}"),
+        ({"row": 7, "title": "zu A", "price": "3.25"}, f"ean8 {SMALL}"),
+        ({"row": 9, "title": "Tee"}, f"ean13 {PENCIL}"),
     ]
-    targets += [
-        ("rIdS", "styles", "styles.xml"),
-        ("rIdT", "sharedStrings", "/xl/sharedStrings.xml"),
-    ]
-    ids = [
-        str(text) if isinstance(text, int) else str(164 + number)
-        for number, text in enumerate(formats)
-    ]
-    codes = "".join(
-        f'<numFmt numFmtId="{number}" formatCode={quoteattr(text)}/>'
-        for number, text in zip(ids, formats)
-        if isinstance(text, str)
-    )
-    own = "".join(f'<xf numFmtId="{number}"/>' for number in ["0", *ids])
-    parts = {
-        "[Content_Types].xml": XML + "<Types/>",
-        "_rels/.rels": relations([("rId1", "officeDocument", "xl/workbook.xml")]),
-        "xl/workbook.xml": (
-            f'{XML}<workbook xmlns="{namespace}" xmlns:r="{KINDS}">'
-            f'<workbookPr date1904="{int(date1904)}"/>'
-            f"<sheets>{listed}</sheets>{calculation}</workbook>"
-        ),
-        "xl/_rels/workbook.xml.rels": relations(targets),
-        "xl/styles.xml": (
-            f'{XML}<styleSheet xmlns="{namespace}"><numFmts>{codes}</numFmts><cellStyleXfs><xf'
-            f' numFmtId="9"/></cellStyleXfs><cellXfs>{own}</cellXfs>{styles}</styleSheet>'
-        ),
-        "xl/sharedStrings.xml": f'{XML}<sst xmlns="{namespace}">{strings}</sst>',
-    }
-    for number, (_, _, text) in enumerate(names, 1):
-        data = f"<sheetData>{text}</sheetData>"
-        if number == 1:
-            data = f"{before}{data}{after}"
-        sheet = f'{XML}<worksheet xmlns="{namespace}">{data}</worksheet>'
-        parts[f"xl/worksheets/sheet{number}.xml"] = sheet
-    return packed(parts)
 
+    def said_of(self, data: bytes) -> tuple[object, list[str]]:
+        """The labels of a file and their lines, and what is said."""
+        words = "--code EAN --title Name --price Preis --decimal point".split()
+        done = support.run_here("label-table", *words, input=data)
+        return parts_of(done.stdout)[1] if done.stdout else None, support.messages(done)
 
-def relations(targets: Sequence[tuple[str, str, str]]) -> str:
-    """The part of .xlsx that says where other parts are."""
-    listed = "".join(
-        f'<Relationship Id="{name}" Type="{KINDS}/{kind}" Target="{path}"/>'
-        for name, kind, path in targets
-    )
-    return f'{XML}<Relationships xmlns="{RELATIONS}">{listed}</Relationships>'
+    def strings(self, before: str = "", after: str = "") -> str:
+        """Shared strings, each with something before and after its text."""
+        return "".join(f"<si>{before}<t>{escape(one)}</t>{after}</si>" for one in self.NAMES)
 
+    def test_each_form_says_the_same_wherever_its_pieces_end(self) -> None:
+        plain, strings = "".join(self.ROWS), self.strings()
+        odd = plain.replace('"><v>', '" ph="0"><v>').replace("<row r", "\n<row  r")
+        remark = "<!-- <row r='1'><c r='A1'><v>7</v></c></row> -->"
+        wanted = self.said_of(xlsx(plain, strings=strings))
+        self.assertEqual(wanted[0], self.LINES)
+        self.assertEqual(len(wanted[1]), 4)  # a hidden row, and what is odd
+        forms = {
+            "plain": xlsx(plain, strings=strings),
+            "attributes and spaces": xlsx(odd, strings=strings),
+            "a remark": xlsx(plain.replace('<row r="5', f'{remark}<row r="5'), strings=strings),
+            "a remark in front": xlsx(remark + plain, strings=strings),
+            "letters with a form": xlsx(plain, strings=self.strings("", "<rPh><t>x</t></rPh>")),
+            "spaces": xlsx(plain, strings=strings.replace("<si>", "\n <si>")),
+            "data as it is": xlsx(plain, strings=strings.replace("Tee,", "<![CDATA[Tee,]]>")),
+        }
+        sizes = (1 << 16, 1, 2, 3, 5, 7, 11, 13, 64, 100, 177, 500, 1000)
+        for (form, data), size in itertools.product(forms.items(), sizes):
+            with mock.patch("labeltools.sheets.workbook.PIECE", size):
+                self.assertEqual(self.said_of(data), wanted, f"{form}, pieces of {size} bytes")
 
-def ods(*sheets: str, styles: str = "", extra: dict[str, str] | None = None) -> bytes:
-    """An .ods file with these tables."""
-    body = f"<office:body><office:spreadsheet>{''.join(sheets)}</office:spreadsheet></office:body>"
-    content = (
-        f"{XML}<office:document-content"
-        f" {ODS_SPACES}><office:automatic-styles>{styles}</office:automatic-styles>{body}"
-    )
-    parts = {"mimetype": "application/vnd.oasis.opendocument.spreadsheet"}
-    return packed({**parts, "content.xml": f"{content}</office:document-content>", **(extra or {})})
+    def test_strings_in_another_encoding(self) -> None:
+        parts = unpacked(xlsx("".join(self.ROWS), strings=self.strings()))
+        name = "xl/sharedStrings.xml"
+        text = parts[name].replace('encoding="UTF-8"', 'encoding="ISO-8859-1"')
+        data = packed({**parts, name: text.encode("latin-1")})
+        self.assertEqual(self.said_of(data)[0], self.LINES)
+        wrong = packed({**parts, name: parts[name].encode("latin-1")})
+        self.assertIn("is damaged", self.said_of(wrong)[1][0])
 
-
-def table(*lines: Sequence[str], name: str = "Tabelle1", style: str = "ta1", end: str = "") -> str:
-    """A table of .ods; a cell is a text, or XML as it is."""
-    texts = [
-        text if text.startswith("<") else ods_cell(text) if text else "<table:table-cell/>"
-        for line in lines
-        for text in line
-    ]
-    found = iter(texts)
-    data = "".join(
-        f"<table:table-row>{''.join(next(found) for _ in line)}</table:table-row>" for line in lines
-    )
-    return f'<table:table table:name="{name}" table:style-name="{style}">{data}{end}</table:table>'
-
-
-def ods_cell(text: str, kind: str = "string", more: str = "", before: str = "") -> str:
-    """A cell of .ods with its type, and its text as shown."""
-    lines = "".join(f"<text:p>{line}</text:p>" for line in text.split("\n"))
-    return f'<table:table-cell office:value-type="{kind}" {more}>{before}{lines}</table:table-cell>'
-
-
-class WorkbookTest(TableTest):
-    """Steps that the tests share."""
-
-    def found(self, data: bytes, *arguments: str) -> list[tuple[Label, str]]:
-        """The labels and lines of a file of which no row is left out."""
-        done = support.run_here("label-table", "--code", "EAN", *arguments, input=data)
-        self.assertEqual((done.returncode, support.messages(done)), (0, []))
-        return parts_of(done.stdout)[1]
-
-    def refused(self, data: bytes, problem: str, *arguments: str, status: int = 1) -> None:
-        """A file of which nothing is written."""
-        done = support.run_here("label-table", "--code", "EAN", *arguments, input=data)
-        self.assertEqual(support.messages(done), [f"label-table: standard input {problem}"])
-        self.assertEqual((done.returncode, done.stdout), (status, b""))
-
-    def check_codes(
-        self, cells: dict[str, str], symbology: str, formats: Sequence[str | int] = ()
-    ) -> None:
-        """Cells of .xlsx, and of each the line, or `refused: ` and the message for its column."""
-        data = xlsx(rows(["EAN"], *([text] for text in cells)), formats=formats)
-        results = list(enumerate(cells.values(), 2))
-        lines = [result for _, result in results if not result.startswith("refused: ")]
-        problems = [
-            f'row {row}: column 1 ("EAN") {text[9:]}'
-            for row, text in results
-            if text.startswith("refused: ")
-        ]
-        self.check(
-            data, ["--code", "EAN", "--symbology", symbology], lines, problems, 1 if problems else 0
-        )
+    def test_rows_that_no_spreadsheet_writes(self) -> None:
+        """What the parser refuses is refused, though it stands among plain rows."""
+        for text, problem in (
+            ("</row>", "is damaged"),
+            ("<row r='8'>", "is damaged"),
+            ('<row r="1"><c r="A1"/></row>', "out of order"),
+            ('<row r="8"><c r="B8"/><c r="A8"/></row>', "out of order"),
+            ('<row r="8"><c r="A8" t="s"><v>99</v></c></row>', "is damaged"),
+            ('<row r="8"><c r="A8"><v>1e999</v></c></row>', "is damaged"),
+            ("<!DOCTYPE a>", "is damaged"),
+            ("\x01", "is damaged"),
+        ):
+            rows_of = (*self.ROWS[:-1], text, self.ROWS[-1])
+            said = self.said_of(xlsx("".join(rows_of), strings=self.strings()))
+            self.assertIsNone(said[0], text)
+            self.assertIn(problem, said[1][-1], text)
 
 
 class Xlsx(WorkbookTest):
@@ -346,95 +249,6 @@ class Xlsx(WorkbookTest):
             )
 
 
-def unpacked(data: bytes) -> dict[str, str]:
-    """The parts of a zip file."""
-    with zipfile.ZipFile(io.BytesIO(data)) as archive:
-        return {name: archive.read(name).decode() for name in archive.namelist()}
-
-
-class Written(WorkbookTest):
-    """Rows and strings as programs write them are read by a pattern, all others by the parser: both
-    say the same of a file, wherever its pieces end.
-    """
-
-    NAMES = ("EAN", "Name", "Preis", "Käse & Co", "Tee, grün", "zu _x0041_", PENCIL, SOAP)
-    ROWS = (
-        '<row r="1" spans="1:3"><c r="A1" t="s"><v>0</v></c><c r="B1" t="s"><v>1</v></c>'
-        '<c r="C1" t="s"><v>2</v></c></row>',
-        '<row r="2"><c r="A2" t="s"><v>6</v></c><c r="B2" t="s"><v>3</v></c><c r="C2"><v>1.5</v></c></row>',
-        '<row r="3" ht="0"><c r="A3" t="s"><v>7</v></c></row>',
-        '<row r="4"/>',
-        f'<row r="5"><c r="A5" t="str"><f>"x"&amp;1</f><v>{BOOK}</v></c><c r="B5" t="s"><v>4</v></c>'
-        '<c r="C5"/></row>',
-        f'<row r="7" s="1"><c r="A7"><v>{SMALL}</v></c><c r="B7" t="s"><v>5</v></c>'
-        '<c r="C7" s="0"><f>A7*2</f><v>3.25</v></c></row>',
-        '<row r="9"><c r="A9" t="s"><v>6</v></c><c r="B9" t="inlineStr"><is><t>Tee</t></is></c></row>',
-    )
-    LINES = [
-        ({"row": 2, "title": "Käse & Co", "price": "1.5"}, f"ean13 {PENCIL}"),
-        ({"row": 5, "title": "Tee, grün"}, f"ean13 {BOOK}"),
-        ({"row": 7, "title": "zu A", "price": "3.25"}, f"ean8 {SMALL}"),
-        ({"row": 9, "title": "Tee"}, f"ean13 {PENCIL}"),
-    ]
-
-    def said_of(self, data: bytes) -> tuple[object, list[str]]:
-        """The labels of a file and their lines, and what is said."""
-        words = "--code EAN --title Name --price Preis --decimal point".split()
-        done = support.run_here("label-table", *words, input=data)
-        return parts_of(done.stdout)[1] if done.stdout else None, support.messages(done)
-
-    def strings(self, before: str = "", after: str = "") -> str:
-        """Shared strings, each with something before and after its text."""
-        return "".join(f"<si>{before}<t>{escape(one)}</t>{after}</si>" for one in self.NAMES)
-
-    def test_each_form_says_the_same_wherever_its_pieces_end(self) -> None:
-        plain, strings = "".join(self.ROWS), self.strings()
-        odd = plain.replace('"><v>', '" ph="0"><v>').replace("<row r", "\n<row  r")
-        remark = "<!-- <row r='1'><c r='A1'><v>7</v></c></row> -->"
-        wanted = self.said_of(xlsx(plain, strings=strings))
-        self.assertEqual(wanted[0], self.LINES)
-        self.assertEqual(len(wanted[1]), 4)  # a hidden row, and what is odd
-        forms = {
-            "plain": xlsx(plain, strings=strings),
-            "attributes and spaces": xlsx(odd, strings=strings),
-            "a remark": xlsx(plain.replace('<row r="5', f'{remark}<row r="5'), strings=strings),
-            "a remark in front": xlsx(remark + plain, strings=strings),
-            "letters with a form": xlsx(plain, strings=self.strings("", "<rPh><t>x</t></rPh>")),
-            "spaces": xlsx(plain, strings=strings.replace("<si>", "\n <si>")),
-            "data as it is": xlsx(plain, strings=strings.replace("Tee,", "<![CDATA[Tee,]]>")),
-        }
-        sizes = (1 << 16, 1, 2, 3, 5, 7, 11, 13, 64, 100, 177, 500, 1000)
-        for (form, data), size in itertools.product(forms.items(), sizes):
-            with mock.patch("labeltools.sheets.workbook.PIECE", size):
-                self.assertEqual(self.said_of(data), wanted, f"{form}, pieces of {size} bytes")
-
-    def test_strings_in_another_encoding(self) -> None:
-        parts = unpacked(xlsx("".join(self.ROWS), strings=self.strings()))
-        name = "xl/sharedStrings.xml"
-        text = parts[name].replace('encoding="UTF-8"', 'encoding="ISO-8859-1"')
-        data = packed({**parts, name: text.encode("latin-1")})
-        self.assertEqual(self.said_of(data)[0], self.LINES)
-        wrong = packed({**parts, name: parts[name].encode("latin-1")})
-        self.assertIn("is damaged", self.said_of(wrong)[1][0])
-
-    def test_rows_that_no_spreadsheet_writes(self) -> None:
-        """What the parser refuses is refused, though it stands among plain rows."""
-        for text, problem in (
-            ("</row>", "is damaged"),
-            ("<row r='8'>", "is damaged"),
-            ('<row r="1"><c r="A1"/></row>', "out of order"),
-            ('<row r="8"><c r="B8"/><c r="A8"/></row>', "out of order"),
-            ('<row r="8"><c r="A8" t="s"><v>99</v></c></row>', "is damaged"),
-            ('<row r="8"><c r="A8"><v>1e999</v></c></row>', "is damaged"),
-            ("<!DOCTYPE a>", "is damaged"),
-            ("\x01", "is damaged"),
-        ):
-            rows_of = (*self.ROWS[:-1], text, self.ROWS[-1])
-            said = self.said_of(xlsx("".join(rows_of), strings=self.strings()))
-            self.assertIsNone(said[0], text)
-            self.assertIn(problem, said[1][-1], text)
-
-
 class Formats(WorkbookTest):
     """What a number in a column of text is shown as."""
 
@@ -472,6 +286,7 @@ class Formats(WorkbookTest):
 5|General|5
 1.25|General|1,25
 4006381333931|General|4006381333931
+999999999999999|General|999999999999999
 0.1|@|0,1
 7|000|007
 7|0|7
@@ -539,6 +354,12 @@ class Formats(WorkbookTest):
             *((value, "d", day, again) for value in (60, -1, 2958466)),
             *((5, number, language, again) for number in (22, 44, 999)),
             (1 / 3, "General", long, "give it a format such as 0.00"),
+            (
+                10**15,
+                "General",
+                long.replace("0." + 15 * "3", f"{10**15}"),
+                "give it a format such as 0.00",
+            ),
         ]
         for value, form, problem, hint in cases:
             said = f'label-table: row 2: column 2 ("x") {problem}: {hint}'

@@ -173,7 +173,7 @@ def made_up() -> Iterator[Any]:
     from labeltools.common.text import Text
 
     yield Printer("laser", "HP LaserJet 400", QUEUE, READY, True, "pdf")
-    yield Printer("office", "Kyocera Büro", QUEUE, REASONS["media-empty"], False, "pdf")
+    yield Printer("office", "Kyocera Büro", QUEUE, REASONS["media-empty"].what, False, "pdf")
     address = "192.168.1.40"
     yield Printer(f"tcp://{address}", "Zebra ZD421", NETWORK, Text("{}", address), True, "zpl", 203)
     yield Printer("/dev/usb/lp0", "lp0", USB, NOT_TRIED)

@@ -29,10 +29,11 @@ from labeltools.paper.stock import forget, list_stock
 from labeltools.printing.job import DRAWING_DPI, form_of, Job, planned, PrintOptions, refuse
 from labeltools.printing.press import check_count, labels_of, Prepared
 from labeltools.printing.selection import ranges_in, selection_of
-from labeltools.sending.cups import lp_line, Queue, queue_of, SentJob
+from labeltools.sending.cups import lp_line, Queue, queue_of, SentJob, UnknownJob
 from labeltools.sending.journal import Journal
 from labeltools.sending.network import address_of
 from labeltools.sending.outlets import Files, Outlet, OUTPUT, StandardOutput
+from labeltools.sending.papers import AS_GIVEN
 from labeltools.sending.sender import direct_outlet, labels_text, print_on, Sender
 
 TOOL = "label-print"
@@ -196,6 +197,8 @@ def add_output_options(group: Any) -> None:
     value(one, "--each", "NAME", str, each)
     queue = "print on this queue of CUPS, tcp://HOST or /dev/usb/lp0, not to standard output"
     value(one, "--print", "QUEUE", printer_of, queue, dest="queue")
+    given = "the printer takes this paper, up to its edge, even if its driver does not say so"
+    flag(group, "--paper-as-given", "is_paper_as_given", given)
     journal = "write each label into this file before it is sent; what is there is not sent again"
     value(group, "--journal", "FILE", not_empty, journal)
     again = "with --only or --only-code: print once more what the journal has of this printer"
@@ -262,7 +265,11 @@ def follow(sent: SentJob, text: Text, talk: CommandTalk) -> bool:
     the watching: the job goes on.
     """
     with hold_signals() as came:
-        state = sent.follow(talk.wait, came)
+        try:
+            state = sent.follow(talk.wait, came)
+        except UnknownJob as error:
+            write_message(TOOL, joined("; ", (text, error.what, error.hint)))
+            return False
         told = state.told
         if came and not state.is_over:
             told = Text("it goes on: cancel {} ends it", sent.number)
@@ -283,6 +290,9 @@ def check_way(job: Job, queue: Queue | None) -> None:
     """Raises `ToolError` where a queue does not print a job, or standard output is closed or would
     show a drawing.
     """
+    needless = job.options.is_paper_as_given and (queue is None or job.form.is_roll)
+    only = Text("{} is only for a PDF on a queue of CUPS", AS_GIVEN)
+    refuse(needless, only, Text("leave it out"))
     if queue is not None:
         queue.options(job)
     elif job.options.queue is None and not job.is_each:
@@ -342,8 +352,8 @@ def give_out(found: Prepared, talk: CommandTalk) -> int:
     known = len(sender.known - doubtful.keys())
     is_asked = options.is_summed or sys.stderr.isatty()
     if options.each is None and (known or options.queue or is_asked):
-        write_message(TOOL, summary_of(found.job, sender.taken, known))
-    return 1 if found.left_out or doubtful else 0
+        write_message(TOOL, summary_of(found.job, sender, known))
+    return 1 if found.left_out or doubtful or sender.is_stuck else 0
 
 
 def send_labels(sender: Sender, found: Prepared, talk: CommandTalk) -> None:
@@ -365,23 +375,21 @@ def send_labels(sender: Sender, found: Prepared, talk: CommandTalk) -> None:
             talk.say(Text("{}: {}, and these are all", sender.outlet.name, sender.so_far()))
 
 
-def summary_of(job: Job, taken: int, known: int) -> Text:
-    """Returns how many labels were written or sent, how many the journal had, and else the line
-    that prints a file.
+def summary_of(job: Job, sender: Sender, known: int) -> Text:
+    """Returns how many labels were written, sent or printed, how many the journal had, and else the
+    line that prints a file.
     """
     options = job.options
-    if known and not taken:
+    if known and not sender.taken:
         return counted(
             "nothing to print: {} label is in {} already",
             "nothing to print: {} labels are in {} already",
             known,
             options.journal,
         )
-    text = labels_text(taken)
-    if options.queue:
-        text = Text("{} taken by {}", text, options.queue)
+    text = sender.result() if options.queue else labels_text(sender.taken)
     if not job.form.is_roll:
-        text = Text("{} on {}", text, counted("{} page", "{} pages", job.pages_of(taken)))
+        text = Text("{} on {}", text, counted("{} page", "{} pages", job.pages_of(sender.taken)))
     if known:
         there = counted("{} label in {} already", "{} labels in {} already", known, options.journal)
         text = joined("; ", (text, there))

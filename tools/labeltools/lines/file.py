@@ -281,7 +281,8 @@ def object_of(line: bytes, name: str, number: int) -> dict[str, Any]:
     except (ValueError, RecursionError) as error:
         where = Text("{}: line {}", name, number)
         raise ToolError(
-            Text("{}: the remark is not a JSON object: the file is cut off or changed", where)
+            Text("{}: the remark is not a JSON object: the file is cut off or changed", where),
+            Text("make it again"),
         ) from error
     wrong = [key for key, value in found.items() if key not in KEYS or not is_of(value, KEYS[key])]
     wrong += [key for key in ONE_LINE if "\n" in str(found.get(key, ""))]

@@ -46,7 +46,8 @@ class PrintOptions:
 
     One of `stock`, `paper` and `cell` names the sheet. `only` are the labels that are printed, and
     `after` of them are on paper already; `note` is a line of text for all labels; `is_escaped` is
-    --escapes of labels(1); `queue` is any printer.
+    --escapes of labels(1); `queue` is any printer, and `is_paper_as_given` whether it takes the
+    paper to its edges, even if its driver does not say so.
     """
 
     lines: str | None = None
@@ -75,6 +76,7 @@ class PrintOptions:
     dpi: int | None = None
     each: str | None = None
     queue: str | None = None
+    is_paper_as_given: bool = False
     journal: str | None = None
     again: str | None = None
     is_stream: bool = False

@@ -124,5 +124,6 @@ def codes_named(argument: str) -> set[bytes]:
     found = {line.strip() for line in data.splitlines()}
     found.discard(b"")
     if not found:
-        raise ToolError(Text("{}: there is no code", argument[len(FILE) :]))
+        what = Text("{}: there is no code", argument[len(FILE) :])
+        raise ToolError(what, Text("write a code on each line"))
     return found

@@ -4,20 +4,31 @@ on which paper, a job that it prints dot for dot, and what becomes of that.
 
 import os
 import re
+import shlex
 import time
-from collections.abc import Callable, Iterator, Mapping, Sized
+from collections.abc import Callable, Container, Iterator, Mapping, Sequence, Sized
 from contextlib import contextmanager
 from dataclasses import dataclass, field
 from importlib import import_module
+from math import gcd
 from pathlib import Path
 from typing import Any, IO
+from urllib.parse import unquote, urlsplit
 
 from labeltools.common.messages import BAD_ARGUMENTS, ToolError
 from labeltools.common.text import either, joined, NOTHING, Remedy, Text
 from labeltools.drawing.forms import PDF
 from labeltools.paper.stock import Size
 from labeltools.printing.job import DRAWING_DPI, Job
-from labeltools.sending.papers import Papers, papers_of_driver, papers_of_ipp, PrinterPaper
+from labeltools.sending.answers import NO_PAPER, OPEN_COVER, Trouble
+from labeltools.sending.papers import (
+    FOOMATIC,
+    Papers,
+    papers_of_driver,
+    papers_of_ipp,
+    PrinterPaper,
+    Unsaid,
+)
 
 # sizes of paper that CUPS has names of, in millimetres
 NAMED = {
@@ -31,16 +42,26 @@ NAMED = {
 NEAR = 0.3  # millimetres by which a page may differ from a paper with a name
 DPI = re.compile(r"^(\d+)(?:x(\d+))?dpi")  # as drivers write it
 TOLD = re.compile(r"HWResolution\s*\[\s*(\d+)\S*\s+(\d+)")  # in the code that drivers run
+LEAST_DPI = 180  # of a printer of labels
+COMMAND_DOTS = re.compile(r"-r(\d+)(?:x(\d+))?")  # of a program that a driver runs
+UNKNOWN = 0, 0
 SECTIONS = range(6)  # of that code
+SETS_DOTS = re.compile(r'^\*(\w+)\s+[^:\n]+:\s*"[^"]*HWResolution', re.MULTILINE)  # an option
+USUAL_DPI = (203, 300, 600)  # of label printers and of others
 RESOLUTION = "Resolution"  # the option of drivers
 RAW = {"raw": "true"}
 NOTHING_CHOSEN: Mapping[str, str] = {}
 # what is said for each job, since a queue may have other defaults; of a job for the printer itself
-# only the first ones count
+# only the first ones count. The first sheet may have been used before, so it is printed first.
 ONCE = {"copies": "1", "job-sheets": "none,none"}
 PLAIN = {
     **ONCE,
     "page-set": "all",
+    "page-ranges": "1-",
+    "page-label": "",
+    "outputorder": "normal",
+    "output-order": "normal",
+    "position": "center",
     "number-up": "1",
     "sides": "one-sided",
     "mirror": "false",
@@ -55,8 +76,11 @@ PLAIN = {
 # options of drivers that the labels decide: their paper, and what turns, doubles or moves a page,
 # with the choices of it that do nothing
 PAPER = ("PageSize", "PageRegion")
-CHANGES = re.compile(r"(EF|JCL|KD03)?Duplex|(Lex)?Mirror(Print)?|NupPages|NUp|(KC)?Booklet")
-NO_CHANGE = ("None", "False", "Off", "No", "1")
+CHANGES = re.compile(
+    r"(EF|JCL|KD03)?Duplex|(Lex)?Mirror(Print)?|NupPages|NUp|(KC)?Booklet|(FX)?Layout|"
+    r"(Stp)?Orientation|Landscape|Rotate|Copies|StpiShrinkOutput"
+)
+NO_CHANGE = ("None", "False", "Off", "No", "1", "1up", "1Up", "1UP", "Portrait", "Crop")
 ADD_QUEUE = Text("add it in the settings of printers")
 NO_QUEUE = Text(
     "add it in the settings of printers; for one on USB give {}, for one in the network {}",
@@ -65,13 +89,16 @@ NO_QUEUE = Text(
 ).in_window(ADD_QUEUE)
 # how the reasons of IPP not to print begin
 REASONS = {
-    "paused": Text("it is paused"),
-    "media-empty": Text("it has no paper"),
-    "media-jam": Text("the paper is jammed"),
-    "cover-open": Text("a cover is open"),
-    "toner-empty": Text("it has no toner"),
-    "offline": Text("it is off, or not connected"),
+    "media-empty": NO_PAPER,
+    "media-jam": Trouble(Text("the paper is jammed"), Text("take it out")),
+    "cover-open": OPEN_COVER,
+    "toner-empty": Trouble(Text("it has no toner"), Text("put some in: it goes on by itself")),
+    "offline": Trouble(
+        Text("it is off, or not connected"), Text("is it switched on, and in the network?")
+    ),
 }
+NETWORK = ("socket", "ipp", "ipps", "http", "https", "lpd")  # devices with a host
+USB = "/dev/usb/lp0"
 PENDING, HELD, STOPPED, CANCELLED, ABORTED, COMPLETED = 3, 4, 6, 7, 8, 9  # of a job in IPP
 PRINTER_STOPPED = 5
 # what the backend of CUPS for IPP says of a printer that did not print a job which CUPS has passed
@@ -91,16 +118,18 @@ class Queue:
     name: str
     dpi: int
     words: Mapping[int, str]
-    uneven: tuple[int, int] = (0, 0)
+    uneven: tuple[int, int] = UNKNOWN
     papers: Papers = Papers()
     plain: Mapping[str, str] = field(default_factory=dict)
+    device: str = ""
+    common: int = 0
 
     def dpi_for(self, is_sheet: bool) -> int:
         """Returns the dots an inch of labels that are printed here, 0 if they are not known. Sheets
         take those of drawings if the driver has them, since narrow labels need them. Rolls take
         those of the queue: only who has set it up knows which printer is connected.
         """
-        known = {self.dpi, *self.words} - {0}
+        known = {self.dpi or self.common, *self.words} - {0}
         if is_sheet and (not known or any(dots % DRAWING_DPI == 0 for dots in known)):
             return DRAWING_DPI
         return self.dpi or max(known, default=0)
@@ -116,6 +145,7 @@ class Queue:
             if self.dpi and dpi not in (self.dpi, *self.words):
                 raise self.refusal(dpi)
             return RAW
+        self.check_dots(job)
         paper = self.paper(job)
         options = {"media": paper.name or media_of(job.plan.sheet.page)}
         if not self.dpi or self.dpi % dpi:
@@ -127,8 +157,32 @@ class Queue:
         return {**options, "print-scaling": "none"}
 
     def paper(self, job: Job) -> PrinterPaper:
-        """Returns the paper of a job; raises `ToolError` if the queue has none."""
-        return self.papers.paper(self.name, job.plan.sheet.page)
+        """Returns the paper of a job; raises `ToolError` if the queue has none, `Unsaid` if its
+        driver does not say whether it has.
+        """
+        is_given = job.options.is_paper_as_given
+        try:
+            return self.papers.paper(self.name, job.plan.sheet.page, is_given)
+        except Unsaid:
+            raise
+        except ToolError as error:
+            if not (job.plan.sheet.is_single and self.papers.is_office):
+                raise
+            hints = Text("{}; {}", error.hint, self.past_driver())
+            raise ToolError(error.what, hints, BAD_ARGUMENTS) from error
+
+    def check_dots(self, job: Job) -> None:
+        """Raises `Unsaid` where nobody says at which resolution a roll is printed: label printers
+        have few dots, and bars of others would be uneven.
+        """
+        if job.plan.sheet.is_single and not job.options.dpi and not self.dpi_for(False):
+            if any(self.uneven):
+                raise self.refusal(job.plan.dpi)
+            what = Text("{} does not tell its resolution", self.name)
+            known = [Remedy("dpi", str(dots), Text("{} dpi", dots)) for dots in USUAL_DPI]
+            hint = Text("look at its manual, and give {}", either(known))
+            instead = Text("look at its manual, and choose it")
+            raise Unsaid(what, hint.in_window(instead), BAD_ARGUMENTS)
 
     def check_language(self, job: Job) -> None:
         """Raises `ToolError` if a queue is that of an office printer, which would print the bytes
@@ -136,11 +190,24 @@ class Queue:
         """
         if self.papers.is_office:
             what = Text(
-                "{} is an office printer: it does not understand {}", self.name, job.form.name
+                "{} has the driver of an office printer, which prints {} as letters",
+                self.name,
+                job.form.name,
             )
-            hint = Text("give {}, or the printer of the labels", Remedy("to", "pdf"))
-            instead = Text("choose the printer of the labels")
-            raise ToolError(what, hint.in_window(instead), BAD_ARGUMENTS)
+            hint = Text("for an office printer give {}", Remedy("to", "pdf")).in_window(NOTHING)
+            raise ToolError(what, joined("; ", (hint, self.past_driver())), BAD_ARGUMENTS)
+
+    def past_driver(self) -> Text:
+        """Returns how a label printer takes labels whose queue has the driver of another one."""
+        device, ways = direct_ways(self.device)
+        line = f"lpadmin -p {self.name}-labels -E -v {shlex.quote(device)} -m raw"
+        to = Remedy("print", f"{self.name}-labels")
+        return Text(
+            "for a label printer give {}, or make a queue without a driver and give {}: {}",
+            either(Remedy("print", way) for way in ways),
+            to,
+            line,
+        ).in_window(Text("a label printer needs a queue without a driver: {}", line))
 
     def refusal(self, dpi: int) -> ToolError:
         """Returns why labels cannot be printed here."""
@@ -159,7 +226,8 @@ class Queue:
         """Returns what is reported of a job if it is not known at which resolution it is printed,
         or nothing.
         """
-        if self.dpi or job.form.is_roll or RESOLUTION in self.options(job):
+        is_exact = self.common and self.common % job.plan.dpi == 0
+        if self.dpi or is_exact or job.form.is_roll or RESOLUTION in self.options(job):
             return NOTHING
         return Text(
             "{} does not tell its resolution: scan one label before you use the rest", self.name
@@ -169,8 +237,8 @@ class Queue:
 @dataclass(frozen=True)
 class JobState:
     """What becomes of a job: what keeps it from paper, which may be nothing; what CUPS last said of
-    it, in its own words; whether it is over, and was printed; whether it waits for somebody; and
-    what else shows that it goes on.
+    it, in its own words; whether it is over, and was printed; whether it waits for somebody; what
+    else shows that it goes on; and what to do about what keeps it.
     """
 
     trouble: Text
@@ -179,6 +247,7 @@ class JobState:
     is_printed: bool = False
     is_waiting: bool = False
     marks: tuple[object, ...] = ()
+    cure: Text = NOTHING
 
     @property
     def told(self) -> Text:
@@ -187,21 +256,53 @@ class JobState:
             return Text("CUPS reports it as printed")
         if self.is_over:
             return Text("it was not printed: {}", self.trouble)
-        reasons = [*filter(None, (self.trouble, self.said))]
-        return joined(": ", (Text("it waits in the queue"), *reasons))
+        reasons = filter(None, (self.trouble, self.said))
+        waits = joined(": ", (Text("it waits in the queue"), *reasons))
+        return joined("; ", filter(None, (waits, self.cure)))
+
+
+class UnknownJob(ToolError):
+    """A job of which CUPS knows nothing any more: it keeps no jobs that are over, or has begun to
+    count again.
+    """
 
 
 @dataclass(frozen=True)
 class SentJob:
-    """A job that CUPS has taken: its queue and its number."""
+    """A job that CUPS has taken: its queue, its number, and when CUPS made it, in seconds (0: not
+    known). Its number alone does not tell: CUPS gives it to another job once it has forgotten all.
+    """
 
     queue: str
     number: int
+    created: int = 0
+
+    @property
+    def key(self) -> str:
+        """A text for the name of a file, from which `job_of` makes it again."""
+        return f"{self.number}.{self.created}.{self.queue}"
+
+    def attributes(self, cups: Any) -> Mapping[str, Any]:
+        """Returns what CUPS has of the job; raises `UnknownJob`."""
+        try:
+            found: Mapping[str, Any] = cups.getJobAttributes(self.number)
+        except cups_library().IPPError as error:
+            if error.args[0] != cups_library().IPP_NOT_FOUND:
+                raise
+            found = {}
+        queue = str(found.get("job-printer-uri", "")).rpartition("/")[2]
+        created = found.get("time-at-creation", 0)
+        if unquote(queue) == self.queue and self.created in (0, created):
+            return found
+        what = Text("CUPS does not know job {} of {} any more", self.number, self.queue)
+        raise UnknownJob(what, Text("look at the paper to see whether it was printed"))
 
     def state(self) -> JobState:
-        """Returns what CUPS reports of the job now; raises `ToolError`."""
+        """Returns what CUPS reports of the job now; raises `ToolError`, `UnknownJob` if it reports
+        nothing.
+        """
         with refusals(self.queue) as cups:
-            job = cups.getJobAttributes(self.number)
+            job = self.attributes(cups)
             printer = cups.getPrinterAttributes(self.queue)
         reasons = printer["printer-state-reasons"]
         state = job["job-state"]
@@ -216,17 +317,16 @@ class SentJob:
                 return JobState(NOTHING, said, True, True)
             what = Text("the printer refused job {}: {}", self.number, said)
             return JobState(what, said, True)
-        begins = ((reason, name) for reason in reasons for name in REASONS)
-        found = [REASONS[name] for reason, name in begins if reason.startswith(name)]
-        if state == HELD:
-            found.append(Text("job {} is held: {}", self.number, said))
+        found = trouble_of(self.queue, printer)
+        if state == HELD and found is None:
+            line = f"lp -i {self.queue}-{self.number} -H resume"
+            found = Trouble(Text("job {} is held: {}", self.number, said), lets_go_on(line))
+        trouble = Text("{}: {}", self.queue, found.what) if found else NOTHING
         is_stopped = printer["printer-state"] == PRINTER_STOPPED
-        if is_stopped and not found:
-            found.append(Text("it has stopped"))
-        trouble = Text("{}: {}", self.queue, found[0]) if found else NOTHING
         is_waiting = is_stopped or state in (HELD, STOPPED)
         marks = (state, job.get("job-media-sheets-completed"), *sorted(reasons))
-        return JobState(trouble, said, False, is_waiting=is_waiting, marks=marks)
+        cure = found.cure if found else NOTHING
+        return JobState(trouble, said, False, is_waiting=is_waiting, marks=marks, cure=cure)
 
     def follow(self, show: Callable[[Text], object], came: Sized = ()) -> JobState:
         """Looks at the job until it is over, or waits for somebody, or has shown nothing new for a
@@ -247,6 +347,24 @@ class SentJob:
         return state
 
 
+def trouble_of(queue: str, printer: Mapping[str, Any]) -> Trouble | None:
+    """Returns what keeps a queue from printing, by its attributes in CUPS; None if nothing does."""
+    reasons = printer.get("printer-state-reasons", ())
+    if any(reason.startswith("paused") for reason in reasons):
+        return Trouble(Text("it is paused"), lets_go_on(f"cupsenable {queue}"))
+    for name, trouble in REASONS.items():
+        if any(reason.startswith(name) for reason in reasons):
+            return trouble
+    if printer.get("printer-state") == PRINTER_STOPPED:
+        return Trouble(Text("it has stopped"), lets_go_on(f"cupsenable {queue}"))
+    return None
+
+
+def lets_go_on(line: str) -> Text:
+    """Returns what to do about a queue or job that waits for a command."""
+    return Text("{} lets it go on", line).in_window(Text("the settings of printers let it go on"))
+
+
 def queue_of(name: str, chosen: Mapping[str, str] = NOTHING_CHOSEN) -> Queue:
     """Returns what a queue says, with the options of its driver that are chosen for a job; raises
     `ToolError` if there is no such queue, or no CUPS.
@@ -258,38 +376,54 @@ def queue_of(name: str, chosen: Mapping[str, str] = NOTHING_CHOSEN) -> Queue:
         names = queues()
         if name in names:
             attributes = connection().getPrinterAttributes(name)
-            return Queue(name, 0, {}, papers=papers_of_ipp(attributes))
+            device = attributes.get("device-uri", "")
+            return Queue(name, 0, {}, papers=papers_of_ipp(attributes), device=device)
         hint = Text("the queues are {}", ", ".join(names)) if names else NO_QUEUE
         raise ToolError(Text("there is no queue {}", name), hint) from error
     try:
         driver = cups.PPD(path)
-        papers = papers_of_driver(Path(path).read_text(encoding="latin-1"))
+        text = Path(path).read_text(encoding="latin-1")
     finally:
         os.unlink(path)
     driver.markDefaults()
     for option, value in chosen.items():
         driver.markOption(option, value)
     own = dots_of(driver)
+    plain = plain_of(driver, {*SETS_DOTS.findall(text)})
+    words = resolutions_of(driver)
+    dpi = dpi_of(own)
+    device = connection().getPrinterAttributes(name).get("device-uri", "")
+    uneven = UNKNOWN if dpi else own
+    common = 0 if dpi or words else common_dots(text)
+    return Queue(name, dpi, words, uneven, papers_of_driver(text), plain, device, common)
+
+
+def resolutions_of(driver: Any) -> Mapping[int, str]:
+    """Returns the word of a driver for each resolution."""
     words = {}
     resolution = driver.findOption(RESOLUTION)
     for choice in reversed(resolution.choices if resolution else []):
         driver.markOption(RESOLUTION, choice["choice"])
         words[dpi_of(dots_of(driver))] = choice["choice"]
     words.pop(0, None)
-    dpi = dpi_of(own)
-    return Queue(name, dpi, words, (0, 0) if dpi else own, papers, plain_of(driver))
+    return words
 
 
-def plain_of(driver: Any) -> Mapping[str, str]:
+def plain_of(driver: Any, set_dots: Container[str]) -> Mapping[str, str]:
     """Returns the options of a driver that change where labels are, each with its choice that does
-    nothing.
+    nothing, and those that set its dots, each as it is marked: the quality of a job, which a queue
+    may have by another name, would change them.
     """
     options = [option for group in driver.optionGroups for option in group.options]
     found = {}
     for option in options:
-        choices = {choice["choice"] for choice in option.choices}
-        plain = [choice for choice in NO_CHANGE if choice in choices]
-        if CHANGES.fullmatch(option.keyword) and plain:
+        choices = {choice["choice"]: choice["marked"] for choice in option.choices}
+        if CHANGES.fullmatch(option.keyword):
+            plain = [choice for choice in NO_CHANGE if choice in choices]
+        else:
+            is_set = option.keyword in set_dots
+            plain = [choice for choice, is_marked in choices.items() if is_set and is_marked]
+        if plain:
             found[option.keyword] = plain[0]
     return found
 
@@ -305,6 +439,19 @@ def dpi_of(sides: tuple[int, int]) -> int:
     return 0 if least == 0 or most % least else least
 
 
+def common_dots(text: str) -> int:
+    """Returns the dots an inch of which each resolution of a driver of foomatic is a multiple, by
+    the programs that it runs; 0 if they are too few for labels, or not known. Labels of so many are
+    exact at each of them.
+
+    >>> common_dots('*cupsFilter: "foomatic-rip"\\n*X: "gs -r600 -sDEV&&\\nICE=x" "-r1500x900"')
+    300
+    """
+    found = COMMAND_DOTS.findall(text.replace("&&\n", "")) if FOOMATIC.search(text) else []
+    common = gcd(*(int(number) for pair in found for number in pair if number))
+    return common if common >= LEAST_DPI else 0
+
+
 def dots_of(driver: Any) -> tuple[int, int]:
     """Returns the dots an inch, across and down, that a driver prints with the options that are
     marked; 0 if it does not say them.
@@ -315,7 +462,7 @@ def dots_of(driver: Any) -> tuple[int, int]:
     code = "".join(driver.emitString(section, 0) or "" for section in SECTIONS)
     found = TOLD.findall(code) or DPI.findall(resolution_of(driver))
     if not found:
-        return 0, 0
+        return UNKNOWN
     across, down = found[-1]
     return int(across), int(down or across)
 
@@ -330,6 +477,23 @@ def resolution_of(driver: Any) -> str:
     if marked or driver.findAttr("FoomaticIDs") or not default:
         return "".join(marked)
     return str(default.value)
+
+
+def direct_ways(device: str) -> tuple[str, Sequence[str]]:
+    """Returns the address of a device for a queue without a driver, and where --print finds its
+    printer.
+
+    >>> direct_ways("ipp://10.0.0.5/ipp/print"), direct_ways("socket://till-3:9101")[1]
+    (('socket://10.0.0.5', ['tcp://10.0.0.5']), ['tcp://till-3:9101'])
+    """
+    parts = urlsplit(device)
+    if parts.scheme in NETWORK and parts.hostname:
+        host = parts.netloc if parts.scheme == "socket" else parts.hostname
+        host = host.rpartition("@")[2].removesuffix(":9100")
+        return f"socket://{host}", [f"tcp://{host}"]
+    if parts.scheme == "usb":
+        return device, [USB]
+    return "socket://HOST", ["tcp://HOST", USB]
 
 
 def lp_line(job: Job, name: str) -> str:
@@ -370,7 +534,22 @@ def print_by(
     path = f"/proc/self/fd/{file.fileno()}"
     options = job_options(job, queue, chosen)
     with refusals(queue.name) as cups:
-        return SentJob(queue.name, int(cups.printFile(queue.name, path, "labels", options)))
+        number = int(cups.printFile(queue.name, path, "labels", options))
+        try:
+            created = cups.getJobAttributes(number).get("time-at-creation", 0)
+        except cups_library().IPPError:  # it is over, and CUPS keeps none
+            created = int(time.time())
+        return SentJob(queue.name, number, created)
+
+
+def job_of(key: str) -> SentJob:
+    """Returns the job of a key; raises `ValueError` if it is none.
+
+    >>> job_of(SentJob("till.3", 7, 1764392400).key)
+    SentJob(queue='till.3', number=7, created=1764392400)
+    """
+    number, created, queue = key.split(".", 2)
+    return SentJob(queue, int(number), int(created))
 
 
 def job_options(job: Job, queue: Queue, chosen: Mapping[str, str]) -> Mapping[str, str]:

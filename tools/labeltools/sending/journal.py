@@ -151,7 +151,8 @@ class Journal:
         for number in range(1, 1 + MOST_LANES + len(left)):
             if number not in left and self.is_free(FAR + number):
                 return number
-        raise ToolError(Text("{}: {} runs print with it already", self.path, MOST_LANES))
+        what = Text("{}: {} runs print with it already", self.path, MOST_LANES)
+        raise ToolError(what, Text("wait until one of them has ended"))
 
     def is_free(self, byte: int) -> bool:
         """Locks a byte, and returns whether it was free."""

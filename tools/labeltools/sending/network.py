@@ -16,7 +16,16 @@ from contextlib import suppress
 
 from labeltools.common.messages import BAD_ARGUMENTS, ToolError
 from labeltools.common.text import Text
-from labeltools.sending.outlets import Broken, events_of, Outlet, Patience, STUCK, Unreachable
+from labeltools.sending.answers import Query, Reply
+from labeltools.sending.outlets import (
+    Broken,
+    events_of,
+    LOOK,
+    Outlet,
+    Patience,
+    STUCK,
+    Unreachable,
+)
 
 SCHEME = "tcp://"
 NAME = re.compile(r"tcp://(\[[0-9A-Fa-f:.%]+\]|[^\s/:\[\]]+)(?::([0-9]{1,5}))?/?", re.ASCII)
@@ -29,6 +38,8 @@ BREAK = 0  # no event but that a connection breaks off
 SHORT = 0.0005  # seconds between two looks, at first
 LONG = 0.02  # and later
 HEARD = 65_536  # bytes that are read at a time of what a printer says
+ANSWER = 1.0  # seconds in which a printer answers a question, if it does
+MOST_ANSWER = 4096  # bytes of an answer
 
 
 def address_of(name: str) -> tuple[str, int]:
@@ -56,6 +67,7 @@ class NetworkPrinter(Outlet):
         self.name = name
         self.stuck = stuck
         self.line: socket.socket | None = None
+        self.has_sent = False  # labels, by this connection
 
     def open(self) -> socket.socket:
         """Returns the connection, which is made where there is none, or the printer has ended it;
@@ -71,6 +83,7 @@ class NetworkPrinter(Outlet):
                 hint = Text("is it switched on, and in the network?")
                 raise Unreachable(Text("{}: {}", self.name, reason), hint) from error
             self.line.setblocking(False)
+            self.has_sent = False
         return self.line
 
     def send(self, data: bytes) -> None:
@@ -78,6 +91,7 @@ class NetworkPrinter(Outlet):
         `Broken`.
         """
         line = self.line or self.open()
+        self.has_sent = True
         try:
             self.push(line, data)
         except OSError as error:
@@ -109,6 +123,41 @@ class NetworkPrinter(Outlet):
                 time.sleep(pause)
             pause = min(2 * pause, LONG)
         require_whole(line)
+
+    def ask(self, question: Query) -> Reply | None:
+        """Returns what the printer answers to a question; None if it gives no answer in a second,
+        or somebody stops the work. Raises `Unreachable`, and `Broken` if it breaks off.
+        """
+        line = self.line or self.open()
+        try:
+            with suppress(BlockingIOError):
+                line.recv(HEARD)  # what it said before
+            # to a question it would break off, as if it had thrown labels away
+            if events_of(line.fileno(), select.POLLRDHUP, REGRET if self.has_sent else FIRST):
+                return None
+            with suppress(BlockingIOError):
+                line.send(question.data)
+            return self.heard(line, question)
+        except OSError as error:
+            self.drop()
+            raise Broken(Text("{}: the printer broke off", self.name)) from error
+
+    def heard(self, line: socket.socket, question: Query) -> Reply | None:
+        """Returns the answer to a question that was sent; raises `OSError`."""
+        heard = b""
+        end = time.monotonic() + ANSWER
+        while time.monotonic() < end and not self.came and len(heard) < MOST_ANSWER:
+            if not events_of(line.fileno(), select.POLLIN, min(LOOK, ANSWER)):
+                continue
+            data = line.recv(HEARD)
+            if not data:  # it has ended the connection
+                if not self.has_sent:
+                    self.drop()
+                return None
+            heard += data
+            if answer := question.read(heard):
+                return answer
+        return None
 
     def close(self) -> None:
         """Ends the connection after what was sent; raises `Broken` where the printer breaks it off.

@@ -19,6 +19,7 @@ from labeltools.common.files import save, temporary, Unwritten, write_whole
 from labeltools.common.messages import ToolError
 from labeltools.common.process import hold_signals, standard_output
 from labeltools.common.text import NOTHING, Text
+from labeltools.sending.answers import Query, Reply
 
 OUTPUT = "standard output"
 STUCK = 60.0  # seconds in which a printer takes nothing
@@ -73,6 +74,10 @@ class Outlet:
         if a part of it may have gone out.
         """
         raise NotImplementedError
+
+    def ask(self, _question: Query) -> Reply | None:
+        """Returns what a printer answers to a question; None if it does not. Raises `Broken`."""
+        return None
 
     def close(self) -> None:
         """Ends the way out after what was sent; raises `Broken` if it broke off before."""

@@ -11,7 +11,7 @@ from typing import NamedTuple
 
 from labeltools.checking.compare import turned
 from labeltools.common.messages import BAD_ARGUMENTS, ToolError
-from labeltools.common.text import counted, give, Remedy, Text
+from labeltools.common.text import counted, give, joined, NOTHING, Remedy, Text
 from labeltools.designs.svg_layout import SvgLayout
 from labeltools.layout.layout import LaidOut
 from labeltools.paper.box import Box
@@ -35,19 +35,36 @@ SIDE = re.compile(
     re.MULTILINE,
 )
 MARGINS = re.compile(r"^\*HWMargins:" + NUMBER * 4, re.MULTILINE)
+FOOMATIC = re.compile(r"^\*cupsFilter2?:.*\bfoomatic-rip\b", re.MULTILINE)
+GENERAL = (18.0, 36.0, 18.0, 36.0)  # points: foomatic writes these edges where nobody told any
 # a name of PWG 5101.1, such as na_letter_8.5x11in; custom_min_ and custom_max_ have the ends
 PWG = re.compile(r"(custom_min|custom_max|.*)_([0-9.]+)x([0-9.]+)(mm|in)", re.ASCII)
 UNITS = {"mm": 1.0, "in": MILLIMETRES}
 SIDES = ("left", "top", "right", "bottom")
+AS_GIVEN = Remedy("paper-as-given", says=Text("Print on this paper"))
+KEEP_AWAY = Text("Keep labels away from the edge")
+SHEETS = Text(
+    "for labels on sheets give {}, or {} with {} and {}",
+    *map(Remedy, ("stock", "cell", "columns", "rows")),
+).in_window(NOTHING)
 HUNDREDTHS = 100.0
 
 
+class Unsaid(ToolError):
+    """What a driver does not say, and the user may know: whether labels fit on a paper. They are
+    printed with `is_paper_as_given` in the options.
+    """
+
+
 class PrinterPaper(NamedTuple):
-    """A paper: its name, its sides, and the edges on which nothing is printed."""
+    """A paper: its name, its sides, and the edges on which nothing is printed; whether these edges
+    are only those that a driver has for any printer.
+    """
 
     name: str
     size: Size
     white: Edges
+    is_general: bool = False
 
 
 @dataclass(frozen=True)
@@ -60,6 +77,7 @@ class Papers:
     least: Size = (0.0, 0.0)
     most: Size = (0.0, 0.0)
     white: Edges = NO_EDGES
+    is_general: bool = False
 
     @property
     def is_office(self) -> bool:
@@ -78,12 +96,13 @@ class Papers:
         widest = max((side for paper in self.known for side in paper.size), default=math.inf)
         ends = zip(self.least, page, (min(self.most[0], widest), self.most[1]))
         if all(least - NEAR <= side <= most + NEAR for least, side, most in ends):
-            return PrinterPaper("", page, self.white)
+            return PrinterPaper("", page, self.white, self.is_general)
         return None
 
-    def paper(self, printer: str, page: Size) -> PrinterPaper:
+    def paper(self, printer: str, page: Size, is_given: bool = False) -> PrinterPaper:
         """Returns the paper of a page; raises `ToolError` where a printer has none. One of which
-        nothing is known has each.
+        nothing is known has each; one that says it is too small, where it takes any other size, is
+        taken if it `is_given`, else that is `Unsaid`.
         """
         if not self.known:
             return PrinterPaper("", page, NO_EDGES)
@@ -94,15 +113,27 @@ class Papers:
         other = (page[1], page[0])
         if self.find(other):
             hint = Text("it has {}: give the sides in this order", size_text(other))
-        else:
-            near = min((paper.size for paper in self.known), key=lambda size: apart(size, page))
-            nearest = size_text(near)
-            hint = Text(
-                "the nearest that it has is {}; for labels on sheets give {}, or {} with {} and {}",
-                nearest,
-                *map(Remedy, ("stock", "cell", "columns", "rows")),
-            ).in_window(Text("the nearest that it has is {}", nearest))
+            raise ToolError(what, hint, BAD_ARGUMENTS)
+        if self.is_below(page):
+            if is_given:
+                return PrinterPaper("", page, self.white, self.is_general)
+            raise self.unsaid(printer, page)
+        near = min((paper.size for paper in self.known), key=lambda size: apart(size, page))
+        nearest = Text("the nearest that it has is {}", size_text(near))
+        hint = joined("; ", (nearest, SHEETS)).in_window(nearest)
         raise ToolError(what, hint, BAD_ARGUMENTS)
+
+    def is_below(self, page: Size) -> bool:
+        """Returns whether a page is too small for a printer that takes others of any size. Such
+        drivers send it all the same, and many printers take it.
+        """
+        return self.find((max(page[0], self.least[0]), max(page[1], self.least[1]))) is not None
+
+    def unsaid(self, printer: str, page: Size) -> Unsaid:
+        """Returns that a page is smaller than what a driver says that a printer takes."""
+        what = Text("{} says that it takes no paper below {}", printer, size_text(self.least))
+        given = Text("if it takes {} all the same give {}", size_text(page), AS_GIVEN)
+        return Unsaid(what, joined("; ", (given.in_window(NOTHING), SHEETS)), BAD_ARGUMENTS)
 
 
 def is_near(one: Size, other: Size) -> bool:
@@ -123,20 +154,23 @@ def papers_of_driver(text: str) -> Papers:
     [('A4', 12.7)]
     """
     text = text.replace("\r\n", "\n").replace("\r", "\n")
+    has_general = FOOMATIC.search(text) is not None
     printed = {found[1]: in_millimetres(found.groups()[1:]) for found in PRINTED.finditer(text)}
     known = []
     for found in DIMENSION.finditer(text):
         width, height = in_millimetres(found.groups()[1:])
         left, bottom, right, top = printed.get(found[1], [0.0, 0.0, width, height])
-        white = (left, height - top, width - right, bottom)
-        known.append(PrinterPaper(found[1], (width, height), at_least_none(white)))
+        white = at_least_none((left, height - top, width - right, bottom))
+        is_general = has_general and are_general(white)
+        known.append(PrinterPaper(found[1], (width, height), white, is_general))
     sides = {found[1]: in_millimetres(found.groups()[1:]) for found in SIDE.finditer(text)}
     if not CUSTOM.search(text) or len(sides) < len(("Width", "Height")):
         return Papers(known)
     ends = tuple(zip(sides["Width"], sides["Height"]))
     margins = MARGINS.search(text)
     left, bottom, right, top = in_millimetres(margins.groups()) if margins else NO_EDGES
-    return Papers(known, ends[0], ends[1], (left, top, right, bottom))
+    white = (left, top, right, bottom)
+    return Papers(known, ends[0], ends[1], white, has_general and are_general(white))
 
 
 def papers_of_ipp(attributes: Mapping[str, object]) -> Papers:
@@ -174,6 +208,11 @@ def in_millimetres(numbers: Iterable[str]) -> list[float]:
     return [float(number) * POINT for number in numbers]
 
 
+def are_general(white: Edges) -> bool:
+    """Returns whether edges are those that foomatic has for any printer."""
+    return all(abs(side - points * POINT) < NEAR for side, points in zip(white, GENERAL))
+
+
 def at_least_none(white: Edges) -> Edges:
     """Returns edges of which none is beyond the paper."""
     left, top, right, bottom = (max(0.0, side) for side in white)
@@ -182,8 +221,10 @@ def at_least_none(white: Edges) -> Edges:
 
 def check_edges(printer: str, paper: PrinterPaper, found: Prepared) -> None:
     """Raises `ToolError` where codes or letters are on the edges of a paper on which a printer
-    prints nothing.
+    prints nothing; `Unsaid` where these are general ones.
     """
+    if paper.is_general and found.job.options.is_paper_as_given:
+        return
     plan, area = found.job.plan, found.laid_out.area
     left, top = (round((side - HIDDEN) / plan.dot) for side in paper.white[:2])
     right = plan.page[0] - round((paper.white[2] - HIDDEN) / plan.dot)
@@ -204,10 +245,21 @@ def check_edges(printer: str, paper: PrinterPaper, found: Prepared) -> None:
     )
     if cut:
         edges = ",".join(f"{math.ceil(10 * side) / 10:g}" for side in paper.white)
-        what = counted("{} label would be cut", "{} labels would be cut", cut)
+        raise cut_error(printer, cut, edges, paper.is_general)
+
+
+def cut_error(printer: str, count: int, edges: str, is_general: bool) -> ToolError:
+    """Returns that a printer would cut labels at its edges, or may if it does not say its own."""
+    if not is_general:
+        cut = counted("{} label would be cut", "{} labels would be cut", count)
         where = Text("{} prints nothing on the edge of this paper", printer)
-        hint = give(Remedy("edge", edges, Text("Keep labels away from the edge")))
-        raise ToolError(Text("{}: {}", where, what), hint, BAD_ARGUMENTS)
+        hint = give(Remedy("edge", edges, KEEP_AWAY))
+        return ToolError(Text("{}: {}", where, cut), hint, BAD_ARGUMENTS)
+    may = counted("{} label may be cut", "{} labels may be cut", count)
+    where = Text("{} does not say how near to the edge it prints", printer)
+    edge = Remedy("edge", edges, KEEP_AWAY)
+    hint = Text("give {} if it prints up to the edge, or {}", AS_GIVEN, edge).in_window(NOTHING)
+    return Unsaid(Text("{}: {}", where, may), hint, BAD_ARGUMENTS)
 
 
 def boxes_of(item: LaidOut) -> Iterator[Box]:

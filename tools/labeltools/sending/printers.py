@@ -15,9 +15,8 @@ from labeltools.drawing.forms import PDF
 from labeltools.sending.cups import (
     connection,
     cups_library,
-    PRINTER_STOPPED,
     queues,
-    REASONS,
+    trouble_of,
 )
 from labeltools.sending.network import SCHEME
 
@@ -73,19 +72,15 @@ def queues_of_cups(known: Known) -> Iterator[Printer]:
         shown = about.get("printer-info") or name
         is_raw = RAW in about.get("printer-make-and-model", "")
         form = kept.get("to", "" if is_raw else PDF.name)
-        state, is_ready = state_of(about)
+        state, is_ready = state_of(name, about)
         yield Printer(name, shown, QUEUE, state, is_ready, form, int(kept.get("dpi", 0)))
 
 
-def state_of(about: Mapping[str, Any]) -> tuple[Text, bool]:
+def state_of(name: str, about: Mapping[str, Any]) -> tuple[Text, bool]:
     """Returns the state of a queue in words, and whether it prints now."""
-    reasons = about.get("printer-state-reasons", ())
-    if found := [REASONS[name] for one in reasons for name in REASONS if one.startswith(name)]:
-        return found[0], False
-    state = about.get("printer-state")
-    if state == PRINTER_STOPPED:
-        return REASONS["paused"], False
-    return (PRINTING if state == PROCESSING else READY), True
+    if trouble := trouble_of(name, about):
+        return trouble.what, False
+    return (PRINTING if about.get("printer-state") == PROCESSING else READY), True
 
 
 def direct_printer(key: str, way: str, kept: Mapping[str, str]) -> Printer:

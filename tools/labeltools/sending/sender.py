@@ -28,6 +28,7 @@ from labeltools.sending.outlets import (
     Untaken,
 )
 from labeltools.sending.papers import check_edges
+from labeltools.sending.watch import Watch
 
 
 class Unfinished(ToolError):
@@ -62,6 +63,7 @@ class Sender:
         self.way: object = None
         self.done = 0  # labels of the input, with those that are on paper or in the journal
         self.taken = 0
+        self.watch: Watch | None = None  # of a printer that takes labels one by one, in a run
         self.known: set[bytes] = set()  # the codes that the journal had
         self.is_at_end = False  # whether standard output takes no more
 
@@ -73,6 +75,8 @@ class Sender:
         prints = found.prints
         self.outlet.came = came
         self.outlet.say = talk.say
+        if self.outlet.is_direct:
+            self.watch = Watch(self.outlet, found.job.form.name, talk)
         self.done = found.job.options.after
         for part in press.parts(prints):
             try:
@@ -88,7 +92,15 @@ class Sender:
                 raise told from error
             self.done += part.count
             talk.go_on(self.done - found.job.options.after, len(prints))
-        self.before(self.outlet.close)
+        self.before(self.end)
+
+    def end(self) -> None:
+        """Ends the way out, once a printer that answers has printed all labels, or does not go on;
+        raises `Broken`.
+        """
+        if self.watch is not None and self.taken:
+            self.watch.end()
+        self.outlet.close()
 
     def before(self, act: Callable[[], Any]) -> Any:
         """Returns what is done before a label, or after the last one; raises `ToolError` in place
@@ -110,6 +122,8 @@ class Sender:
             self.known.add(record.code)  # as it was when the journal was last read
             return 0
         document = press.document(part, is_first)
+        if self.way is None and self.watch is not None:
+            self.before(self.watch.begin)
         way = self.before(self.outlet.open)
         if way != self.way:
             self.way = way
@@ -216,6 +230,18 @@ class Sender:
             "{} may be missing: look there, and print what is missing with {}", labels, again
         )
 
+    def result(self) -> Text:
+        """Returns what is reported of the labels that were sent to a printer."""
+        labels = labels_text(self.taken)
+        if self.watch is not None:
+            return self.watch.told(labels)
+        return Text("{} sent to {}", labels, self.outlet.name)
+
+    @property
+    def is_stuck(self) -> bool:
+        """Whether a printer says that it does not print the labels that it has taken."""
+        return self.watch is not None and self.watch.is_stuck
+
     def doubt(self, record: LineRecord) -> Text:
         """Returns what to do about a label that was sent, but is not known to be taken; nothing if
         it is.
@@ -278,7 +304,7 @@ def send_to(found: Prepared, printer: str, talk: Talk, came: Sized = ()) -> Text
     """
     sender = Sender(direct_outlet(printer))
     sender.send_all(found, talk, came)
-    return Text("{} taken by {}", labels_text(sender.taken), printer)
+    return sender.result()
 
 
 def save_to(found: Prepared, path: Path, talk: Talk) -> None:

@@ -286,7 +286,8 @@ def refuse_no_value(text: str) -> None:
     if "+" in bare and IS_ROUNDED_DATA.fullmatch(bare):
         raise RowError(Text("has {}: {}", quoted(text), ROUNDED), ROUNDED_HINT)
     if not bare[:1].isdigit() and is_error(bare):
-        raise RowError(Text("has {}, which a program writes if it has no value", quoted(text)))
+        what = Text("has {}, which a program writes if it has no value", quoted(text))
+        raise RowError(what, Text("fill in the value"))
 
 
 def is_error(text: str) -> bool:
@@ -304,9 +305,8 @@ def is_error(text: str) -> bool:
 
 def no_value(text: str) -> RowError:
     """Returns the error of an error's name."""
-    return RowError(
-        Text("has {}, which the spreadsheet writes if it has no value to show", quoted(text))
-    )
+    what = Text("has {}, which the spreadsheet writes if it has no value to show", quoted(text))
+    return RowError(what, Text("correct its formula"))
 
 
 def plain_text(cell: str) -> str:
@@ -337,6 +337,5 @@ def refuse_unseen(bare: str, text: str, unseen: re.Pattern[str]) -> None:
     for character in bare.replace(" ", ""):
         name = f"{unicodedata.category(character)} {unicodedata.name(character, '')}"
         if unseen.match(name):
-            raise RowError(
-                Text("has {} in the cell {}, which nobody sees", named(character), quoted(text))
-            )
+            what = Text("has {} in the cell {}, which nobody sees", named(character), quoted(text))
+            raise RowError(what, Text("delete it"))

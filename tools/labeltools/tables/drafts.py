@@ -245,7 +245,8 @@ class DraftReader:
             return None
         found = column.mark(row)
         if any(letter.isdigit() for letter in found):
-            raise column.error(RowError(Text("has {}, which is not a currency", quoted(found))))
+            what = Text("has {}, which is not a currency", quoted(found))
+            raise column.error(RowError(what, Text("write it as EUR or €")))
         is_known = currency_of(plain_signs(found), self.options.prices.currency_name) is not None
         if found and not is_known:
             said = Text("row {} has the currency {}, which is not known", row.number, quoted(found))

@@ -409,7 +409,8 @@ def title_columns(columns: Mapping[int, ColumnSample], cells: Sequence[Sequence[
     filled = max((one.filled if groups[at] is None else 1 for at, one in named.items()), default=1)
     best = [at for at, one in texts.items() if one.title_rank == first or one.filled > 2 * filled]
     short = [at for at in best if texts[at].says("short")]
-    short = short or [at for at in best if not texts[at].says("long")] or best
+    plain = [at for at in best if not texts[at].says("short", "long")]
+    short = plain if plain and first[:1] == (0,) else short or plain or best
     if len(short) != 1:
         return Places(best)
     may_be = [at for at, one in texts.items() if one.says(*TITLES) or at in short]

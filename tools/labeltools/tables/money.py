@@ -21,11 +21,13 @@ NO_CURRENCY = "¤"  # ISO 8859-15 has its € where other encodings have this si
 MOST_BARE_DIGITS = 8  # of a price; a price that has so many ends in a zero
 MOST_WHOLE_DIGITS = 12
 MOST_DECIMALS = 6  # of a price that is printed as it stands
+NO_PRICE = Text("if it is a code, choose another column")
 OTHER_WORDS = Text("has words that are not part of a price")
 ANY_TEXT = Remedy("price-text", says=Text("Prices may be any text"))
 OTHER_WORDS_HINT = Text("give {} if it is right", ANY_TEXT).in_window(NOTHING)
 FORMAT_HINT = Text("give {}", Remedy("price-as")).in_window(Text("choose how prices are printed"))
 SEPARATORS = Text("has a number whose separators are not understood")
+SEPARATORS_HINT = Text("write it as 1234,50 or 1234.50")
 SEVERAL = Text("has several numbers")
 # signs that are one for the grammar; NFKC would make 399 of a price with raised decimals
 SPACES = (
@@ -242,7 +244,7 @@ def plain_price(text: str) -> str:
         has_word = re.search(r"[^\W\d_]{2}", bare) is not None
         raise NotMoney(Text("has no number"), OTHER_WORDS_HINT if has_word else NOTHING)
     if re.search("[%‰٪]", bare):
-        raise NotMoney(Text("is a percentage"))
+        raise NotMoney(Text("is a percentage"), Text("write the price itself"))
     return bare
 
 
@@ -288,7 +290,7 @@ def number_in(bare: str, own: str, most_decimals: int) -> Money:
     begin = begin_of(bare)
     found = NUMBER.match(bare, begin)
     if not found:
-        raise NotMoney(SEPARATORS)
+        raise NotMoney(SEPARATORS, SEPARATORS_HINT)
     before = bare[:begin]
     behind = bare[found.end() :]
     check_behind(behind)
@@ -328,11 +330,11 @@ def check_behind(behind: str) -> None:
     """Raises `NotMoney` where another number, or a sign of this one, follows a number."""
     if not re.search("[0-9]", behind):
         if re.match(r"[.,:/'](?!-)\Z", behind):
-            raise NotMoney(SEPARATORS)
+            raise NotMoney(SEPARATORS, SEPARATORS_HINT)
         return
     is_second = re.match(" ?[-/]", behind)
     if not is_second and re.match(r"[.,:']?[0-9]|[.,:'](?!-)[^ ]*[0-9]", behind):
-        raise NotMoney(SEPARATORS)
+        raise NotMoney(SEPARATORS, SEPARATORS_HINT)
     raise NotMoney(SEVERAL)
 
 
@@ -383,7 +385,7 @@ def around_of(before: str, behind: str, own: str) -> tuple[set[str], list[str]]:
             elif code == "cent" or all(is_same(code, one) for one in currencies):
                 currencies.add(code)
             else:
-                raise NotMoney(Text("has two currencies"))
+                raise NotMoney(Text("has two currencies"), Text("write only one of them"))
     return currencies, words
 
 
@@ -406,7 +408,7 @@ def amount_of(found: re.Match[str]) -> Amount:
     point = found["point"] or ""
     group = found["group"] or ("," if "," in found["whole"] else "")
     if group and group == point:
-        raise NotMoney(SEPARATORS)
+        raise NotMoney(SEPARATORS, SEPARATORS_HINT)
     has_one = group in (".", ",") and found["whole"].count(group) == 1
     if has_one and whole[0] == "0" and not point:  # 0.125 has decimals
         return Amount("0", whole[1:], group, "", False, False)
@@ -419,14 +421,14 @@ def check_amount(amount: Amount, has_currency: bool, is_plain: bool, most_decima
     """Raises `NotMoney` for a number that is no price's."""
     whole = amount.whole
     if amount.point == ":" and not has_currency:
-        raise NotMoney(Text("may be a time"))
+        raise NotMoney(Text("may be a time"), Text("write it with a comma or a point"))
     if len(whole) > 1 and whole[0] == "0":
-        raise NotMoney(Text("begins with zeros, as a code does"))
+        raise NotMoney(Text("begins with zeros, as a code does"), NO_PRICE)
     is_round = len(whole) < MOST_BARE_DIGITS or len(whole) == MOST_BARE_DIGITS and whole[-1] == "0"
     if is_plain and not has_currency and not is_round:
         raise NotMoney(
             Text("is {} digits without a separator or a currency", len(whole)),
-            Text("if it is a code, choose another column"),
+            NO_PRICE,
         )
     if len(amount.decimals) > most_decimals or len(whole) > MOST_WHOLE_DIGITS:
         raise NotMoney(Text("has too many digits"), FORMAT_HINT)

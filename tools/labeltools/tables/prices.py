@@ -143,7 +143,8 @@ def settled(price: Money, column: PriceColumn) -> Money:
         return replace(price, is_open=False)
     if not column.has_three_decimals and price.currency not in WITH_THREE_DECIMALS:
         raise NotMoney(
-            Text("has three digits after {}, which is the decimal sign of its column", price.group)
+            Text("has three digits after {}, which is the decimal sign of its column", price.group),
+            Text("write two decimals"),
         )
     return with_three_decimals(price)
 
@@ -293,7 +294,8 @@ def currency_of_row(price: Money, currency: str) -> str:
     """
     row = currency_of(plain_signs(currency), plain_signs(currency)) or "" if currency else ""
     if currency and price.currency not in ("", "cent") and not is_same(price.currency, row):
-        raise NotMoney(Text("has {}, and its row has {}", price.currency, currency))
+        what = Text("has {}, and its row has {}", price.currency, currency)
+        raise NotMoney(what, Text("write the same currency in both"))
     return row
 
 
@@ -312,7 +314,8 @@ def with_currency(price: Money, text: str, currency: str | None) -> str:
     if price.currency:
         return text
     if not currency:
-        raise NotMoney(Text("has no currency, and its row has none"))
+        what = Text("has no currency, and its row has none")
+        raise NotMoney(what, Text("write it into one of them"))
     bare = text.rstrip().removesuffix(price.end)
     unit = PER_UNIT.search(bare) if price.unit else None
     if unit is None:

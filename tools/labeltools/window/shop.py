@@ -20,7 +20,7 @@ from labeltools.common.text import NOTHING, Remedy, Text
 from labeltools.lines.file import first_remark, label_lines, last_remark, LineRecord, read_lines
 from labeltools.printing.job import planned
 from labeltools.printing.press import labels_of, Prepared
-from labeltools.sending.cups import SentJob
+from labeltools.sending.cups import job_of, SentJob
 from labeltools.sending.sender import labels_text
 from labeltools.tables.guess import guess_of
 from labeltools.tables.money import NotMoney, parse
@@ -191,7 +191,7 @@ class Table:
         """Keeps the lines of the labels of a job until it is known whether they were printed, for a
         later window too; returns their file.
         """
-        path = self.printed.with_suffix(f".{job.number}.{job.queue}{WAITING}")
+        path = self.printed.with_suffix(f".{job.key}{WAITING}")
         with suppress(OSError):
             path.parent.mkdir(parents=True, exist_ok=True)
             path.write_bytes(file_of(self.records_of(made, sent)) if self.key else b"")
@@ -209,8 +209,8 @@ class Table:
         """Returns the jobs of which it is not known yet whether they were printed."""
         found = {}
         for path in sorted(memory.FOLDER.glob(f"{self.printed.stem}.*{WAITING}")):
-            _, number, queue = path.name.removesuffix(WAITING).split(".", 2)
-            found[SentJob(queue, int(number))] = path
+            with suppress(ValueError):  # of another version
+                found[job_of(path.name.removesuffix(WAITING).partition(".")[2])] = path
         return found
 
     def settle(self) -> None:
