@@ -35,7 +35,7 @@ LANGUAGES = ("zpl", "escpos")  # of printers that take labels one by one
 USUAL_DPI = 203  # of these printers
 DRAWING_DPI = 600
 TEST = b'#{"title":"Test","price":"1,00"}\ncode128 TEST-123\n'
-Row = tuple[str, str, str, str]  # of the list: a name, an icon, a state, a key
+Shown = tuple[str, str, str, str]  # of the list: a name, an icon, a state, a key
 TEST_SIZE = "50x25"  # millimetres of a test label
 
 
@@ -246,7 +246,7 @@ class Printers:
         self.window.new_said.set_text(text)
 
 
-def show_rows(model: Any, rows: Sequence[Row]) -> None:
+def show_rows(model: Any, rows: Sequence[Shown]) -> None:
     """Shows rows in a list, which may be open: it is made anew only for other printers."""
     if [row[3] for row in model] != [row[3] for row in rows]:
         model.clear()
