@@ -130,8 +130,14 @@ class Printers:
         elif printer.form in LANGUAGES:
             self.decide(printer.form, printer.dpi or USUAL_DPI, True)
         else:
+            self.window.has_labels = False  # they are for another printer
+            self.window.let_out(False)
             future = self.thread.submit(queue_of, key)
             future.add_done_callback(partial(GLib.idle_add, self.decide_by_queue, key))
+
+    def close(self) -> None:
+        """Looks for no printers any more."""
+        self.thread.shutdown(wait=False)
 
     def on_chosen(self, key: str) -> None:
         """Does what is chosen in the list by the keeper."""
@@ -144,7 +150,11 @@ class Printers:
 
     def decide_by_queue(self, key: str, future: "Future[Queue]") -> None:
         """Makes the labels for a queue, whose driver is known now."""
-        if key != self.wanted or future.exception() is not None:
+        if key != self.wanted or not self.window.get_visible():
+            return
+        error = future.exception()
+        if isinstance(error, ToolError):
+            self.window.show_problem(error)
             return
         queue = future.result()
         is_roll = bool(queue.papers.known) and not queue.papers.is_office
