@@ -468,7 +468,7 @@ class WindowTest(Keeper):
                 self.window.ways.send_to(printer.name, self.window.made.labels)
                 self.until(self.problem)
                 self.pressed("Go on with label 3", is_there)
-                self.until(lambda: f"taken by {printer.name}" in self.said())
+                self.until(lambda: f"printed by {printer.name}" in self.said())
                 printer.wait(len(printed))
                 plain = self.by_columns("--paper", "60x40", "--to", "zpl", "--dpi", "600")
                 wanted = re.findall(rb"\^XA.*?\^XZ\n", plain, re.DOTALL)
