@@ -78,6 +78,7 @@ CHANGED = {
         ("crates/command/README.md", "\n", "\n\n", "crates/command/README.md:1: 41 lines, and at most 40"),
         ("docs/PRINTING.md", END, f"\n```sh\nlabels\n{END}", "this block is not closed"),
         ("docs/WINDOW.md", END, f"\n```sh\nlabels\n```\n{END}", "nothing runs the commands of this page"),
+        ("docs/TICKETS.md", END, f"\n{'<' * 7} HEAD\n{END}", "a merge left: <<<<<<< HEAD"),
         ("docs/INPUT.md", "](PRINTING.md", "](PRINTIN.md", "a link to no file: PRINTIN.md"),
         ("designs/README.md", "](jar-38x21.svg", "](jar.svg", "a link to no file: jar.svg"),
         ("docs/INPUT.md", END, f"\n~~~rust\nfn a() {{}}\n~~~\n{END}", "no script reads blocks of ~~~"),
