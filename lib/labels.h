@@ -1,6 +1,6 @@
 /* liblabels: bar codes and QR codes, drawn and read back by proved code.
  *
- * EAN-13, EAN-8, UPC-A, Code 128 and QR versions 1 to 10, as a picture (plain PBM or text), as bits, or as modules of a
+ * EAN-13, EAN-8, UPC-A, Code 128 and QR versions 1 to 10, as a picture (plain PBM or text), a bitmap, or modules of a
  * byte each, of data or of a line of text; and the data of dots. The manual is labels(3); lines and options are those
  * of labels(1).
  *
@@ -123,7 +123,7 @@ typedef struct labels_dots {
     uint32_t reserved[2];
 } labels_dots;
 
-/* The dots that are read of a picture of bits, and how its bits lie. The first dot of a row is the highest bit of its first
+/* The dots that are read of a bitmap, and how its bits lie. The first dot of a row is the highest bit of its first
  * byte, as in binary PBM, in PNG of one bit a dot, and as labels_bitmap() puts them. */
 typedef struct labels_region {
     size_t stride;                     /* bytes from one row to the next, at least those up to the end of the region */
@@ -207,18 +207,19 @@ LABELS_API int labels_draw_line(const labels_options *options, const void *text,
 LABELS_API int labels_line(const labels_options *options, const void *text, size_t size, unsigned char *modules,
                            size_t room, labels_symbol_info *info, labels_answer *answer);
 
-/* Draws one symbol as bits: the picture of labels_draw(), scale and quiet zones included, bars in all their rows. A dot is
- * a bit, 1 where dark; the first of a row is the highest bit of its first byte. A row is (dots->width + 7) / 8 bytes, and
- * its last bits are 0 where it has no dots for them; the next row begins `stride` bytes after it, with stride 0 at once.
- * Nothing else is written, also between the rows: a bitmap can be put into a larger one, at any byte. Where the room is
- * less than `answer->length`, or `stride` less than a row and not 0, nothing is put and the code is LABELS_NO_ROOM; the
- * length is that for the given stride. So a call with stride 0 and without room asks for `dots` and the length. `height` 1
- * gives bars in `scale` rows. For a format in which 0 is dark, turn each byte: ~byte. */
+/* Draws one symbol as a bitmap: the picture of labels_draw(), scale and quiet zones included, bars in all their rows. A
+ * dot is a bit, 1 where dark; the first of a row is the highest bit of its first byte. A row is (dots->width + 7) / 8
+ * bytes, and its last bits are 0 where it has no dots for them; the next row begins `stride` bytes after it, with
+ * stride 0 at once. Nothing else is written, also between the rows: a bitmap can be put into a larger one, at any
+ * byte. Where the room is less than `answer->length`, or `stride` less than a row and not 0, nothing is put and the
+ * code is LABELS_NO_ROOM; the length is that for the given stride. So a call with stride 0 and without room asks for
+ * `dots` and the length. `height` 1 gives bars in `scale` rows. For a format in which 0 is dark, turn each byte:
+ * ~byte. */
 LABELS_API int labels_bitmap(const labels_options *options, labels_symbology_number symbology, const void *data,
                              size_t size, unsigned char *bits, size_t stride, size_t room, labels_dots *dots,
                              labels_answer *answer);
 
-/* Draws a line as bits, as labels_bitmap() puts them. */
+/* Draws a line as a bitmap, as labels_bitmap() puts it. */
 LABELS_API int labels_bitmap_line(const labels_options *options, const void *text, size_t size, unsigned char *bits,
                                   size_t stride, size_t room, labels_dots *dots, labels_answer *answer);
 

@@ -1,6 +1,5 @@
 /* The proved calls of crates/labels_c, as labels.c and the tests make them. Nobody else does: it is not installed. No
- * pointer is NULL; of an answer they write what is before its message, of an
- * info what is before its data. */
+ * pointer is NULL; of an answer they write what is before its message, of an info what is before its data. */
 #ifndef LABELS_PROVED_H
 #define LABELS_PROVED_H
 

@@ -73,7 +73,7 @@ class Believed(InCopy):
             (PROOF, row, "", says),
             (PROOF, "<!-- believed: end -->", "", "lacks the line '<!-- believed: begin -->' or, after it"),
             ("crates/device/src/sink.rt", "        requires { 0 < length bytes.now }\n", "", says),
-            (entry, "known.items)))\n        (λ early", "known.items))) (λ early", says),
+            (entry, "arguments)\n        (record {", "arguments) (record {", says),
             (
                 entry,
                 "ensures shows {",

@@ -32,7 +32,7 @@ RECORDS = {
     "Finishes": "command/specs/Program.antt",
     "PutsWhole": "capi/specs/Calls.antt",
     "PutsModules": "capi/specs/Modules.antt",
-    "PutsBits": "capi/specs/Bits.antt",
+    "PutsBitmap": "capi/specs/Bitmap.antt",
     "AnswersLayout": "capi/specs/Layout.antt",
 }
 FUNCTIONS = {
@@ -60,7 +60,7 @@ LAWS = {
 # them in a body.
 BESIDE = {
     *("Shows.images", "RunsOver.runs", "RunsOver.whole", *(f"Ends.{case}" for case in range(1, 10))),
-    *("PutsWhole.message", "PutsModules.message", "PutsBits.message"),
+    *("PutsWhole.message", "PutsModules.message", "PutsBitmap.message"),
 }
 
 

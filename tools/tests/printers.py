@@ -112,21 +112,26 @@ class Printer:
             self.read_labels(line)
         self.ended += 1
 
-    def read_labels(self, line: socket.socket) -> None:
-        """Reads labels; a part of one is no label."""
-        buffer = b""
+    def ends_early(self, line: socket.socket) -> bool:
+        """Whether the connection ends before a label is read."""
         self.torn -= 1
         if self.hangs_up:
             line.recv(1, socket.MSG_PEEK)  # it is there, and unread
-            return
-        if self.torn == 0:
+        elif self.torn == 0:
             if not self.answered(line, line.recv(100)):
                 line.recv(100)
             line.setsockopt(socket.SOL_SOCKET, socket.SO_LINGER, BROKEN)
-            return
-        if self.is_shy:
+        elif self.is_shy:
             self.is_shy = False
             line.recv(10)
+        else:
+            return False
+        return True
+
+    def read_labels(self, line: socket.socket) -> None:
+        """Reads labels; a part of one is no label."""
+        buffer = b""
+        if self.ends_early(line):
             return
         if self.waits:
             self.told.wait()

@@ -286,6 +286,7 @@ class Formats(WorkbookTest):
 5|General|5
 1.25|General|1,25
 4006381333931|General|4006381333931
+999999999999999|General|999999999999999
 0.1|@|0,1
 7|000|007
 7|0|7
@@ -353,6 +354,12 @@ class Formats(WorkbookTest):
             *((value, "d", day, again) for value in (60, -1, 2958466)),
             *((5, number, language, again) for number in (22, 44, 999)),
             (1 / 3, "General", long, "give it a format such as 0.00"),
+            (
+                10**15,
+                "General",
+                long.replace("0." + 15 * "3", f"{10**15}"),
+                "give it a format such as 0.00",
+            ),
         ]
         for value, form, problem, hint in cases:
             said = f'label-table: row 2: column 2 ("x") {problem}: {hint}'

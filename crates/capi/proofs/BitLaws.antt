@@ -14,12 +14,11 @@ use Rattle.picture.specs.Text.{pixel_row}
 use Rattle.reading.specs.Found.{ReadingIsAlone}
 use Rattle.reading.specs.Labels.{read_dots}
 use Rattle.picture.proofs.GridLaws.{pixel_row-equal}
-use Rattle.capi.specs.Private.Asking.{AnswersSymbolBits}
-use Rattle.capi.specs.Bits.{AnswersBitsOutcome, IsReadInDots, PutsBits, ReadsBitsOutcome, bytes_of, put_bit_rows, row_size}
+use Rattle.capi.specs.Bitmap.{AnswersBitmapOutcome, PutsBitmap, ReadsBitmapOutcome, bytes_of, put_bit_rows, row_size}
 use Rattle.capi.specs.Private.BitRows.{put_equal}
 use Rattle.capi.specs.Calls.{Rooms}
 use Rattle.capi.specs.Room.{put_text}
-use Rattle.capi.specs.declared.numbers.Dots.{Dots}
+use Rattle.capi.specs.declared.numbers.ToldBitmap.{ToldBitmap}
 
 pub put_equal_more : (stride : ℕ) (row room : List ℕ) (y k : ℕ)
     → put_text (put_equal stride row room y k) ((y + k) * stride) row ≡ put_equal stride row room y (k + 1)
@@ -46,26 +45,14 @@ rows_more p stride room y count row same e (suc n) h =
 -- what is read at its scale is read where no scale is told
 pub read_in_dots : (run : RunValues) (found : Result Symbol Fault) → 0 < run.scale → ReadingIsAlone
     → IfOk found (λ symbol. read_dots symbol.symbology run.scale (raster (picture_of run symbol)) ≡ Some symbol.full)
-    → IfOk found (IsReadInDots run)
+    → ReadsBitmapOutcome run (outcome_of found)
 read_in_dots run (Ok symbol) low alone read = alone _ symbol.symbology run.scale symbol.full low read
 read_in_dots run (Err fault) low alone read = tt
 
--- the dots of a symbol are read as those of its line
-pub reads_outcome : (run : RunValues) (found : Result Symbol Fault) → IfOk found (IsReadInDots run)
-    → ReadsBitsOutcome run (outcome_of found)
-reads_outcome run (Ok symbol) h = h
-reads_outcome run (Err fault) h = tt
-
--- what is left of a symbol is what is left of its line
-pub bits_outcome : (rooms : Rooms) (stride : ℕ) (dots : Dots) (run : RunValues) (found : Result Symbol Fault)
-    → AnswersSymbolBits rooms stride dots run found → AnswersBitsOutcome rooms stride dots run (outcome_of found)
-bits_outcome rooms stride dots run (Ok symbol) h = h
-bits_outcome rooms stride dots run (Err fault) h = h
-
 -- the dots of modules are those of a symbol that has them
-pub bits_of_modules : (rooms : Rooms) (stride : ℕ) (dots : Dots) (run : RunValues) (found : Result Symbol Fault)
+pub bitmap_of_modules : (rooms : Rooms) (stride : ℕ) (told : ToldBitmap) (run : RunValues) (found : Result Symbol Fault)
     (symbology : Symbology) (p : Picture) → HasModules found symbology p
-    → PutsBits rooms stride dots (enlargement (with_quiet_zone p (quiet_zone symbology)) run.scale)
-    → AnswersSymbolBits rooms stride dots run found
-bits_of_modules rooms stride dots run (Ok symbol) symbology p has puts = rw (has.0, has.1) puts
-bits_of_modules rooms stride dots run (Err fault) symbology p has puts = absurd has
+    → PutsBitmap rooms stride told (enlargement (with_quiet_zone p (quiet_zone symbology)) run.scale)
+    → AnswersBitmapOutcome rooms stride told run (outcome_of found)
+bitmap_of_modules rooms stride told run (Ok symbol) symbology p has puts = rw (has.0, has.1) puts
+bitmap_of_modules rooms stride told run (Err fault) symbology p has puts = absurd has

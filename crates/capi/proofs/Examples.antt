@@ -15,10 +15,10 @@ use Rattle.linear.specs.Modules.{modules}
 use Rattle.linear.specs.Tables.{number_set_a, left_half_sets}
 use Rattle.picture.specs.Picture.{Picture}
 use Rattle.picture.specs.Reading.{sample}
-use Rattle.capi.specs.Bits.{bits_fit, bits_size, byte_at, bytes_of, dot_at, put_bit_rows, row_size, row_step}
+use Rattle.capi.specs.Bitmap.{bitmap_fits, bitmap_size, byte_at, bytes_of, dot_at, put_bit_rows, row_size, row_step}
 use Rattle.capi.specs.Calls.{asked, has_LF, line_asked, options_asked}
 use Rattle.capi.specs.Layout.{between, in_quiet_zones, layout_of, longer_bars, modules_at, no_layout, printed}
-use Rattle.capi.specs.Modules.{height_told, is_nothing, modules_of, rows_put, with_rows_put}
+use Rattle.capi.specs.Modules.{is_nothing, modules_of, rows_put, with_rows_put}
 use Rattle.capi.specs.Numbers.{are_unused, code_of, flag_numbered, format_numbered, level_numbered, mask_numbered}
 use Rattle.capi.specs.Numbers.{options_numbered, place_of, symbology_numbered}
 use Rattle.capi.specs.Read.{bits_as, modules_asked, read_asked, region_numbered}
@@ -185,9 +185,9 @@ rows_of_modules : modules_of dots ≡ (true ∷ replicate 7 false) ++ (true ∷ 
 unfolding dots
 rows_of_modules = refl
 
--- a linear symbol has one row of modules, and its picture as many as asked for; a QR symbol is a square
-heights : (rows_put Qr 21 ≡ 21) × ((rows_put Ean8 50 ≡ 1) × ((height_told Qr 21 50 ≡ 21) × (height_told Ean8 67 50 ≡ 50)))
-heights = (refl, (refl, (refl, refl)))
+-- of a linear symbol one row of modules is put, of a QR symbol each
+heights : (rows_put Qr 21 ≡ 21) × (rows_put Ean8 50 ≡ 1)
+heights = (refl, refl)
 
 one_of_the_rows : ((with_rows_put (record { symbology = Qr; full = []; modules = dots })).modules.height ≡ 2)
     × ((with_rows_put (record { symbology = Ean8; full = []; modules = dots })).modules.height ≡ 1)
@@ -244,9 +244,9 @@ sizes_of_rows = (refl, refl)
 
 -- two bytes a row, three bytes apart: the third is as it was
 rows_of_bits : (put_bit_rows dots 3 (replicate 6 9) 2 ≡ 128 ∷ 128 ∷ 9 ∷ 1 ∷ 0 ∷ 9 ∷ [])
-    × ((map (λ height. bits_size (record dots { height = height }) 3) (1 ∷ 2 ∷ 3 ∷ []) ≡ 2 ∷ 5 ∷ 8 ∷ [])
-    × ((map (λ room. bits_fit dots 3 (replicate room 0)) (4 ∷ 5 ∷ 6 ∷ []) ≡ false ∷ true ∷ true ∷ [])
-    × (map (λ stride. bits_fit dots stride (replicate 9 0)) (1 ∷ 2 ∷ 8 ∷ []) ≡ false ∷ true ∷ false ∷ [])))
+    × ((map (λ height. bitmap_size (record dots { height = height }) 3) (1 ∷ 2 ∷ 3 ∷ []) ≡ 2 ∷ 5 ∷ 8 ∷ [])
+    × ((map (λ room. bitmap_fits dots 3 (replicate room 0)) (4 ∷ 5 ∷ 6 ∷ []) ≡ false ∷ true ∷ true ∷ [])
+    × (map (λ stride. bitmap_fits dots stride (replicate 9 0)) (1 ∷ 2 ∷ 8 ∷ []) ≡ false ∷ true ∷ false ∷ [])))
 unfolding put_bit_rows dots
 rows_of_bits = (refl, (refl, (refl, refl)))
 

@@ -3,7 +3,7 @@ use Rattle.std.proofs.Common.{◌≡◌, ℕ, ◌+◌, Bool, false, List, [], �
 use Rattle.std.proofs.Common.{append_assoc, inl, length-append, replicate}
 use Rattle.std.specs.Char.{IsAsciiDigit}
 use Rattle.std.proofs.lemmas.Grind.{flat_map-append}
-use Rattle.std.proofs.lemmas.List.{drop-drop, take-append-drop}
+use Rattle.std.proofs.lemmas.List.{drop-drop, take-append-drop, take_at, drop_at}
 use Rattle.labelcore.specs.declared.symbology.Symbology.{Symbology}
 use Rattle.labelcore.specs.declared.symbology.Symbology.TheVariants.{Ean13, Ean8, UpcA, Code128, Qr}
 use Rattle.linear.specs.Digits.{digit_value}
@@ -13,7 +13,7 @@ use Rattle.linear.specs.declared.ean.NumberSet.TheVariants.{A}
 use Rattle.linear.specs.Private.Data.{AreDigits, IsFull}
 use Rattle.linear.proofs.DigitLaws.{of_full_digits}
 use Rattle.linear.proofs.EanLaws.{front_digits, back_digits, left_groups_of, right_groups_of}
-use Rattle.linear.proofs.GroupLaws.{take-append, drop-append, drop-append_more}
+use Rattle.linear.proofs.GroupLaws.{drop-append_more}
 use Rattle.linear.proofs.PatternLaws.{length-left_sets, length-pattern, left_sets_a_or_b, four_a}
 use Rattle.capi.specs.Layout.{layout_of, right_digits, IsLaidOut, IsLayoutOf}
 
@@ -36,13 +36,13 @@ module _ (n : ℕ) (left right zone : List Bool) (on_left : length left ≡ n) (
   in_parts = append_assoc left _ zone ∙ ap (λ xs. left ++ (centre_guard ++ xs)) (append_assoc right normal_guard zone)
 
   pub left_is : take n after_guard ≡ left
-  left_is = ap (take n) in_parts ∙ take-append n left _ on_left
+  left_is = ap (take n) in_parts ∙ take_at left _ n on_left
 
   pub after_left : (k : ℕ) → drop (n + k) after_guard ≡ drop k (centre_guard ++ (right ++ (normal_guard ++ zone)))
   after_left k = ap (drop (n + k)) in_parts ∙ drop-append_more n k left _ on_left
 
   pub right_is : take n (drop (n + 5) after_guard) ≡ right
-  right_is = ap (take n) (after_left 5) ∙ take-append n right _ on_right
+  right_is = ap (take n) (after_left 5) ∙ take_at right _ n on_right
 
   pub after_right : (k : ℕ) → drop (n + (5 + (n + k))) after_guard ≡ drop k (normal_guard ++ zone)
   after_right k = after_left (5 + (n + k)) ∙ drop-append_more 5 (n + k) centre_guard _ refl
@@ -99,11 +99,11 @@ module _ (first left right last zone : List Bool) (on_first : length first ≡ 7
   from_first = in_parts 42 (first ++ left) (right ++ last) zone long_left long_right ∙ append_assoc first left _
 
   pub first_is : take 7 inner ≡ first
-  first_is = ap (take 7) from_first ∙ take-append 7 first _ on_first
+  first_is = ap (take 7) from_first ∙ take_at first _ 7 on_first
 
   pub left_five : take 35 (drop 7 inner) ≡ left
-  left_five = ap (λ xs. take 35 (drop 7 xs)) from_first ∙ ap (take 35) (drop-append 7 first _ on_first)
-      ∙ take-append 35 left _ on_left
+  left_five = ap (λ xs. take 35 (drop 7 xs)) from_first ∙ ap (take 35) (drop_at first _ 7 on_first)
+      ∙ take_at left _ 35 on_left
 
   pub centre_is : take 5 (drop 42 inner) ≡ centre_guard
   centre_is = ap (take 5) (after_left 42 (first ++ left) (right ++ last) zone long_left long_right 0)
@@ -112,12 +112,12 @@ module _ (first left right last zone : List Bool) (on_first : length first ≡ 7
   from_right = after_left 42 (first ++ left) (right ++ last) zone long_left long_right 5 ∙ append_assoc right last _
 
   pub right_five : take 35 (drop 47 inner) ≡ right
-  right_five = ap (take 35) from_right ∙ take-append 35 right _ on_right
+  right_five = ap (take 35) from_right ∙ take_at right _ 35 on_right
 
   pub last_is : take 10 (drop 82 inner) ≡ last ++ normal_guard
-  last_is = ap (take 10) (sym (drop-drop 35 47 inner) ∙ ap (drop 35) from_right ∙ drop-append 35 right _ on_right
+  last_is = ap (take 10) (sym (drop-drop 35 47 inner) ∙ ap (drop 35) from_right ∙ drop_at right _ 35 on_right
       ∙ sym (append_assoc last normal_guard zone))
-      ∙ take-append 10 (last ++ normal_guard) zone (length-append last normal_guard ∙ ap (λ n. n + 3) on_last)
+      ∙ take_at (last ++ normal_guard) zone 10 (length-append last normal_guard ∙ ap (λ n. n + 3) on_last)
 
   pub past_guard : drop 95 inner ≡ drop 6 (normal_guard ++ zone)
   past_guard = after_right 42 (first ++ left) (right ++ last) zone long_left long_right 6

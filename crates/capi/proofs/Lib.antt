@@ -2,7 +2,8 @@ pub mod BitLaws
 pub mod FullLaws
 pub mod SliceLaws
 pub mod LayoutLaws
-pub mod LineLaws
+pub mod ModuleLaws
 pub mod Gather
 pub mod RowLaws
 mod Examples
+pub mod WordingTheorems

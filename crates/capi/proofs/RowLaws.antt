@@ -6,7 +6,7 @@ use Rattle.std.proofs.lemmas.Bool.{cases_lt}
 use Rattle.std.proofs.lemmas.List.{get_or-replicate, get_or_past, length-replicate}
 use Rattle.std.specs.Prelude.{Bool, false, map}
 use Rattle.picture.specs.Text.{below}
-use Rattle.capi.specs.Bits.{bytes_of}
+use Rattle.capi.specs.Bitmap.{bytes_of}
 use Rattle.capi.specs.Private.BitRows.{byte_of_dots}
 
 -- no dot is dark where all are light

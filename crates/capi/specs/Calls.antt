@@ -57,7 +57,7 @@ line_asked_of (Ok options) text =
 unfoldable pub line_asked : CallOptions → List ℕ → Result Asked Reason
 line_asked options text = line_asked_of (options_asked options) text
 
--- the caller's room for a picture or modules, and that for a message, before and after
+-- the caller's room for an image or a bitmap, and that for a message, before and after
 pub record Rooms : Type 0 where
   pub out : List ℕ
   pub out_after : List ℕ
@@ -85,21 +85,21 @@ pub record PutsWhole (rooms : Rooms) (answer : Answer) (text : List ℕ) : Type 
   pub message : rooms.message_after ≡ rooms.message
 
 -- the image of a symbol that is drawn, or why there is none; 14 is a line that is skipped
-abbrev pub AnswersPicture : Rooms → Answer → RunValues → Outcome Symbol → Type 0
-AnswersPicture rooms answer run skipped = Declines rooms answer 14 0 []
-AnswersPicture rooms answer run (refused fault) = Declines rooms answer (code_of fault) (place_of fault) (fault_text fault)
-AnswersPicture rooms answer run (drawn symbol) = PutsWhole rooms answer (image_of run (drawn symbol))
+abbrev pub AnswersImageOutcome : Rooms → Answer → RunValues → Outcome Symbol → Type 0
+AnswersImageOutcome rooms answer run skipped = Declines rooms answer 14 0 []
+AnswersImageOutcome rooms answer run (refused fault) = Declines rooms answer (code_of fault) (place_of fault) (fault_text fault)
+AnswersImageOutcome rooms answer run (drawn symbol) = PutsWhole rooms answer (image_of run (drawn symbol))
 
 -- the image of what is asked for, or why there is none
-abbrev pub Answers : Rooms → Answer → Result Asked Reason → Type 0
-Answers rooms answer (Err reason) = Declines rooms answer reason.code reason.at []
-Answers rooms answer (Ok a) = AnswersPicture rooms answer a.run (outcome_of_item a.item)
+abbrev pub AnswersImage : Rooms → Answer → Result Asked Reason → Type 0
+AnswersImage rooms answer (Err reason) = Declines rooms answer reason.code reason.at []
+AnswersImage rooms answer (Ok a) = AnswersImageOutcome rooms answer a.run (outcome_of_item a.item)
 
 -- the image of a symbol reads as its full data
-abbrev pub ReadsPicture : RunValues → Outcome Symbol → Type 0
-ReadsPicture run (drawn symbol) = IsRead run.format run.scale (image_of run (drawn symbol)) symbol
-ReadsPicture run other = ⊤
+abbrev pub ReadsImageOutcome : RunValues → Outcome Symbol → Type 0
+ReadsImageOutcome run (drawn symbol) = IsRead run.format run.scale (image_of run (drawn symbol)) symbol
+ReadsImageOutcome run other = ⊤
 
 -- the image of what is asked for reads as the full data
-abbrev pub ReadsAsked : Result Asked Reason → Type 0
-ReadsAsked found = IfOk found (λ a. ReadsPicture a.run (outcome_of_item a.item))
+abbrev pub ReadsImage : Result Asked Reason → Type 0
+ReadsImage found = IfOk found (λ a. ReadsImageOutcome a.run (outcome_of_item a.item))

@@ -1,4 +1,4 @@
-pub mod Bits
+pub mod Bitmap
 pub mod Calls
 pub mod Full
 pub mod Layout

@@ -4,7 +4,6 @@ use Rattle.std.specs.Prelude.{if◌then◌else◌, IfOk, ⊤}
 use Rattle.labelcore.specs.LineItem.{Outcome, Request, skipped, refused, drawn}
 use Rattle.labelcore.specs.Message.{fault_text}
 use Rattle.labelcore.specs.OptionValues.{LabelValues}
-use Rattle.labelcore.specs.declared.fault.Fault.{Fault}
 use Rattle.filter.specs.ModuleReading.{IsReadInModules}
 use Rattle.filter.specs.Output.{outcome_of_item}
 use Rattle.filter.specs.Symbol.{Symbol, quiet_zone, symbol_of}
@@ -14,7 +13,7 @@ use Rattle.picture.specs.Picture.{Picture}
 use Rattle.qrdata.specs.Codewords.{symbol_codewords}
 use Rattle.qrdata.specs.Fewest.{chosen_segments, chosen_version}
 use Rattle.qrmatrix.specs.MaskChoice.{chosen_mask}
-use Rattle.capi.specs.Numbers.{are_unused, level_numbered, place_of, symbology_numbered}
+use Rattle.capi.specs.Numbers.{are_unused, code_of, level_numbered, place_of, symbology_numbered}
 use Rattle.picture.specs.Text.{below, pixel_row}
 use Rattle.capi.specs.Calls.{Asked, Declines}
 use Rattle.capi.specs.declared.asked.Reason.{Reason}
@@ -41,11 +40,6 @@ pub record IsSizeOf (symbol : Symbol) (info : SymbolInfo) : Type 0 where
   pub top : info.top ≡ (quiet_zone symbol.symbology).top
   pub bottom : info.bottom ≡ (quiet_zone symbol.symbology).bottom
   pub unused : are_unused info.reserved ≡ true
-
--- the height of a symbol's picture in modules, from its width and the height that bars are to have
-abbrev pub height_told : Symbology → ℕ → ℕ → ℕ
-height_told Qr width height = width
-height_told other width height = height
 
 -- whether nothing is told of a symbol: each number is 0
 unfoldable pub is_nothing : SymbolInfo → Bool
@@ -79,11 +73,6 @@ DeclinesModules rooms answer info code place text = (rooms.modules_after ≡ roo
       message_after = rooms.message_after;
     }) answer code place text))
 
--- the modules of a symbol, or why there is none
-abbrev pub AnswersModules : ModuleRooms → Answer → SymbolInfo → Result Symbol Fault → (Fault → ℕ) → Type 0
-AnswersModules rooms answer info (Ok symbol) code = PutsModules rooms answer symbol.modules × IsSizeOf symbol info
-AnswersModules rooms answer info (Err fault) code = DeclinesModules rooms answer info (code fault) (place_of fault) (fault_text fault)
-
 -- the rows of a symbol that are put: one of a linear symbol, whose rows are equal
 abbrev pub rows_put : Symbology → ℕ → ℕ
 rows_put Qr rows = rows
@@ -95,26 +84,28 @@ with_rows_put symbol = record symbol {
   modules = record symbol.modules { height = rows_put symbol.symbology symbol.modules.height };
 }
 
--- the modules of a symbol that is drawn, and what they are drawn as; or why there are none. 14 is a line that is skipped
-abbrev pub AnswersOutcome : ModuleRooms → Answer → SymbolInfo → Outcome Symbol → (Fault → ℕ) → Type 0
-AnswersOutcome rooms answer info skipped code = DeclinesModules rooms answer info 14 0 []
-AnswersOutcome rooms answer info (refused fault) code = DeclinesModules rooms answer info (code fault) (place_of fault) (fault_text fault)
-AnswersOutcome rooms answer info (drawn symbol) code =
-    AnswersModules rooms answer info (Ok (with_rows_put symbol)) code × IsDrawnAs symbol info
+-- the modules of a symbol that is drawn, their size, and what they are drawn as; or why there are none. 14 is a line that
+-- is skipped
+abbrev pub AnswersModulesOutcome : ModuleRooms → Answer → SymbolInfo → Outcome Symbol → Type 0
+AnswersModulesOutcome rooms answer info skipped = DeclinesModules rooms answer info 14 0 []
+AnswersModulesOutcome rooms answer info (refused fault) =
+    DeclinesModules rooms answer info (code_of fault) (place_of fault) (fault_text fault)
+AnswersModulesOutcome rooms answer info (drawn symbol) =
+    PutsModules rooms answer (with_rows_put symbol).modules × (IsSizeOf (with_rows_put symbol) info × IsDrawnAs symbol info)
 
 -- the modules of what is asked for, or why there are none
-abbrev pub AnswersAsked : ModuleRooms → Answer → SymbolInfo → Result Asked Reason → (Fault → ℕ) → Type 0
-AnswersAsked rooms answer info (Err reason) code = DeclinesModules rooms answer info reason.code reason.at []
-AnswersAsked rooms answer info (Ok a) code = AnswersOutcome rooms answer info (outcome_of_item a.item) code
+abbrev pub AnswersModules : ModuleRooms → Answer → SymbolInfo → Result Asked Reason → Type 0
+AnswersModules rooms answer info (Err reason) = DeclinesModules rooms answer info reason.code reason.at []
+AnswersModules rooms answer info (Ok a) = AnswersModulesOutcome rooms answer info (outcome_of_item a.item)
 
 -- the modules of a symbol read as its full data, and as nothing else
-abbrev pub ReadsOutcome : Outcome Symbol → Type 0
-ReadsOutcome (drawn symbol) = IsReadInModules (with_rows_put symbol)
-ReadsOutcome other = ⊤
+abbrev pub ReadsModulesOutcome : Outcome Symbol → Type 0
+ReadsModulesOutcome (drawn symbol) = IsReadInModules (with_rows_put symbol)
+ReadsModulesOutcome other = ⊤
 
 -- the modules of what is asked for read as the full data, and as nothing else
 abbrev pub ReadsModules : Result Asked Reason → Type 0
-ReadsModules found = IfOk found (λ a. ReadsOutcome (outcome_of_item a.item))
+ReadsModules found = IfOk found (λ a. ReadsModulesOutcome (outcome_of_item a.item))
 
 -- the version, the level and the mask that a QR symbol has
 pub record HasQrNumbers (label : LabelValues) (bytes : List ℕ) (info : SymbolInfo) : Type 0 where

@@ -6,7 +6,7 @@ ghost use Rattle.capi.specs.Calls.{asked, line_asked, options_asked};
 ghost use Rattle.capi.specs.Private.Asking.{HasBytes, asked_seen};
 
 use crate::numbers::{
-    BAD_OPTION, BAD_SYMBOLOGY, CallOptions, NO_DATA, NOT_ONE_LINE, options_of, symbology_of,
+    BAD_OPTION, BAD_SYMBOLOGY, CallOptions, NO_DATA, NOT_ONE_LINE, options_of, symbology_numbered,
 };
 use labelcore::{Item, LineBuf, Options, RunOptions, Scratch, parse};
 
@@ -57,7 +57,7 @@ pub fn asked_of<'a>(
     ensures some { IfOk result (λ a. HasBytes (item_seen a.item)) }
 {
     let options = options_asked(options)?;
-    let symbology = symbology_of(symbology).ok_or(Reason {
+    let symbology = symbology_numbered(symbology).ok_or(Reason {
         code: BAD_SYMBOLOGY,
         at: 0,
     })?;

@@ -1,4 +1,4 @@
-//! One picture into a caller's room.
+//! The image of one symbol, the text of its picture, into a caller's room.
 ghost use Rattle.std.specs.Prelude.{◌≡◌, ◌≢◌, ◌-◌, ◌^◌, [], Err, IsOk, MatchResult, length, min};
 ghost use Rattle.capi.specs.Room.{put_text};
 ghost use Rattle.labelcore.specs.LineItem.{drawn, outcome_of};
@@ -8,9 +8,8 @@ ghost use Rattle.filter.specs.Readback.{IsRead};
 ghost use Rattle.filter.specs.Output.{image_of};
 ghost use Rattle.std.specs.Prelude.{IfOk, List, ℕ};
 ghost use Rattle.labelcore.specs.ItemView.{item_seen};
-ghost use Rattle.filter.specs.Output.{outcome_of_item};
-ghost use Rattle.capi.specs.Calls.{Answers, AnswersPicture, Declines, ReadsAsked, ReadsPicture, asked, line_asked};
-ghost use Rattle.capi.specs.Private.Asking.{AnswersSymbol, HasBytes, asked_seen};
+ghost use Rattle.capi.specs.Calls.{AnswersImage, AnswersImageOutcome, Declines, ReadsImage, ReadsImageOutcome, asked, line_asked};
+ghost use Rattle.capi.specs.Private.Asking.{HasBytes, asked_seen};
 ghost use Rattle.capi.specs.Numbers.{code_of as number_of, place_of as place_told};
 
 use crate::asked::{Asked, Reason, asked_of, line_asked};
@@ -19,8 +18,8 @@ use crate::slice_sink::SliceSink;
 use filter::draw;
 use labelcore::{Fault, Item, LabelOptions, LineBuf, RunOptions, Scratch, Symbology, write_reason};
 
-/// Draws one symbol into `out`, or puts the reason why there is none into `message`. Of a text that is too long it puts
-/// what there is room for, and answers with the length of the whole.
+/// Puts the image of one symbol into `out`, or the reason why there is none into `message`. Of a text that is too long it
+/// puts what there is room for, and answers with the length of the whole.
 pub fn draw_into(
     options: &CallOptions,
     symbology: u32,
@@ -28,18 +27,18 @@ pub fn draw_into(
     out: &mut [u8],
     message: &mut [u8],
 ) -> Answer
-    ensures answers { Answers (record {
+    ensures answers { AnswersImage (record {
       out = out.old;
       out_after = out.new;
       message = message.old;
       message_after = message.new;
     }) result (asked options.now symbology bytes.now) }
-    ensures read { ReadsAsked (asked options.now symbology bytes.now) }
+    ensures read { ReadsImage (asked options.now symbology bytes.now) }
 {
-    put_picture(&asked_of(options, symbology, bytes), out, message)
+    put_image(&asked_of(options, symbology, bytes), out, message)
 }
 
-/// Draws what a line asks for into `out`, or puts the reason why there is no picture into `message`. A text with an LF
+/// Puts the image of what a line asks for into `out`, or the reason why there is none into `message`. A text with an LF
 /// is refused.
 pub fn draw_line_into(
     options: &CallOptions,
@@ -47,56 +46,43 @@ pub fn draw_line_into(
     out: &mut [u8],
     message: &mut [u8],
 ) -> Answer
-    ensures answers { Answers (record {
+    ensures answers { AnswersImage (record {
       out = out.old;
       out_after = out.new;
       message = message.old;
       message_after = message.new;
     }) result (line_asked options.now text.now) }
-    ensures read { ReadsAsked (line_asked options.now text.now) }
+    ensures read { ReadsImage (line_asked options.now text.now) }
 {
     let mut line = LineBuf::new();
     let mut scratch = Scratch::new();
-    put_picture(
+    put_image(
         &line_asked(options, text, &mut line, &mut scratch),
         out,
         message,
     )
 }
 
-/// Draws what a call asks for.
-fn put_picture(asked: &Result<Asked<'_>, Reason>, out: &mut [u8], message: &mut [u8]) -> Answer
+/// Puts the image of what a call asks for.
+fn put_image(asked: &Result<Asked<'_>, Reason>, out: &mut [u8], message: &mut [u8]) -> Answer
     requires { IfOk asked.now (λ a. HasBytes (item_seen a.item)) }
-    ensures answers { Answers (record {
+    ensures answers { AnswersImage (record {
       out = out.old;
       out_after = out.new;
       message = message.old;
       message_after = message.new;
     }) result (asked_seen asked.now) }
-    ensures read { ReadsAsked (asked_seen asked.now) }
+    ensures read { ReadsImage (asked_seen asked.now) }
 {
-    match asked {
-        Err(reason) => declined_at(*reason),
-        Ok(asked) => item_picture(&asked.run, &asked.item, out, message),
-    }
-}
-
-/// Puts the picture of what is drawn.
-fn item_picture(run: &RunOptions, item: &Item<'_>, out: &mut [u8], message: &mut [u8]) -> Answer
-    requires { HasBytes (item_seen item.now) }
-    ensures answers { AnswersPicture (record {
-      out = out.old;
-      out_after = out.new;
-      message = message.old;
-      message_after = message.new;
-    }) result run.now (outcome_of_item (item_seen item.now)) }
-    ensures read { ReadsPicture run.now (outcome_of_item (item_seen item.now)) }
-{
+    let Asked { run, item } = match asked {
+        Ok(asked) => asked,
+        Err(reason) => return declined_at(*reason),
+    };
     match *item {
         Item::Skipped => declined(SKIPPED),
         Item::Refused(fault) => refused(&fault, message),
         Item::Drawn(symbology, label, bytes) => {
-            symbol_picture(run, &label, symbology, bytes, out, message)
+            symbol_image(run, &label, symbology, bytes, out, message)
         }
     }
 }
@@ -128,17 +114,11 @@ pub fn declined(code: u32) -> Answer
       message_after = message;
     }) result code 0 [] }
 {
-    Answer {
-        code,
-        reserved: 0,
-        length: 0,
-        at: 0,
-        message_length: 0,
-    }
+    declined_at(Reason { code, at: 0 })
 }
 
-/// Draws one symbol.
-fn symbol_picture(
+/// Puts the image of one symbol.
+fn symbol_image(
     run: &RunOptions,
     label: &LabelOptions,
     symbology: Symbology,
@@ -147,18 +127,16 @@ fn symbol_picture(
     message: &mut [u8],
 ) -> Answer
     requires { bytes.now ≢ [] }
-    ensures answers { AnswersSymbol (record {
+    ensures answers { AnswersImageOutcome (record {
       out = out.old;
       out_after = out.new;
       message = message.old;
       message_after = message.new;
-    }) result run.now
-        (symbol_of label.now symbology bytes.now) }
-    ensures read { IfOk (symbol_of label.now symbology bytes.now) (λ symbol.
-        IsRead run.now.format run.now.scale (image_of run.now (drawn symbol)) symbol) }
+    }) result run.now (outcome_of (symbol_of label.now symbology bytes.now)) }
+    ensures read { ReadsImageOutcome run.now (outcome_of (symbol_of label.now symbology bytes.now)) }
 {
     let room = out.len();
-    match picture_of(run, label, symbology, bytes, out) {
+    match drawn_into(run, label, symbology, bytes, out) {
         Ok(length) => Answer {
             code: if length <= room { DONE } else { NO_ROOM },
             reserved: 0,
@@ -170,8 +148,8 @@ fn symbol_picture(
     }
 }
 
-/// Puts the picture of one symbol into a room. Returns its length, or why there is none.
-fn picture_of(
+/// Puts the image of one symbol into a room. Returns its length, or why there is none.
+fn drawn_into(
     run: &RunOptions,
     label: &LabelOptions,
     symbology: Symbology,

@@ -3,7 +3,7 @@ ghost use Rattle.std.specs.Prelude.{◌≡◌};
 ghost use Rattle.capi.specs.Layout.{AnswersLayout, between, group, layout_of, no_layout};
 ghost use Rattle.capi.specs.Numbers.{symbology_numbered};
 
-use crate::numbers::{BAD_SYMBOLOGY, DONE, symbology_of};
+use crate::numbers::{self, BAD_SYMBOLOGY, DONE};
 use labelcore::Symbology;
 
 /// Modules of a row, from `left` on and before `right`, from the left edge of the left quiet zone on: `labels_span` of
@@ -126,7 +126,7 @@ fn layout_of(symbology: Symbology) -> Layout
 pub fn layout_told(symbology: u32) -> ToldLayout
     ensures { AnswersLayout result.code result.layout (symbology_numbered symbology) }
 {
-    match symbology_of(symbology) {
+    match numbers::symbology_numbered(symbology) {
         Some(symbology) => ToldLayout {
             code: DONE,
             layout: layout_of(symbology),

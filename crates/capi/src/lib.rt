@@ -2,8 +2,8 @@
 #![tactic(auto)]
 
 mod asked;
-mod bits;
-mod dots;
+mod bit_rows;
+mod bitmap;
 mod draw;
 mod full;
 mod layout;
@@ -14,10 +14,10 @@ mod room;
 mod slice_sink;
 mod symbol;
 
-pub use bits::{bits_into, bits_line_into};
+pub use bitmap::{bitmap_into, bitmap_line_into};
 pub use draw::{draw_into, draw_line_into};
 pub use layout::{DigitGroup, Layout, Span, ToldLayout, layout_told};
-pub use numbers::{Answer, CallOptions, CallRegion, Dots, FoundInfo, SymbolInfo, Told};
+pub use numbers::{Answer, CallOptions, CallRegion, FoundInfo, SymbolInfo, Told, ToldBitmap};
 pub use read::{read_into, read_modules_into};
 pub use read_bits::{ToldFound, read_bits_into};
 pub use slice_sink::SliceSink;

@@ -1,10 +1,11 @@
 //! Numbers in place of enums, as C has them.
-ghost use Rattle.std.specs.Prelude.{◌≡◌, Some, true};
+ghost use Rattle.std.specs.Prelude.{◌≡◌, ℕ, List, Some};
 ghost use Rattle.capi.specs.Numbers.{are_unused, code_of, flag_numbered, format_numbered, level_numbered, place_of};
-ghost use Rattle.capi.specs.Modules.{is_nothing};
+ghost use Rattle.capi.specs.Calls.{Declines};
+ghost use Rattle.capi.specs.Modules.{DeclinesModules, ModuleRooms};
 ghost use Rattle.capi.specs.Numbers.{options_numbered, symbology_numbered};
 
-use labelcore::{Fault, Format, Options, Symbology};
+use labelcore::{Fault, Format, HEIGHT, MASK, MIN_VERSION, Options, SCALE, Symbology};
 use qrdata::Level;
 
 /// The call was done.
@@ -22,6 +23,9 @@ pub const SKIPPED: u32 = 14;
 /// The text is more than one line.
 pub const NOT_ONE_LINE: u32 = 15;
 
+/// The number of no mask of the caller's: the one with the lowest penalty is taken.
+const NO_MASK: u32 = 8;
+
 /// The options of a call: `labels_options` of `lib/labels.h`. The spare words are 0.
 #[repr(C)]
 #[derive(Clone, Copy, Drop)]
@@ -37,8 +41,7 @@ pub struct CallOptions {
 }
 
 /// What a call answers: a code, the length of what was put or would have been, the place of what is wrong, and the length
-/// of the message. It is the head of
-/// `labels_answer`. The spare word is 0.
+/// of the message. It is the head of `labels_answer`. The spare word is 0.
 #[repr(C)]
 #[derive(Clone, Copy, Drop)]
 pub struct Answer {
@@ -70,7 +73,7 @@ pub struct SymbolInfo {
     pub data_length: usize,
 }
 
-/// A region of a picture of bits: `labels_region`. The spare words are 0.
+/// A region of a bitmap: `labels_region`. The spare words are 0.
 #[repr(C)]
 #[derive(Clone, Copy, Drop)]
 pub struct CallRegion {
@@ -101,11 +104,10 @@ pub struct Told {
     pub info: SymbolInfo,
 }
 
-/// What a call for dots answers, and how many columns and rows of dots there are: 0 where none is drawn. It is
+/// What a call for a bitmap answers, and how many columns and rows of dots it has: 0 where none is drawn, as in
 /// `labels_dots`.
-#[repr(C)]
 #[derive(Clone, Copy, Drop)]
-pub struct Dots {
+pub struct ToldBitmap {
     pub answer: Answer,
     pub width: u32,
     pub height: u32,
@@ -114,8 +116,13 @@ pub struct Dots {
 /// Returns the answer of a call that tells nothing of a symbol.
 #[tactic(auto, unfolding(crate::specs::Modules::is_nothing))]
 pub fn told_nothing(answer: Answer) -> Told
-    ensures answer { result.answer ≡ answer }
-    ensures nothing { is_nothing result.info ≡ true }
+    ensures { (rooms : ModuleRooms) (code place : ℕ) (text : List ℕ) → rooms.modules_after ≡ rooms.modules
+        → ((out : List ℕ) → Declines (record {
+          out = out;
+          out_after = out;
+          message = rooms.message;
+          message_after = rooms.message_after;
+        }) answer code place text) → DeclinesModules rooms result.answer result.info code place text }
 {
     Told {
         answer,
@@ -146,31 +153,31 @@ pub fn told_nothing(answer: Answer) -> Told
 pub fn options_of(numbers: &CallOptions) -> Result<Options, usize>
     ensures { result ≡ options_numbered numbers.now }
 {
-    let Some(format) = format_of(numbers.format) else {
+    let Some(format) = format_numbered(numbers.format) else {
         return Err(1);
     };
-    if !matches!(numbers.scale, 1..=8) {
+    if !SCALE.has(numbers.scale) {
         return Err(2);
     }
-    if !matches!(numbers.height, 1..=500) {
+    if !HEIGHT.has(numbers.height) {
         return Err(3);
     }
-    let Some(level) = level_of(numbers.level) else {
+    let Some(level) = level_numbered(numbers.level) else {
         return Err(4);
     };
-    if !matches!(numbers.min_version, 1..=10) {
+    if !MIN_VERSION.has(numbers.min_version) {
         return Err(5);
     }
-    if numbers.mask > 8 {
+    if numbers.mask != NO_MASK && !MASK.has(numbers.mask) {
         return Err(6);
     }
-    let Some(escapes) = flag_of(numbers.escapes) else {
+    let Some(escapes) = flag_numbered(numbers.escapes) else {
         return Err(7);
     };
     if !are_unused(&numbers.reserved) {
         return Err(8);
     }
-    let mask = if numbers.mask == 8 {
+    let mask = if numbers.mask == NO_MASK {
         None
     } else {
         Some(numbers.mask as u8)
@@ -195,7 +202,7 @@ pub fn are_unused(words: &[u32]) -> bool
 }
 
 /// Returns the truth value of this number.
-pub fn flag_of(number: u32) -> Option<bool>
+pub fn flag_numbered(number: u32) -> Option<bool>
     ensures { result ≡ flag_numbered number }
 {
     match number {
@@ -206,7 +213,7 @@ pub fn flag_of(number: u32) -> Option<bool>
 }
 
 /// Returns the format of this number.
-fn format_of(number: u32) -> Option<Format>
+fn format_numbered(number: u32) -> Option<Format>
     ensures { result ≡ format_numbered number }
 {
     match number {
@@ -217,7 +224,7 @@ fn format_of(number: u32) -> Option<Format>
 }
 
 /// Returns the level of this number.
-fn level_of(number: u32) -> Option<Level>
+fn level_numbered(number: u32) -> Option<Level>
     ensures { result ≡ level_numbered number }
 {
     match number {
@@ -230,7 +237,7 @@ fn level_of(number: u32) -> Option<Level>
 }
 
 /// Returns the symbology of this number.
-pub fn symbology_of(number: u32) -> Option<Symbology>
+pub fn symbology_numbered(number: u32) -> Option<Symbology>
     ensures { result ≡ symbology_numbered number }
 {
     match number {

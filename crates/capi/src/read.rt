@@ -4,7 +4,7 @@ ghost use Rattle.capi.specs.Calls.{PutsWhole};
 ghost use Rattle.capi.specs.Read.{AnswersRead, modules_asked, read_asked, room_alone};
 
 use crate::draw::declined;
-use crate::numbers::{Answer, BAD_OPTION, BAD_SYMBOLOGY, DONE, NO_ROOM, symbology_of};
+use crate::numbers::{Answer, BAD_OPTION, BAD_SYMBOLOGY, DONE, NO_ROOM, symbology_numbered};
 use crate::room::put;
 use qr_reading::SymbolData;
 use reading::Dots;
@@ -49,7 +49,7 @@ pub fn read_modules_into(
 ) -> Answer
     ensures { AnswersRead out.old out.new result (modules_asked symbology width rows modules.now) }
 {
-    let Some(symbology) = symbology_of(symbology) else {
+    let Some(symbology) = symbology_numbered(symbology) else {
         return declined(BAD_SYMBOLOGY);
     };
     match Dots::new(0, 1, width as usize, rows as usize, modules) {
@@ -75,7 +75,7 @@ pub fn read_into(
     if scale == 0 {
         return declined(BAD_OPTION);
     }
-    let Some(symbology) = symbology_of(symbology) else {
+    let Some(symbology) = symbology_numbered(symbology) else {
         return declined(BAD_SYMBOLOGY);
     };
     match Dots::new(b'0', b'1', width as usize, height as usize, dots) {

@@ -4,7 +4,9 @@ ghost use Rattle.capi.specs.Read.{AnswersFound, DeclinesFound, bits_asked, regio
 ghost use Rattle.reading.specs.Found.{found_of};
 
 use crate::draw::declined;
-use crate::numbers::{Answer, BAD_OPTION, CallRegion, FoundInfo, are_unused, flag_of, number_of};
+use crate::numbers::{
+    Answer, BAD_OPTION, CallRegion, FoundInfo, are_unused, flag_numbered, number_of,
+};
 use crate::read::{NOT_READ, offer};
 use reading::{BitRegion, Bits, Reading, read_any};
 
@@ -19,7 +21,7 @@ pub struct ToldFound {
 fn region_of(numbers: &CallRegion) -> Option<BitRegion>
     ensures { result ≡ region_numbered numbers.now }
 {
-    let dark = flag_of(numbers.dark)?;
+    let dark = flag_numbered(numbers.dark)?;
     are_unused(&numbers.reserved).then_some(BitRegion {
         stride: numbers.stride,
         left: numbers.left,

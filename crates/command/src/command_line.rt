@@ -6,6 +6,7 @@ ghost use Rattle.command.specs.Private.Rules.{rule};
 
 use clap::builder::ValueParser;
 use clap::{Arg, ArgAction, Command};
+use labelcore::{Bounds, HEIGHT, MASK, MIN_VERSION, SCALE};
 use std::alloc::{AllocError, Global};
 
 /// The program and its version: the first line of the help text.
@@ -45,7 +46,7 @@ enum Takes {
     /// An option with a text.
     Text(&'static str),
     /// An option with a whole number within these bounds.
-    Number(&'static str, i64, i64),
+    Number(&'static str, Bounds),
     /// An option with no value.
     Nothing,
     /// No option, but the name of a file.
@@ -61,12 +62,12 @@ static ARGUMENTS: [Argument; 8] = [
     },
     Argument {
         name: "scale",
-        takes: Takes::Number("1-8", 1, 8),
+        takes: Takes::Number("1-8", SCALE),
         help: "The width and height of a module in pixels [default: 1]",
     },
     Argument {
         name: "height",
-        takes: Takes::Number("1-500", 1, 500),
+        takes: Takes::Number("1-500", HEIGHT),
         help: "The height of EAN, UPC and Code 128 symbols in modules [default: 50]",
     },
     Argument {
@@ -76,12 +77,12 @@ static ARGUMENTS: [Argument; 8] = [
     },
     Argument {
         name: "min-version",
-        takes: Takes::Number("1-10", 1, 10),
+        takes: Takes::Number("1-10", MIN_VERSION),
         help: "The smallest version of QR symbols [default: 1]",
     },
     Argument {
         name: "mask",
-        takes: Takes::Number("0-7", 0, 7),
+        takes: Takes::Number("0-7", MASK),
         help: "The mask of QR symbols [default: the mask with the lowest penalty]",
     },
     Argument {
@@ -120,10 +121,9 @@ fn arg_of<'a>(alloc: Global, argument: &Argument) -> Arg<'a>
     let arg = Arg::new(alloc, name).help(argument.help);
     match argument.takes {
         Takes::Text(value) => arg.long(name).value_name(value),
-        Takes::Number(value, low, high) => arg
-            .long(name)
-            .value_name(value)
-            .value_parser(ValueParser::Signed(low, high)),
+        Takes::Number(value, bounds) => arg.long(name).value_name(value).value_parser(
+            ValueParser::Signed(i64::from(bounds.low), i64::from(bounds.high)),
+        ),
         Takes::Nothing => arg.long(name).action(ArgAction::SetTrue),
         Takes::File(value) => arg.value_name(value),
     }

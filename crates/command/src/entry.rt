@@ -1,15 +1,15 @@
 //! The program: from the arguments to what it writes and to its status.
-ghost use Rattle.std.specs.Prelude.{◌≡◌, List, ℕ, Option, Some, IfSome, MatchResult, map, option_map, string_bytes};
-ghost use Rattle.device.specs.Streams.{reader_of};
+ghost use Rattle.std.specs.Prelude.{MatchResult, map, option_map, string_bytes};
+ghost use Rattle.std.specs.Result.{result_map_both};
+ghost use Rattle.device.specs.Device.{Begins};
 ghost use Rattle.command.specs.CommandLine.{invocation_of, run};
-ghost use Rattle.command.specs.Program.{EndsShown, EndsSo, Finishes, Helps, RunsOverNew, WriterTook, devices};
+ghost use Rattle.command.specs.Program.{EndsShown, EndsSo, Finishes, Helps};
 
 use crate::arguments::{ArgumentsFault, Choice, options_of};
 use crate::end::End;
 use crate::file::{NamedFiles, OpenFault};
 use device::{Buffered, IoFault, Sink, Source, StdSink, StdSource, write_whole};
-use filter::{RunFault, Status, run_streams};
-use labelcore::Options;
+use filter::{RunFault, run_streams};
 use std::alloc::{AllocGlobal, Global};
 use std::env;
 use std::io::{ErrorKind, Read, Write};
@@ -48,19 +48,26 @@ pub fn program<F: NamedFiles, R: Read, W: Write, E: Sink>(
     output: &mut Buffered<StdSink<W>>,
     errors: &mut E,
 ) -> u8
-    ensures runs { let before = devices files.old input.old output.old errors.old in
-        let after = devices files.new input.new output.new in
-        Finishes E.Sink (λ told end. MatchResult arguments
-        (λ known. EndsSo (⟦<StdSource<R> as Source>⟧) R.remaining (⟦<StdSource<F::Reader> as Source>⟧)
-        F.Reader.remaining (⟦<Buffered<StdSink<W>> as Sink>⟧) W.contents E.Sink F.opens F.bytes_of F.refuses
-        before (after told) end (invocation_of (map string_bytes known.items)))
-        (λ early. (end ≡ early) × (after told ≡ before))) errors.new result }
-    ensures shows { let before = devices files.old input.old output.old errors.old in
-        let after = devices files.new input.new output.new in
-        Finishes E.Sink (λ told end. MatchResult arguments
-        (λ known. EndsShown R.remaining (⟦<Buffered<StdSink<W>> as Sink>⟧) W.contents E.Sink
-        F.opens F.bytes_of F.refuses before (after told) end (invocation_of (map string_bytes known.items)))
-        (λ early. (end ≡ early) × (after told ≡ before))) errors.new result }
+    ensures runs { Finishes (record {
+      files = F.NamedFiles;
+      file = record { source = ⟦<StdSource<F::Reader> as Source>⟧; left = F.Reader.remaining };
+      input = record { source = ⟦<StdSource<R> as Source>⟧; left = R.remaining };
+      out = ⟦<Buffered<StdSink<W>> as Sink>⟧;
+      contents = W.contents;
+      err = E.Sink;
+    }) EndsSo (result_map_both (λ known. map string_bytes known.items) (λ early. early) arguments)
+        (record { files = files.old; input = input.old; output = output.old; errors = errors.old })
+        (record { files = files.new; input = input.new; output = output.new; errors = errors.new }) result }
+    ensures shows { Finishes (record {
+      files = F.NamedFiles;
+      file = record { source = ⟦<StdSource<F::Reader> as Source>⟧; left = F.Reader.remaining };
+      input = record { source = ⟦<StdSource<R> as Source>⟧; left = R.remaining };
+      out = ⟦<Buffered<StdSink<W>> as Sink>⟧;
+      contents = W.contents;
+      err = E.Sink;
+    }) EndsShown (result_map_both (λ known. map string_bytes known.items) (λ early. early) arguments)
+        (record { files = files.old; input = input.old; output = output.old; errors = errors.old })
+        (record { files = files.new; input = input.new; output = output.new; errors = errors.new }) result }
 {
     let end = match arguments {
         Ok(arguments) => end_of(alloc, arguments.as_slice(), files, input, output, errors),
@@ -80,9 +87,15 @@ fn end_of<F: NamedFiles, R: Read, W: Write, E: Sink>(
     output: &mut Buffered<StdSink<W>>,
     errors: &mut E,
 ) -> End
-    ensures { EndsSo (⟦<StdSource<R> as Source>⟧) R.remaining (⟦<StdSource<F::Reader> as Source>⟧)
-        F.Reader.remaining (⟦<Buffered<StdSink<W>> as Sink>⟧) W.contents E.Sink F.opens F.bytes_of F.refuses
-        (devices files.old input.old output.old errors.old) (devices files.new input.new output.new errors.new)
+    ensures { EndsSo (record {
+      files = F.NamedFiles;
+      file = record { source = ⟦<StdSource<F::Reader> as Source>⟧; left = F.Reader.remaining };
+      input = record { source = ⟦<StdSource<R> as Source>⟧; left = R.remaining };
+      out = ⟦<Buffered<StdSink<W>> as Sink>⟧;
+      contents = W.contents;
+      err = E.Sink;
+    }) (record { files = files.old; input = input.old; output = output.old; errors = errors.old })
+        (record { files = files.new; input = input.new; output = output.new; errors = errors.new })
         result (invocation_of (map string_bytes arguments.now)) }
 {
     match options_of(alloc, arguments) {
@@ -98,7 +111,9 @@ fn end_of<F: NamedFiles, R: Read, W: Write, E: Sink>(
 
 /// Prints the help text.
 fn help<O: Sink>(text: &str, output: &mut O) -> Result<(), IoFault>
-    ensures { Helps O.Sink output.old output.new result }
+    ensures helps { Helps O.Sink output.old output.new result }
+    ensures prints { MatchResult result (λ _. O.took output.old output.new text.now)
+        (λ _. Begins (O.took output.old output.new) text.now) }
 {
     write_whole(text.as_bytes(), output)?;
     output.flush()
@@ -112,33 +127,26 @@ fn run_choice<F: NamedFiles, R: Read, W: Write, E: Sink>(
     output: &mut Buffered<StdSink<W>>,
     errors: &mut E,
 ) -> End
-    ensures { EndsSo (⟦<StdSource<R> as Source>⟧) R.remaining (⟦<StdSource<F::Reader> as Source>⟧)
-        F.Reader.remaining (⟦<Buffered<StdSink<W>> as Sink>⟧) W.contents E.Sink F.opens F.bytes_of F.refuses
-        (devices files.old input.old output.old errors.old) (devices files.new input.new output.new errors.new)
+    ensures { EndsSo (record {
+      files = F.NamedFiles;
+      file = record { source = ⟦<StdSource<F::Reader> as Source>⟧; left = F.Reader.remaining };
+      input = record { source = ⟦<StdSource<R> as Source>⟧; left = R.remaining };
+      out = ⟦<Buffered<StdSink<W>> as Sink>⟧;
+      contents = W.contents;
+      err = E.Sink;
+    }) (record { files = files.old; input = input.old; output = output.old; errors = errors.old })
+        (record { files = files.new; input = input.new; output = output.new; errors = errors.new })
         result (run choice.now.options (option_map string_bytes choice.now.file)) }
 {
     match &choice.file {
         Some(name) => match files.open(name.as_str()) {
-            Ok(file) => End::Ran(run_over(choice.options, file, output, errors)),
+            Ok(file) => {
+                let mut source = StdSource::new(file);
+                End::Ran(run_streams(choice.options, &mut source, output, errors))
+            }
             Err(OpenFault::NoFile) => End::NoFile,
             Err(OpenFault::Memory) => End::NoMemory,
         },
         None => End::Ran(run_streams(choice.options, input, output, errors)),
     }
-}
-
-/// Runs the filter over a reader.
-fn run_over<R: Read + Drop, W: Write, E: Sink>(
-    options: Options,
-    reader: R,
-    output: &mut Buffered<StdSink<W>>,
-    errors: &mut E,
-) -> Result<Status, RunFault>
-    ensures { (known : Option (List ℕ)) → IfSome known (λ bytes. R.remaining reader ≡ Some bytes)
-        → RunsOverNew (⟦<StdSource<R> as Source>⟧) (⟦<Buffered<StdSink<W>> as Sink>⟧) E.Sink
-        (λ s. R.remaining (reader_of s)) (WriterTook W.contents) known options
-        output.old output.new errors.old errors.new result }
-{
-    let mut source = StdSource::new(reader);
-    run_streams(options, &mut source, output, errors)
 }

@@ -7,7 +7,7 @@ ghost use Rattle.filter.specs.Filter.{CountsFault, FilterState, FlushesImagesFir
 ghost use Rattle.filter.specs.Filter.{Feeds, PassesOnFirst, Sends, Stops, Took, taken};
 ghost use Rattle.filter.specs.Output.{ended_script, flushes, script, status_of};
 
-use crate::line::finish_line;
+use crate::line_end::finish_line;
 use crate::status::{RunFault, Status};
 use device::Sink;
 use labelcore::{LineBuf, Options, split_line};

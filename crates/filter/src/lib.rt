@@ -6,7 +6,7 @@
 #![tactic(auto)]
 
 mod filter;
-mod line;
+mod line_end;
 mod read_loop;
 mod status;
 mod streams;

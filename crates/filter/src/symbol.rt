@@ -14,7 +14,7 @@ ghost use Rattle.filter.specs.Symbol.{linear_symbol, quiet_zone, symbol_of};
 
 use device::{IoFault, Sink};
 use labelcore::{Fault, Format, LabelOptions, Options, RunOptions, Symbology};
-use linear::{Code128, Ean8, Ean13, Linear, QuietZones, Row, UpcA};
+use linear::{Code128, Ean8, Ean13, Linear, Row, Sides, UpcA};
 use picture::{Bars, Framed, Grid, QuietZone, Scaled, write_ascii, write_pbm};
 use qrdata::{Codewords, choose, codewords};
 use qrmatrix::{Matrix, QUIET_ZONE};
@@ -154,10 +154,10 @@ pub fn zone_of(symbology: Symbology) -> QuietZone
     ensures low { symbology ≢ Qr → result.top + result.bottom ≡ 0 }
 {
     match symbology {
-        Symbology::Ean13 => zone_beside(Ean13::QUIET_ZONES),
-        Symbology::Ean8 => zone_beside(Ean8::QUIET_ZONES),
-        Symbology::UpcA => zone_beside(UpcA::QUIET_ZONES),
-        Symbology::Code128 => zone_beside(Code128::QUIET_ZONES),
+        Symbology::Ean13 => zone_beside(Ean13::QUIET_ZONE),
+        Symbology::Ean8 => zone_beside(Ean8::QUIET_ZONE),
+        Symbology::UpcA => zone_beside(UpcA::QUIET_ZONE),
+        Symbology::Code128 => zone_beside(Code128::QUIET_ZONE),
         Symbology::Qr => QuietZone {
             left: QUIET_ZONE,
             right: QUIET_ZONE,
@@ -167,13 +167,13 @@ pub fn zone_of(symbology: Symbology) -> QuietZone
     }
 }
 
-/// Returns quiet zones before and after a row.
-fn zone_beside(zones: QuietZones) -> QuietZone
-    ensures { result ≡ beside zones }
+/// Returns the quiet zone beside a row, with nothing above and below it.
+fn zone_beside(sides: Sides) -> QuietZone
+    ensures { result ≡ beside sides }
 {
     QuietZone {
-        left: zones.left,
-        right: zones.right,
+        left: sides.left,
+        right: sides.right,
         top: 0,
         bottom: 0,
     }

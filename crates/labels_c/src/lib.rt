@@ -4,17 +4,17 @@
 //! written overlaps nothing else that is passed; each byte of `modules` is 0 or 1 when the call begins.
 #![tactic(auto)]
 
-ghost use Rattle.capi.specs.Bits.{AnswersBits, ReadsBits};
-ghost use Rattle.capi.specs.Calls.{Answers, ReadsAsked, asked, line_asked};
+ghost use Rattle.capi.specs.Bitmap.{AnswersBitmap, ReadsBitmap};
+ghost use Rattle.capi.specs.Calls.{AnswersImage, ReadsImage, asked, line_asked};
 ghost use Rattle.capi.specs.Full.{PutsFull};
 ghost use Rattle.capi.specs.Layout.{AnswersLayout};
-ghost use Rattle.capi.specs.Modules.{AnswersAsked, NumbersAsked, ReadsModules};
-ghost use Rattle.capi.specs.Numbers.{code_of, symbology_numbered};
+ghost use Rattle.capi.specs.Modules.{AnswersModules, NumbersAsked, ReadsModules};
+ghost use Rattle.capi.specs.Numbers.{symbology_numbered};
 ghost use Rattle.capi.specs.Read.{AnswersFound, AnswersRead, bits_asked, modules_asked, read_asked};
 
 use capi::{Answer, CallOptions, CallRegion, FoundInfo, Layout, SymbolInfo};
 
-/// Draws one symbol into `out`, or puts the reason why there is none into `message`.
+/// Puts the image of one symbol into `out`, or the reason why there is none into `message`.
 #[unsafe(no_mangle)]
 pub extern "C" fn labels_proved_draw(
     options: &CallOptions,
@@ -24,13 +24,13 @@ pub extern "C" fn labels_proved_draw(
     message: &mut [u8],
     answer: &mut Answer,
 )
-    ensures answers { Answers (record {
+    ensures answers { AnswersImage (record {
       out = out.old;
       out_after = out.new;
       message = message.old;
       message_after = message.new;
     }) answer.new (asked options.now symbology bytes.now) }
-    ensures read { ReadsAsked (asked options.now symbology bytes.now) }
+    ensures read { ReadsImage (asked options.now symbology bytes.now) }
 {
     *answer = capi::draw_into(options, symbology, bytes, out, message);
 }
@@ -47,12 +47,12 @@ pub extern "C" fn labels_proved_symbol(
     info: &mut SymbolInfo,
     answer: &mut Answer,
 )
-    ensures answers { AnswersAsked (record {
+    ensures answers { AnswersModules (record {
       modules = modules.old;
       modules_after = modules.new;
       message = message.old;
       message_after = message.new;
-    }) answer.new info.new (asked options.now symbology bytes.now) code_of }
+    }) answer.new info.new (asked options.now symbology bytes.now) }
     ensures read { ReadsModules (asked options.now symbology bytes.now) }
     ensures numbers { NumbersAsked info.new (asked options.now symbology bytes.now) }
     ensures full { PutsFull full.old full.new info.new.data_length (asked options.now symbology bytes.now) }
@@ -62,7 +62,7 @@ pub extern "C" fn labels_proved_symbol(
     *answer = told.answer;
 }
 
-/// Puts the dots of one symbol into `bits`, or the reason why there are none into `message`.
+/// Puts the bitmap of one symbol into `bits`, or the reason why there is none into `message`.
 #[unsafe(no_mangle)]
 pub extern "C" fn labels_proved_bitmap(
     options: &CallOptions,
@@ -75,19 +75,19 @@ pub extern "C" fn labels_proved_bitmap(
     height: &mut u32,
     answer: &mut Answer,
 )
-    ensures answers { AnswersBits (record {
+    ensures answers { AnswersBitmap (record {
       out = bits.old;
       out_after = bits.new;
       message = message.old;
       message_after = message.new;
     }) stride (record { answer = answer.new; width = width.new; height = height.new })
         (asked options.now symbology bytes.now) }
-    ensures read { ReadsBits (asked options.now symbology bytes.now) }
+    ensures read { ReadsBitmap (asked options.now symbology bytes.now) }
 {
-    let dots = capi::bits_into(options, symbology, bytes, bits, stride, message);
-    *width = dots.width;
-    *height = dots.height;
-    *answer = dots.answer;
+    let told = capi::bitmap_into(options, symbology, bytes, bits, stride, message);
+    *width = told.width;
+    *height = told.height;
+    *answer = told.answer;
 }
 
 /// Puts the modules of the symbol that a line of text draws into `modules`, or the reason why there is none into
@@ -102,12 +102,12 @@ pub extern "C" fn labels_proved_line(
     info: &mut SymbolInfo,
     answer: &mut Answer,
 )
-    ensures answers { AnswersAsked (record {
+    ensures answers { AnswersModules (record {
       modules = modules.old;
       modules_after = modules.new;
       message = message.old;
       message_after = message.new;
-    }) answer.new info.new (line_asked options.now text.now) code_of }
+    }) answer.new info.new (line_asked options.now text.now) }
     ensures read { ReadsModules (line_asked options.now text.now) }
     ensures numbers { NumbersAsked info.new (line_asked options.now text.now) }
     ensures full { PutsFull full.old full.new info.new.data_length (line_asked options.now text.now) }
@@ -117,7 +117,7 @@ pub extern "C" fn labels_proved_line(
     *answer = told.answer;
 }
 
-/// Draws what a line of text asks for into `out`, or puts the reason why there is no picture into `message`.
+/// Puts the image of what a line of text asks for into `out`, or the reason why there is none into `message`.
 #[unsafe(no_mangle)]
 pub extern "C" fn labels_proved_draw_line(
     options: &CallOptions,
@@ -126,18 +126,18 @@ pub extern "C" fn labels_proved_draw_line(
     message: &mut [u8],
     answer: &mut Answer,
 )
-    ensures answers { Answers (record {
+    ensures answers { AnswersImage (record {
       out = out.old;
       out_after = out.new;
       message = message.old;
       message_after = message.new;
     }) answer.new (line_asked options.now text.now) }
-    ensures read { ReadsAsked (line_asked options.now text.now) }
+    ensures read { ReadsImage (line_asked options.now text.now) }
 {
     *answer = capi::draw_line_into(options, text, out, message);
 }
 
-/// Puts the dots of what a line of text asks for into `bits`, or the reason why there are none into `message`.
+/// Puts the bitmap of what a line of text asks for into `bits`, or the reason why there is none into `message`.
 #[unsafe(no_mangle)]
 pub extern "C" fn labels_proved_bitmap_line(
     options: &CallOptions,
@@ -149,19 +149,19 @@ pub extern "C" fn labels_proved_bitmap_line(
     height: &mut u32,
     answer: &mut Answer,
 )
-    ensures answers { AnswersBits (record {
+    ensures answers { AnswersBitmap (record {
       out = bits.old;
       out_after = bits.new;
       message = message.old;
       message_after = message.new;
     }) stride (record { answer = answer.new; width = width.new; height = height.new })
         (line_asked options.now text.now) }
-    ensures read { ReadsBits (line_asked options.now text.now) }
+    ensures read { ReadsBitmap (line_asked options.now text.now) }
 {
-    let dots = capi::bits_line_into(options, text, bits, stride, message);
-    *width = dots.width;
-    *height = dots.height;
-    *answer = dots.answer;
+    let told = capi::bitmap_line_into(options, text, bits, stride, message);
+    *width = told.width;
+    *height = told.height;
+    *answer = told.answer;
 }
 
 /// Reads the dots of a picture, a digit `0` or `1` each, as a symbol, and puts its full data into `out`.

@@ -6,14 +6,14 @@ use Rattle.std.proofs.lemmas.Bool.Decides.{Decides-eqb}
 use Rattle.linear.specs.Modules.{same_modules}
 use Rattle.linear.specs.Code128.{characters, character_modules}
 use Rattle.linear.specs.CodingLaws.{CharactersDiffer, CharactersHaveElevenModules, WidthsAreEven}
-use Rattle.linear.proofs.PatternLaws.{passes_at, is_value, value_from_test}
+use Rattle.linear.proofs.PatternLaws.{passes, is_value, value_from_test}
 use Rattle.linear.proofs.TableLaws.{all_characters, characters-all_characters, stop_character}
 
 -- a character has eleven modules
 pub length-character_modules : CharactersHaveElevenModules
 unfolding all_characters
 length-character_modules value h = ap (λ table. length (get_or table value [])) characters-all_characters
-    ∙ (Decides-eqb _ 11).0 (passes_at (λ v. eqb (length (get_or all_characters v [])) 11) 106 value refl h)
+    ∙ (Decides-eqb _ 11).0 (passes (λ v. eqb (length (get_or all_characters v [])) 11) 106 value refl h)
 
 -- the stop character has thirteen
 pub length-stop : length (character_modules 106) ≡ 13
@@ -31,7 +31,7 @@ pub group_value-character_modules : (value : ℕ) → value ≤ 106 → group_va
 unfolding all_characters
 group_value-character_modules value h =
     ap (λ table. position (same_modules (get_or table value [])) table) characters-all_characters
-    ∙ value_from_test _ _ (passes_at (λ v. is_value
+    ∙ value_from_test _ _ (passes (λ v. is_value
     (position (same_modules (get_or all_characters v [])) all_characters) v) 107 value refl (omega arith))
 
 pub character_modules-differs : CharactersDiffer
@@ -44,5 +44,5 @@ pub count_by-character_modules : WidthsAreEven
 unfolding all_characters
 count_by-character_modules value h = ap (λ table. count_by (λ dark. dark)
     (get_or table value []) % 2) characters-all_characters
-    ∙ (Decides-eqb _ 0).0 (passes_at (λ v. eqb (count_by (λ dark. dark) (get_or all_characters v []) % 2) 0) 106 value
+    ∙ (Decides-eqb _ 0).0 (passes (λ v. eqb (count_by (λ dark. dark) (get_or all_characters v []) % 2) 0) 106 value
     refl h)

@@ -2,9 +2,10 @@
 use Rattle.std.proofs.Common.{ℕ, [], ◌∷◌, ◌≡◌, eq-eqb, ◌+◌, ◌-◌, ◌*◌, ◌/◌, ◌≤◌, le-leb, Bool, List}
 use Rattle.std.proofs.Common.{◌++◌, length, refl, arith, length-append}
 use Rattle.std.specs.Prelude.{flat_map}
+use Rattle.std.proofs.lemmas.List.{drop_at}
 use Rattle.linear.specs.Code128.{character_modules}
 use Rattle.linear.specs.Code128Reading.{symbol_data, read_code128}
-use Rattle.linear.proofs.GroupLaws.{drop-append, AreGroups, no_groups, group_more}
+use Rattle.linear.proofs.GroupLaws.{AreGroups, no_groups, group_more}
 use Rattle.linear.proofs.CharacterLaws.{group_value, length-character_modules, length-stop, same_modules-stop}
 use Rattle.linear.proofs.CharacterLaws.{group_value-character_modules}
 use Rattle.linear.proofs.ValueRangeLaws.{AreCharacters}
@@ -38,7 +39,7 @@ read_code128-characters values a some =
       count,
       le-leb 3 (length values) some,
       eq-eqb (length row) (11 * length values + 13) long,
-      drop-append (11 * length values) (flat_map character_modules values) (character_modules 106) groups.long,
+      drop_at (flat_map character_modules values) (character_modules 106) (11 * length values) groups.long,
       same_modules-stop,
       groups.read (character_modules 106),
     ) refl

@@ -8,7 +8,7 @@ use Rattle.std.proofs.lemmas.List.Sums.{sum_by-cons}
 use Rattle.std.proofs.lemmas.Nat.{mul-mod, mul-mod_first}
 use Rattle.std.proofs.Math.Nat.{mul_assoc}
 use Rattle.linear.specs.CodingLaws.{WrongValuesAreSeen, NeighboursAreSeen}
-use Rattle.linear.proofs.PatternLaws.{passes_at}
+use Rattle.linear.proofs.PatternLaws.{passes}
 
 -- the values, each times its place from n on, added
 abbrev weighted : ℕ → List ℕ → ℕ
@@ -40,7 +40,7 @@ inverses = refl
 by_inverse : (r value : ℕ) → 0 < r → r < 103 → value < 103 → (inverse r * (r * value)) % 103 ≡ value
 by_inverse zero value some low small = absurd (omega arith)
 by_inverse (suc k) value some low small =
-    let one = eqb-true _ 1 (passes_at (λ k. (inverse (suc k) * suc k) % 103 == 1) 102 k inverses (omega arith)) in
+    let one = eqb-true _ 1 (passes (λ k. (inverse (suc k) * suc k) % 103 == 1) 102 k inverses (omega arith)) in
     ap (λ n. n % 103) (sym (mul_assoc (inverse (suc k)) (suc k) value))
     ∙ sym (mul-mod_first (inverse (suc k) * suc k) value 103)
     ∙ ap (λ n. (n * value) % 103) one ∙ omega arith

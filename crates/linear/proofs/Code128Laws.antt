@@ -8,6 +8,7 @@ use Rattle.std.specs.List.{AllByRecursion}
 use Rattle.std.proofs.lemmas.Slice.Eq.{bytes_eq-Decides}
 use Rattle.std.proofs.lemmas.List.Elements.{All-from_recursion, recursion_from_All}
 use Rattle.std.proofs.lemmas.Bool.Decides.{nat_tests}
+use Rattle.std.proofs.lemmas.List.{take_at}
 use Rattle.linear.specs.declared.switching.CodeSet.{CodeSet}
 use Rattle.linear.specs.declared.switching.CodeSet.TheVariants.{A, B, C}
 use Rattle.linear.specs.declared.refusal.Refusal.TheVariants.{DataTooLong, NotAscii}
@@ -17,7 +18,6 @@ use Rattle.linear.specs.Code128.{check_value, with_check, code128_row, full_code
 use Rattle.linear.specs.Private.Data.{IsCode128Data}
 use Rattle.linear.specs.Code128Reading.{read_values, symbol_data, read_code128}
 use Rattle.linear.proofs.DigitLaws.{fails_from_None}
-use Rattle.linear.proofs.GroupLaws.{take-append}
 use Rattle.linear.proofs.CodeSetLaws.{Written, nothing, plain, shifted, changed, pair, data_values-written}
 use Rattle.linear.proofs.EanLaws.{ReadsBack}
 use Rattle.linear.proofs.CharacterRowLaws.{length-row, read_code128-characters}
@@ -30,7 +30,7 @@ pub between_first_and_last : (start check : ℕ) (values : List ℕ)
 between_first_and_last start check values =
     let long : length (values ++ check ∷ []) ≡ length values + 1 = length-append values (check ∷ []) in
     let count : length (start ∷ (values ++ check ∷ [])) - 1 - 1 ≡ length values = omega arith in
-    ap (λ k. take k (values ++ check ∷ [])) count ∙ take-append (length values) values (check ∷ []) refl
+    ap (λ k. take k (values ++ check ∷ [])) count ∙ take_at values (check ∷ []) (length values) refl
 
 same_values : (values : List ℕ) → bytes_eq values values ≡ true
 same_values values = (bytes_eq-Decides values values).1 refl

@@ -27,7 +27,7 @@ use Rattle.linear.proofs.CharacterRowLaws.{length-row}
 use Rattle.linear.proofs.ValueRangeLaws.{AreCharacters}
 use Rattle.linear.proofs.CheckDigitLaws.{full_digits_tell, same_digits, wrong_digits, wrong_digits-append}
 use Rattle.linear.proofs.EanLaws.{back_digits, by_recursion, front_digits}
-use Rattle.linear.proofs.PatternLaws.{length-left_sets, length-pattern, passes_at, right_half}
+use Rattle.linear.proofs.PatternLaws.{length-left_sets, length-pattern, passes, right_half}
 use Rattle.linear.proofs.ReadRowLaws.{code128_drawn, ean13_drawn, ean8_drawn, patterns_in, same_modules-same}
 use Rattle.linear.proofs.ReadRowLaws.{upca_drawn}
 use Rattle.linear.proofs.TableLaws.{all_characters, characters-all_characters, count_characters}
@@ -93,8 +93,8 @@ digit_far set other x y h k =
     let a = digit_value x in
     let b = digit_value y in
     let same : ◌≡◌ {A = ℕ} (if x == y then 0 else 1) (if a == b then 0 else 1) = grind (arith, nat_tests, h, k) in
-    let far = and_parts _ _ (passes_at (are_far set other a) 10 b
-    (passes_at (λ digit. list_all (are_far set other digit) (range_with_len 0 10)) 10 a (all_far set other)
+    let far = and_parts _ _ (passes (are_far set other a) 10 b
+    (passes (λ digit. list_all (are_far set other digit) (range_with_len 0 10)) 10 a (all_far set other)
     (omega (arith, h))) (omega (arith, k))) in
     let letter : unlike set other ≤ turned_modules (pattern set a) (pattern other b) = leb-true _ _ far.0 in
     (omega (arith, letter), omega (arith, leb-true _ _ far.1, same))
@@ -192,8 +192,8 @@ all_apart = refl
 first_digit : (i j : ℕ) → i < 10 → j < 10 → turned_modules (map is_a (left_sets i)) (map is_a (left_sets j)) ≤ 1 → i ≡ j
 unfolding letters_apart
 first_digit i j h k few =
-    elim (or_cases (i == j) _ (passes_at (letters_apart i) 10 j
-    (passes_at (λ i. list_all (letters_apart i) (range_with_len 0 10)) 10 i all_apart h) k)) [
+    elim (or_cases (i == j) _ (passes (letters_apart i) 10 j
+    (passes (λ i. list_all (letters_apart i) (range_with_len 0 10)) 10 i all_apart h) k)) [
       | inl same ↦ eqb-true i j same
       | inr far ↦ absurd (omega (arith, few, leb-true _ _ far))
     ]

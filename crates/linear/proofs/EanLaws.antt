@@ -9,7 +9,7 @@ use Rattle.std.specs.Str.{bytes_eq}
 use Rattle.std.specs.Char.{IsAsciiDigit}
 use Rattle.std.specs.List.{AllByRecursion}
 use Rattle.std.proofs.lemmas.Bool.Decides.{nat_tests}
-use Rattle.std.proofs.lemmas.List.{take_more, take_all, length-take-le, length-drop, take-append-drop, length-map}
+use Rattle.std.proofs.lemmas.List.{take_more, take_all, length-take-le, length-drop, take-append-drop, length-map, drop_at}
 use Rattle.std.proofs.lemmas.Slice.Zip.{firsts-zip, seconds-zip}
 use Rattle.std.proofs.lemmas.List.Elements.{All-cons, All-take, All-drop, recursion_from_All}
 use Rattle.linear.specs.declared.ean.NumberSet.{NumberSet}
@@ -23,7 +23,7 @@ use Rattle.linear.proofs.PatternLaws.{right_half, length-pattern, digit_in-patte
 use Rattle.linear.proofs.PatternLaws.{length-left_sets, letter_of, position-left_sets, IsAOrB, left_sets_a_or_b}
 use Rattle.linear.specs.Private.Data.{AreDigits, IsFull}
 use Rattle.linear.proofs.DigitLaws.{of_full_digits}
-use Rattle.linear.proofs.GroupLaws.{drop-append, drop-append_more, AreGroups, no_groups, group_more}
+use Rattle.linear.proofs.GroupLaws.{drop-append_more, AreGroups, no_groups, group_more}
 
 digit_again : (byte : ℕ) → IsAsciiDigit byte → 48 + digit_value byte ≡ byte
 digit_again byte h = omega arith
@@ -74,7 +74,7 @@ module _ {Y : Type 0} (found : List Bool → Option Y) (n : ℕ) (sets : List Nu
     -- what follows the left half, the centre guard and the right half
     from_centre : drop (3 + 7 * n) (symbol sets left right) ≡ centre_guard ++ (right_half right ++ normal_guard)
     from_centre = drop-append_more 3 (7 * n) normal_guard _ refl
-        ∙ drop-append (7 * n) (patterns sets left) _ on_left.long
+        ∙ drop_at (patterns sets left) _ (7 * n) on_left.long
 
     from_right : drop (8 + 7 * n) (symbol sets left right) ≡ right_half right ++ normal_guard
     from_right =
@@ -88,7 +88,7 @@ module _ {Y : Type 0} (found : List Bool → Option Y) (n : ℕ) (sets : List Nu
         ∙ drop-append_more 3 (7 * n + (5 + 7 * n)) normal_guard _ refl
         ∙ drop-append_more (7 * n) (5 + 7 * n) (patterns sets left) _ on_left.long
         ∙ drop-append_more 5 (7 * n) centre_guard _ refl
-        ∙ drop-append (7 * n) (right_half right) normal_guard on_right.long
+        ∙ drop_at (right_half right) normal_guard (7 * n) on_right.long
 
     read_halves-symbol : read_halves n found (symbol sets left right) ≡ Some (ys, right)
     read_halves-symbol =

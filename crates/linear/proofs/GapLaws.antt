@@ -19,7 +19,7 @@ use Rattle.linear.specs.Code128Reading.{read_code128}
 use Rattle.linear.specs.Private.Data.{AreDigits, IsFull}
 use Rattle.linear.specs.Scanning.{HasNoGap}
 use Rattle.linear.proofs.EanLaws.{back_digits, by_recursion, front_digits}
-use Rattle.linear.proofs.PatternLaws.{IsAOrB, four_a, is_value, left_sets_a_or_b, passes_at, right_half}
+use Rattle.linear.proofs.PatternLaws.{IsAOrB, four_a, is_value, left_sets_a_or_b, passes, right_half}
 use Rattle.linear.proofs.PatternLaws.{value_from_test}
 use Rattle.linear.proofs.ReadRowLaws.{code128_drawn, ean13_drawn, ean8_drawn, upca_drawn}
 use Rattle.linear.proofs.TableLaws.{all_characters, characters-all_characters}
@@ -67,7 +67,7 @@ is_clear row = list_all (λ room. option_map_or (λ left. nat_le left 4) (clear 
 IsClear-is_clear : (row : List Bool) → is_clear row ≡ true → IsClear row
 IsClear-is_clear row e room few =
     at (clear room row)
-    (passes_at (λ room. option_map_or (λ left. nat_le left 4) (clear room row) false) 5 room e (omega arith))
+    (passes (λ room. option_map_or (λ left. nat_le left 4) (clear room row) false) 5 room e (omega arith))
   where
     at : (o : Option ℕ) → option_map_or (λ left. nat_le left 4) o false ≡ true
         → (left : ℕ) × (left ≤ 4) × (o ≡ Some left)
@@ -93,9 +93,9 @@ IsClear-flat_map drawn IsKnown each (x ∷ xs) known =
 left_clear : (set : NumberSet) (digit : ℕ) → IsAOrB set → digit < 10 → clear 4 (pattern set digit) ≡ Some 4
 unfolding clear number_set_a
 left_clear set digit (inl e) h =
-    rw e (value_from_test _ _ (passes_at (λ d. is_value (clear 4 (pattern A d)) 4) 10 digit refl h))
+    rw e (value_from_test _ _ (passes (λ d. is_value (clear 4 (pattern A d)) 4) 10 digit refl h))
 left_clear set digit (inr e) h =
-    rw e (value_from_test _ _ (passes_at (λ d. is_value (clear 4 (pattern B d)) 4) 10 digit refl h))
+    rw e (value_from_test _ _ (passes (λ d. is_value (clear 4 (pattern B d)) 4) 10 digit refl h))
 
 patterns_clear : (sets : List NumberSet) (bytes : List ℕ) → AllByRecursion IsAOrB sets
     → AllByRecursion IsAsciiDigit bytes → clear 4 (patterns sets bytes) ≡ Some 4
@@ -111,7 +111,7 @@ patterns_clear (set ∷ sets) (byte ∷ bytes) s d =
 right_clear : (byte : ℕ) → IsAsciiDigit byte → IsClear (pattern C (digit_value byte))
 unfolding clear number_set_a
 right_clear byte d = IsClear-is_clear (pattern C (digit_value byte))
-    (passes_at (λ digit. is_clear (pattern C digit)) 10 (digit_value byte) refl (omega (arith, d)))
+    (passes (λ digit. is_clear (pattern C digit)) 10 (digit_value byte) refl (omega (arith, d)))
 
 symbol_clear : (n : ℕ) (sets : List NumberSet) (bytes : List ℕ) → AllByRecursion IsAOrB sets → AreDigits (n + n) bytes
     → HasNoGap (symbol sets (take n bytes) (drop n bytes))
@@ -150,7 +150,7 @@ character_clear : (value : ℕ) → value < 107 → IsClear (character_modules v
 unfolding clear all_characters
 character_clear value h = subst IsClear (ap (λ table. get_or table value []) (sym characters-all_characters))
     (IsClear-is_clear (get_or all_characters value [])
-    (passes_at (λ value. is_clear (get_or all_characters value [])) 107 value refl h))
+    (passes (λ value. is_clear (get_or all_characters value [])) 107 value refl h))
 
 pub code128_gap : (row : List Bool) (full : List ℕ) → read_code128 row ≡ Some full → HasNoGap row
 code128_gap row full read =

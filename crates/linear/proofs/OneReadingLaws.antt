@@ -10,7 +10,7 @@ use Rattle.std.specs.Option.{option_to_list}
 use Rattle.std.proofs.lemmas.Bool.{false≢true}
 use Rattle.std.proofs.lemmas.Bool.Decides.{nat_tests}
 use Rattle.std.proofs.lemmas.Grind.{flat_map-append}
-use Rattle.std.proofs.lemmas.List.{get_or-reverse, length-reverse, reverse-append, take_all, take_more}
+use Rattle.std.proofs.lemmas.List.{get_or-reverse, length-reverse, reverse-append, take_all, take_more, take_at}
 use Rattle.std.proofs.lemmas.Option.{option_and_then_some}
 use Rattle.linear.specs.declared.ean.NumberSet.{NumberSet}
 use Rattle.linear.specs.declared.ean.NumberSet.TheVariants.{A, B, C}
@@ -28,9 +28,8 @@ use Rattle.linear.proofs.CharacterLaws.{group_value, group_value-character_modul
 use Rattle.linear.proofs.CharacterRowLaws.{length-row}
 use Rattle.linear.proofs.EanLaws.{back_digits, by_recursion, front_digits, left_groups_of, length-symbol}
 use Rattle.linear.proofs.EanLaws.{right_groups_of}
-use Rattle.linear.proofs.GroupLaws.{take-append}
 use Rattle.linear.proofs.PatternLaws.{digit_in-pattern, digit_in_a-pattern_b, length-left_sets, length-pattern}
-use Rattle.linear.proofs.PatternLaws.{passes_at, IsAOrB, four_a, left_sets_a_or_b, right_half}
+use Rattle.linear.proofs.PatternLaws.{passes, IsAOrB, four_a, left_sets_a_or_b, right_half}
 use Rattle.linear.proofs.ReadRowLaws.{code128_drawn, ean13_drawn, ean8_drawn}
 use Rattle.linear.proofs.ValueRangeLaws.{AreCharacters}
 use Rattle.linear.proofs.TableLaws.{all_characters, characters-all_characters, stop_character}
@@ -73,7 +72,7 @@ first_in_a (set ∷ sets) (byte ∷ bytes) after long some a d =
     let below : value < 10 = omega (arith, d.0) in
     rw (
       append_assoc (pattern set value) (patterns sets bytes) after,
-      take-append 7 (pattern set value) (patterns sets bytes ++ after) (length-pattern set value below),
+      take_at (pattern set value) (patterns sets bytes ++ after) 7 (length-pattern set value below),
     ) (a value below)
 
 -- backwards, the last right group is the first, and in set B
@@ -84,7 +83,7 @@ last_in_b front byte d =
     rw (
       reverse-append front (pattern C value ++ normal_guard),
       reverse-append (pattern C value) normal_guard,
-      take-append 7 (pattern B value) (reverse front) (length-pattern B value (omega (arith, d))),
+      take_at (pattern B value) (reverse front) 7 (length-pattern B value (omega (arith, d))),
       digit_in_a-pattern_b value (omega (arith, d)),
     ) refl
 
@@ -141,9 +140,9 @@ ean13_is row full read =
     ean13_row_is (first ∷ rest) f =
         let d : IsAsciiDigit first = f.digits.digits 0 0 (let long = f.digits.long in omega arith) in
         let value = digit_value first in
-        let all = passes_at (λ first. list_all (in_a first) (range_with_len 0 10)) 10 value all_in_a (omega arith) in
+        let all = passes (λ first. list_all (in_a first) (range_with_len 0 10)) 10 value all_in_a (omega arith) in
         symbol_is 5 (left_sets value) rest (length-left_sets value (omega arith)) (left_sets_a_or_b value)
-        (λ digit below. passes_at (in_a value) 10 digit all below) (back_digits 1 12 (first ∷ rest) f.digits)
+        (λ digit below. passes (in_a value) 10 digit all below) (back_digits 1 12 (first ∷ rest) f.digits)
 
 -- ---- Code 128
 
@@ -160,7 +159,7 @@ character_dark : (value : ℕ) → value < 107 → get_or (character_modules val
 unfolding all_characters
 character_dark value h =
     subst (λ row. get_or row 0 false ≡ true) (ap (λ table. get_or table value []) (sym characters-all_characters))
-    (passes_at (λ value. get_or (get_or all_characters value []) 0 false) 107 value refl h)
+    (passes (λ value. get_or (get_or all_characters value []) 0 false) 107 value refl h)
 
 code128_is : (row : List Bool) (full : List ℕ) → read_code128 row ≡ Some full
     → IsOneWay 2 begins_in_character row
@@ -178,7 +177,7 @@ code128_is row full read =
           long = omega (arith, length-row (value ∷ values) known);
           forwards = rw (
             append_assoc (character_modules value) rest (character_modules 106),
-            take-append 11 (character_modules value) (rest ++ character_modules 106)
+            take_at (character_modules value) (rest ++ character_modules 106) 11
                 (length-character_modules value known.0),
             group_value-character_modules value (omega (arith, known.0)),
           ) refl;

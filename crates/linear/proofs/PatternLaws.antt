@@ -17,8 +17,8 @@ use Rattle.linear.specs.Ean.{pattern, left_sets}
 use Rattle.linear.specs.EanReading.{digit_in, digit_in_a_or_b}
 
 -- a test that passes at each number below a bound passes at one of them
-pub passes_at : (test : ℕ → Bool) (n k : ℕ) → list_all test (range_with_len 0 n) ≡ true → k < n → test k ≡ true
-passes_at test n k all below =
+pub passes : (test : ℕ → Bool) (n k : ℕ) → list_all test (range_with_len 0 n) ≡ true → k < n → test k ≡ true
+passes test n k all below =
     subst (λ j. test j ≡ true) (get_or-range_with_len 0 n k 0 below ∙ zero-add k)
     (AllPass-from_list_all test (range_with_len 0 n) all k 0 (omega (arith, length-range_with_len 0 n)))
 
@@ -42,24 +42,24 @@ right_half bytes = flat_map (λ byte. pattern C (digit_value byte)) bytes
 -- a digit's pattern has seven modules
 pub length-pattern : (set : NumberSet) (digit : ℕ) → digit < 10 → length (pattern set digit) ≡ 7
 unfolding number_set_a
-length-pattern A digit h = (Decides-eqb _ 7).0 (passes_at (λ d. eqb (length (pattern A d)) 7) 10 digit refl h)
-length-pattern B digit h = (Decides-eqb _ 7).0 (passes_at (λ d. eqb (length (pattern B d)) 7) 10 digit refl h)
-length-pattern C digit h = (Decides-eqb _ 7).0 (passes_at (λ d. eqb (length (pattern C d)) 7) 10 digit refl h)
+length-pattern A digit h = (Decides-eqb _ 7).0 (passes (λ d. eqb (length (pattern A d)) 7) 10 digit refl h)
+length-pattern B digit h = (Decides-eqb _ 7).0 (passes (λ d. eqb (length (pattern B d)) 7) 10 digit refl h)
+length-pattern C digit h = (Decides-eqb _ 7).0 (passes (λ d. eqb (length (pattern C d)) 7) 10 digit refl h)
 
 -- a digit is found in its set
 pub digit_in-pattern : (set : NumberSet) (digit : ℕ) → digit < 10 → digit_in set (pattern set digit) ≡ Some (48 + digit)
 unfolding number_set_a
 digit_in-pattern A digit h =
-    value_from_test _ _ (passes_at (λ d. is_value (digit_in A (pattern A d)) (48 + d)) 10 digit refl h)
+    value_from_test _ _ (passes (λ d. is_value (digit_in A (pattern A d)) (48 + d)) 10 digit refl h)
 digit_in-pattern B digit h =
-    value_from_test _ _ (passes_at (λ d. is_value (digit_in B (pattern B d)) (48 + d)) 10 digit refl h)
+    value_from_test _ _ (passes (λ d. is_value (digit_in B (pattern B d)) (48 + d)) 10 digit refl h)
 digit_in-pattern C digit h =
-    value_from_test _ _ (passes_at (λ d. is_value (digit_in C (pattern C d)) (48 + d)) 10 digit refl h)
+    value_from_test _ _ (passes (λ d. is_value (digit_in C (pattern C d)) (48 + d)) 10 digit refl h)
 
 -- no pattern of set B is one of set A
 pub digit_in_a-pattern_b : (digit : ℕ) → digit < 10 → digit_in A (pattern B digit) ≡ None
 unfolding number_set_a
-digit_in_a-pattern_b digit h = none_from_test _ (passes_at (λ d. is_none (digit_in A (pattern B d))) 10 digit refl h)
+digit_in_a-pattern_b digit h = none_from_test _ (passes (λ d. is_none (digit_in A (pattern B d))) 10 digit refl h)
 
 -- the table's letter of a set
 abbrev pub letter_of : NumberSet → ℕ
@@ -75,14 +75,14 @@ digit_in_a_or_b-pattern set digit (inr e) h = rw (e, digit_in_a-pattern_b digit 
 -- the sets of a left half are six, each A or B, and give the first digit
 pub length-left_sets : (digit : ℕ) → digit < 10 → length (left_sets digit) ≡ 6
 unfolding left_half_sets
-length-left_sets digit h = (Decides-eqb _ 6).0 (passes_at (λ d. eqb (length (left_sets d)) 6) 10 digit refl h)
+length-left_sets digit h = (Decides-eqb _ 6).0 (passes (λ d. eqb (length (left_sets d)) 6) 10 digit refl h)
 
 pub position-left_sets : (digit : ℕ) → digit < 10
     → position (bytes_eq (map letter_of (left_sets digit))) left_half_sets ≡ Some digit
 unfolding left_half_sets
 position-left_sets digit h =
     value_from_test _ _
-    (passes_at (λ d. is_value (position (bytes_eq (map letter_of (left_sets d))) left_half_sets) d) 10 digit refl h)
+    (passes (λ d. is_value (position (bytes_eq (map letter_of (left_sets d))) left_half_sets) d) 10 digit refl h)
 
 abbrev pub IsAOrB : NumberSet → Type 0
 IsAOrB set = (set ≡ A) ⊎ (set ≡ B)

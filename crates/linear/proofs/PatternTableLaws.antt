@@ -8,7 +8,7 @@ use Rattle.linear.specs.Tables.{number_set_a}
 use Rattle.linear.specs.Ean.{pattern}
 use Rattle.linear.specs.EanReading.{digit_in}
 use Rattle.linear.specs.CodingLaws.{PatternsDiffer}
-use Rattle.linear.proofs.PatternLaws.{passes_at, none_from_test, digit_in-pattern, digit_in_a-pattern_b}
+use Rattle.linear.proofs.PatternLaws.{passes, none_from_test, digit_in-pattern, digit_in_a-pattern_b}
 
 -- the number set and the digit of a pattern
 identified : List Bool → Option (NumberSet × ℕ)
@@ -17,11 +17,11 @@ identified group = option_or (option_map (λ byte. (A, byte)) (digit_in A group)
 
 in_a-pattern_c : (digit : ℕ) → digit < 10 → digit_in A (pattern C digit) ≡ None
 unfolding number_set_a
-in_a-pattern_c digit h = none_from_test _ (passes_at (λ d. is_none (digit_in A (pattern C d))) 10 digit refl h)
+in_a-pattern_c digit h = none_from_test _ (passes (λ d. is_none (digit_in A (pattern C d))) 10 digit refl h)
 
 in_b-pattern_c : (digit : ℕ) → digit < 10 → digit_in B (pattern C digit) ≡ None
 unfolding number_set_a
-in_b-pattern_c digit h = none_from_test _ (passes_at (λ d. is_none (digit_in B (pattern C d))) 10 digit refl h)
+in_b-pattern_c digit h = none_from_test _ (passes (λ d. is_none (digit_in B (pattern C d))) 10 digit refl h)
 
 identified-pattern : (set : NumberSet) (digit : ℕ) → digit < 10
     → identified (pattern set digit) ≡ Some (set, 48 + digit)

@@ -12,7 +12,7 @@ use Rattle.std.specs.Result.{result_ok}
 use Rattle.std.specs.Str.{bytes_eq}
 use Rattle.std.proofs.lemmas.Bool.{and_parts, cases_lt}
 use Rattle.std.proofs.lemmas.Bool.Decides.{nat_tests}
-use Rattle.std.proofs.lemmas.List.{drop-drop, length-map, take-append-drop, take_all, take_more}
+use Rattle.std.proofs.lemmas.List.{drop-drop, length-map, take-append-drop, take_all, take_more, take_at, drop_at}
 use Rattle.std.proofs.lemmas.List.Elements.{All-append, All-from_recursion, All-cons}
 use Rattle.std.proofs.lemmas.List.Folds.{find_at}
 use Rattle.std.proofs.lemmas.List.FromFn.{get_or-range_with_len}
@@ -34,7 +34,6 @@ use Rattle.linear.specs.EanReading.{digit_in, digit_in_a_or_b, has_guards, read_
 use Rattle.linear.specs.EanReading.{read_upca, with_first_digit}
 use Rattle.linear.specs.Private.Data.{AreDigits, IsFull}
 use Rattle.linear.proofs.CharacterLaws.{group_value, length-stop}
-use Rattle.linear.proofs.GroupLaws.{take-append, drop-append}
 use Rattle.linear.proofs.PatternLaws.{right_half}
 use Rattle.linear.proofs.TableLaws.{characters-all_characters, count_characters}
 use Rattle.linear.proofs.ValueRangeLaws.{AreCharacters}
@@ -189,7 +188,7 @@ ean8_drawn row full e = option_and_then_some _ (read_halves 4 (digit_in A) row) 
     let checked = IsFull-checked 7 (h.0 ++ h.1) full (ean8_digits row h halves) right in
     let left = patterns_in A h.0 ∙ ap (λ n. patterns (replicate n A) h.0) are.left.count_is in
     let cut : ean8_row (h.0 ++ h.1) ≡ symbol (replicate 4 A) h.0 h.1 =
-    rw (take-append 4 h.0 h.1 are.left.count_is, drop-append 4 h.0 h.1 are.left.count_is) refl in (
+    rw (take_at h.0 h.1 4 are.left.count_is, drop_at h.0 h.1 4 are.left.count_is) refl in (
       are.row_is ∙ ap (λ l. normal_guard ++ (l ++ (centre_guard ++ (right_half h.1 ++ normal_guard)))) left
           ∙ sym cut ∙ ap ean8_row checked.0,
       checked.1,
@@ -265,7 +264,7 @@ ean13_drawn row full e =
     ap (map set_of) ((bytes_eq-Decides letters (get_or left_half_sets first [])).0 table.1)
     ∙ ap left_sets (sym value) in
     let cut : ean13_row ((48 + first) ∷ (left ++ h.1)) ≡ symbol (left_sets (digit_value (48 + first))) left h.1 =
-    rw (take-append 6 left h.1 long, drop-append 6 left h.1 long) refl in (
+    rw (take_at left h.1 6 long, drop_at left h.1 6 long) refl in (
       are.row_is ∙ ap (λ l. normal_guard ++ (l ++ (centre_guard ++ (right_half h.1 ++ normal_guard))))
           (patterns_of_letters h.0) ∙ ap (λ s. symbol s left h.1) sets ∙ sym cut ∙ ap ean13_row (same ∙ checked.0),
       checked.1,

@@ -8,7 +8,7 @@ ghost use Rattle.linear.specs.Private.Data.{IsCode128Data};
 ghost use Rattle.linear.specs.Private.Lists.{Appends};
 
 use crate::limits::MAX_BYTES;
-use crate::linear::{Linear, QuietZones};
+use crate::linear::{Linear, Sides};
 use crate::refusal::Refusal;
 use crate::row::{Row, push_modules};
 use crate::switching::{data_values, start_set, start_value};
@@ -125,9 +125,9 @@ impl Linear for Code128 {
 
     ghost turned_limit = { 1 };
 
-    ghost QUIET_ZONES = { record { left = 10; right = 10 } };
+    ghost QUIET_ZONE = { record { left = 10; right = 10 } };
 
-    const QUIET_ZONES: QuietZones = QuietZones {
+    const QUIET_ZONE: Sides = Sides {
         left: 10,
         right: 10,
     };

@@ -9,7 +9,7 @@ ghost use Rattle.linear.specs.Private.Data.{AreDigits, IsHalf};
 ghost use Rattle.linear.specs.Private.Lists.{Appends};
 
 use crate::digits::full_digits;
-use crate::linear::{Linear, QuietZones};
+use crate::linear::{Linear, Sides};
 use crate::refusal::Refusal;
 use crate::row::{Row, push_modules};
 use crate::tables::{CENTRE_GUARD, LEFT_SETS, NORMAL_GUARD, SET_A, SET_B, SET_C};
@@ -114,9 +114,9 @@ impl Linear for Ean8 {
 
     ghost turned_limit = { 3 };
 
-    ghost QUIET_ZONES = { record { left = 7; right = 7 } };
+    ghost QUIET_ZONE = { record { left = 7; right = 7 } };
 
-    const QUIET_ZONES: QuietZones = QuietZones { left: 7, right: 7 };
+    const QUIET_ZONE: Sides = Sides { left: 7, right: 7 };
 
     fn encode(data: &[u8], row: &mut Row) -> Result<(), Refusal> {
         row.clear();
@@ -157,9 +157,9 @@ impl Linear for Ean13 {
 
     ghost turned_limit = { 1 };
 
-    ghost QUIET_ZONES = { record { left = 11; right = 7 } };
+    ghost QUIET_ZONE = { record { left = 11; right = 7 } };
 
-    const QUIET_ZONES: QuietZones = QuietZones { left: 11, right: 7 };
+    const QUIET_ZONE: Sides = Sides { left: 11, right: 7 };
 
     fn encode(data: &[u8], row: &mut Row) -> Result<(), Refusal> {
         row.clear();
@@ -188,9 +188,9 @@ impl Linear for UpcA {
 
     ghost turned_limit = { 3 };
 
-    ghost QUIET_ZONES = { record { left = 9; right = 9 } };
+    ghost QUIET_ZONE = { record { left = 9; right = 9 } };
 
-    const QUIET_ZONES: QuietZones = QuietZones { left: 9, right: 9 };
+    const QUIET_ZONE: Sides = Sides { left: 9, right: 9 };
 
     fn encode(data: &[u8], row: &mut Row) -> Result<(), Refusal> {
         row.clear();

@@ -17,7 +17,7 @@ use Rattle.linear.specs.declared.tables.TheConstants.{CHARACTERS}
 use Rattle.linear.specs.Code128.{character_modules}
 use Rattle.linear.specs.Modules.{same_modules}
 use Rattle.linear.proofs.CharacterLaws.{group_value, group_value-character_modules}
-use Rattle.linear.proofs.PatternLaws.{passes_at}
+use Rattle.linear.proofs.PatternLaws.{passes}
 use Rattle.linear.proofs.ReadRowLaws.{character_drawn, same_modules-same}
 use Rattle.linear.proofs.TableLaws.{all_characters, characters-all_characters, CHARACTERS-character_modules}
 use Rattle.linear_reading.specs.declared.tables.TheConstants.{DIGITS, VALUES}
@@ -80,7 +80,7 @@ digits_listed C group long =
 -- ---- Code 128
 
 pub values_low : (i : ℕ) → i < 256 → get_or VALUES i 0 < 106
-values_low i inside = ltb-true _ _ (passes_at (λ i. nat_lt (get_or VALUES i 0) 106) 256 i refl inside)
+values_low i inside = ltb-true _ _ (passes (λ i. nat_lt (get_or VALUES i 0) 106) 256 i refl inside)
 
 -- the value that the table has for a group
 abbrev pub value_listed : List Bool → ℕ
@@ -90,7 +90,7 @@ character_listed : (value : ℕ) → value < 106 → value_listed (character_mod
 unfolding all_characters
 character_listed value below =
     ap (λ table. value_listed (get_or table value [])) characters-all_characters
-    ∙ (Decides-eqb _ _).0 (passes_at (λ v. eqb (value_listed (get_or all_characters v [])) v) 106 value refl below)
+    ∙ (Decides-eqb _ _).0 (passes (λ v. eqb (value_listed (get_or all_characters v [])) v) 106 value refl below)
 
 -- it alone can be the value of the group
 pub value_found : (group : List Bool) (value i : ℕ) (d : List Bool) → length group ≡ 11 → value < 106

@@ -9,6 +9,7 @@ use Rattle.std.proofs.lemmas.Bool.Decides.{nat_tests}
 use Rattle.std.proofs.lemmas.List.Elements.{All-append}
 use Rattle.std.proofs.lemmas.List.Sums.{sum_by-le}
 use Rattle.std.proofs.lemmas.Slice.Eq.{bytes_eq-Decides}
+use Rattle.std.proofs.lemmas.List.{drop_at}
 use Rattle.gf256.specs.Field.{IsElement}
 use Rattle.gf256.specs.ErrorCorrection.{AreEcCodewords, wrong_codewords}
 use Rattle.gf256.proofs.DistanceLaws.{close_codewords}
@@ -18,7 +19,6 @@ use Rattle.qrdata.specs.Reading.{data_in, deinterleaving, has_roots, segments_at
 use Rattle.qrdata.specs.Segments.{byte_bits}
 use Rattle.qrdata.specs.Steps.{◌>>=◌}
 use Rattle.qrdata.specs.Versions.{block_lengths, data_codewords, ec_codewords_per_block, total_codewords}
-use Rattle.qrdata.proofs.BitStringLaws.{drop_front}
 use Rattle.qrdata.proofs.DamageLaws.{HasRoots-has_roots}
 use Rattle.qrdata.proofs.DataReadingLaws.{roots_pass}
 
@@ -58,8 +58,8 @@ remainder_of-roots k block ec_codewords remainder are long short elements ec_ele
     (All-append IsElement block remainder elements are.remainder.ec_codewords_elements)
     (All-append IsElement block ec_codewords elements ec_elements) are.roots
     (HasRoots-has_roots k block ec_codewords roots) near in
-    sym (drop_front (length block) block ec_codewords refl) ∙ ap (drop (length block)) (sym same)
-    ∙ drop_front (length block) block remainder refl
+    sym (drop_at block ec_codewords (length block) refl) ∙ ap (drop (length block)) (sym same)
+    ∙ drop_at block remainder (length block) refl
 
 -- the remainder does
 has_roots-remainder : (k : ℕ) (block remainder : List ℕ) → AreEcCodewords k block remainder

@@ -5,7 +5,7 @@ use Rattle.std.specs.Prelude.{if◌then◌else◌, nat_lt, nat_le, ◌||◌, ◌
 use Rattle.std.specs.List.{concat, find}
 use Rattle.std.proofs.Math.Nat.{mod-eq_of_lt}
 use Rattle.std.proofs.lemmas.Bool.{cases_lt, lt-ltb}
-use Rattle.std.proofs.lemmas.List.{length-drop}
+use Rattle.std.proofs.lemmas.List.{length-drop, take_at, drop_at}
 use Rattle.qrdata.specs.declared.level.Level.{Level}
 use Rattle.qrdata.specs.declared.level.Level.TheVariants.{L, M, Q, H}
 use Rattle.qrdata.specs.declared.mode.Mode.TheVariants.{Alphanumeric}
@@ -13,8 +13,7 @@ use Rattle.qrdata.specs.Bits.{bits_of, codewords_of, number_of}
 use Rattle.qrdata.specs.Reading.{characters_at, data_in, deinterleaving, is_end, number_at, segment_at, segments_at}
 use Rattle.qrdata.specs.Segments.{byte_bits, count_width, mode_indicator, modes}
 use Rattle.qrdata.specs.Versions.{block_lengths, block_table, data_codewords, groups_of}
-use Rattle.qrdata.proofs.BitStringLaws.{length-bits_of, number_at-bits_of, number_of-bits_of, take_front}
-use Rattle.qrdata.proofs.BitStringLaws.{drop_front}
+use Rattle.qrdata.proofs.BitStringLaws.{length-bits_of, number_at-bits_of, number_of-bits_of}
 use Rattle.qrdata.proofs.PaddingLaws.{eight_bits, length-byte_bits}
 use Rattle.qrdata.proofs.SegmentReadingLaws.{not_end}
 
@@ -51,7 +50,7 @@ goes_on indicator rest some below =
     let front = bits_of 4 indicator in
     let four : length front ≡ 4 = length-bits_of 4 indicator in
     let value : number_of (take 4 (front ++ rest)) ≡ indicator =
-    rw (take_front 4 front rest four, number_of-bits_of 4 indicator) (mod-eq_of_lt below) in
+    rw (take_at front rest 4 four, number_of-bits_of 4 indicator) (mod-eq_of_lt below) in
     not_end (front ++ rest) (omega (arith, length-append front rest)) (omega (arith, value))
 
 -- an indicator of no mode
@@ -98,10 +97,10 @@ two_codewords : (n : ℕ) (first second after : List Bool) → length first ≡ 
 unfolding codewords_of
 two_codewords n first second after e f =
     rw (
-      take_front 8 first (second ++ after) e,
-      drop_front 8 first (second ++ after) e,
-      take_front 8 second after f,
-      drop_front 8 second after f,
+      take_at first (second ++ after) 8 e,
+      drop_at first (second ++ after) 8 e,
+      take_at second after 8 f,
+      drop_at second after 8 f,
     ) refl
 
 byte_bits-two : (a b : ℕ) (rest : List ℕ) → byte_bits (a ∷ b ∷ rest) ≡ bits_of 8 a ++ (bits_of 8 b ++ byte_bits rest)

@@ -5,7 +5,7 @@ use Rattle.std.proofs.Common.{false, sum}
 use Rattle.std.specs.Prelude.{if◌then◌else◌, None, Some, Option, ◌&&◌, ◌==◌}
 use Rattle.std.specs.List.{AllByRecursion, concat, flat_map, list_all, range_with_len, zip}
 use Rattle.std.proofs.lemmas.Bool.{eq-eqb, eqb-true}
-use Rattle.std.proofs.lemmas.List.{length-take}
+use Rattle.std.proofs.lemmas.List.{length-take, take_at, drop_at}
 use Rattle.std.proofs.Math.Nat.{pow-le-pow_right}
 use Rattle.std.proofs.lemmas.List.Folds.{sum_by-replicate}
 use Rattle.std.proofs.lemmas.List.Elements.{All-from_get_or, All-from_recursion, recursion_from_All}
@@ -22,7 +22,7 @@ use Rattle.qrdata.specs.Reading.{data_in, deinterleaving, has_roots, segments_at
 use Rattle.qrdata.specs.Segments.{IsSegmentation, cost, segments_bits}
 use Rattle.qrdata.specs.Private.Blocks.{HasBlocks, block_count}
 use Rattle.qrdata.specs.Versions.{IsVersion, block_lengths, data_codewords, ec_codewords_per_block, total_codewords}
-use Rattle.qrdata.proofs.BitStringLaws.{drop_front, number_of-lt, take_front}
+use Rattle.qrdata.proofs.BitStringLaws.{number_of-lt}
 use Rattle.qrdata.proofs.BlockLaws.{length-interleaving, length-split_by, split_joined, split_lengths}
 use Rattle.qrdata.proofs.InterleavingLaws.{Blocks, deinterleaving-interleaving}
 use Rattle.qrdata.proofs.LengthLaws.{count_below_cost, length-segments_bits}
@@ -78,8 +78,8 @@ pub split_by-flat_map : (k : ℕ) (blocks : Blocks) → AllByRecursion (HasEcCod
 unfolding split_by
 split_by-flat_map k [] law = refl
 split_by-flat_map k (block ∷ blocks) law = rw (
-  take_front k (ec_codewords_of k block) (flat_map (ec_codewords_of k) blocks) law.0.count,
-  drop_front k (ec_codewords_of k block) (flat_map (ec_codewords_of k) blocks) law.0.count,
+  take_at (ec_codewords_of k block) (flat_map (ec_codewords_of k) blocks) k law.0.count,
+  drop_at (ec_codewords_of k block) (flat_map (ec_codewords_of k) blocks) k law.0.count,
   split_by-flat_map k blocks law.1,
 ) refl
 
@@ -169,10 +169,10 @@ IsDealtBack-of version level codewords low high size_is law =
     ∙ (sum_by-replicate (λ x. x) (length lengths) k ∙ ap (λ n. n * k) shapes.1)) in
     let total = (IsSound-of version level (low, high)).all in record {
       total = omega (arith, length-append (interleaving blocks) (interleaving ec_blocks), total);
-      blocks = rw (take_front (data_codewords version level) (interleaving blocks) (interleaving ec_blocks) data_length)
+      blocks = rw (take_at (interleaving blocks) (interleaving ec_blocks) (data_codewords version level) data_length)
           (rw block_shapes at (deinterleaving-interleaving blocks));
       ec_blocks = rw
-          (drop_front (data_codewords version level) (interleaving blocks) (interleaving ec_blocks) data_length)
+          (drop_at (interleaving blocks) (interleaving ec_blocks) (data_codewords version level) data_length)
           (rw ec_shapes at (deinterleaving-interleaving ec_blocks));
     }
 

@@ -4,7 +4,7 @@ use Rattle.std.proofs.Common.{length, replicate, refl, ap, append_assoc, append-
 use Rattle.std.proofs.Common.{false, min, ◌∙◌, ◌^◌, sym, inl, inr}
 use Rattle.std.specs.Prelude.{◌==◌, if◌then◌else◌}
 use Rattle.std.proofs.lemmas.List.FromFn.{length-map-range_with_len}
-use Rattle.std.proofs.lemmas.List.{length-replicate, length-take-le, length-drop, take-append-drop}
+use Rattle.std.proofs.lemmas.List.{length-replicate, length-take-le, length-drop, take-append-drop, take_at, drop_at}
 use Rattle.std.proofs.lemmas.List.{replicate-append-replicate}
 use Rattle.std.proofs.lemmas.Bool.{cases_lt}
 use Rattle.std.proofs.lemmas.Grind.{flat_map-append}
@@ -17,7 +17,7 @@ use Rattle.std.proofs.Math.Nat.{div-eq_of_lt, mod-eq_of_lt}
 use Rattle.std.proofs.lemmas.Nat.{pow_pos}
 use Rattle.qrdata.specs.declared.bits.Bits.{Bits}
 use Rattle.qrdata.specs.Private.BitsInCodewords.{bits_in}
-use Rattle.qrdata.proofs.BitStringLaws.{bits_of-number_of, drop_front, length-bits_of, number_of-bits_of, take_front}
+use Rattle.qrdata.proofs.BitStringLaws.{bits_of-number_of, length-bits_of, number_of-bits_of}
 use Rattle.qrdata.proofs.PayloadLaws.{AreBytes}
 
 pub byte_bits-append : (xs ys : List ℕ) → byte_bits (xs ++ ys) ≡ byte_bits xs ++ byte_bits ys
@@ -154,8 +154,8 @@ codewords_of-byte_bits [] rest w = refl
 codewords_of-byte_bits (codeword ∷ codewords) rest w =
     rw (
       append_assoc (bits_of 8 codeword) (byte_bits codewords) rest,
-      take_front 8 (bits_of 8 codeword) (byte_bits codewords ++ rest) (length-bits_of 8 codeword),
-      drop_front 8 (bits_of 8 codeword) (byte_bits codewords ++ rest) (length-bits_of 8 codeword),
+      take_at (bits_of 8 codeword) (byte_bits codewords ++ rest) 8 (length-bits_of 8 codeword),
+      drop_at (bits_of 8 codeword) (byte_bits codewords ++ rest) 8 (length-bits_of 8 codeword),
       number_of-bits_of 8 codeword,
       mod-eq_of_lt w.0,
       codewords_of-byte_bits codewords rest w.1,

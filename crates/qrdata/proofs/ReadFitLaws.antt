@@ -6,7 +6,7 @@ use Rattle.std.specs.Prelude.{◌==◌, ◌||◌, nat_le, nat_lt, IsTrue, option
 use Rattle.std.specs.Char.{is_ascii_digit}
 use Rattle.std.specs.List.{concat, find, list_all, range_with_len}
 use Rattle.std.proofs.lemmas.Bool.{agree_below, agree_below_at, le-leb}
-use Rattle.std.proofs.lemmas.List.{length-drop}
+use Rattle.std.proofs.lemmas.List.{length-drop, take_at, drop_at}
 use Rattle.std.proofs.lemmas.List.FromFn.{length-map-range_with_len}
 use Rattle.std.proofs.lemmas.List.Sums.{sum_by-cons}
 use Rattle.std.proofs.lemmas.Option.{none-some, option_and_then_some, same_Some}
@@ -22,7 +22,6 @@ use Rattle.qrdata.specs.Reading.{is_end, number_at, payload_at, segment_at, segm
 use Rattle.qrdata.specs.Segments.{IsSegmentation, alphanumeric_characters, alphanumeric_value, byte_bits, cost, count_width}
 use Rattle.qrdata.specs.Segments.{has_character, mode_indicator, modes, payload_length, segment_length, segment_of}
 use Rattle.qrdata.specs.Versions.{block_lengths, data_codewords}
-use Rattle.qrdata.proofs.BitStringLaws.{drop_front, take_front}
 use Rattle.qrdata.proofs.DataReadingLaws.{lengths_hold}
 use Rattle.qrdata.proofs.PaddingLaws.{length-byte_bits}
 
@@ -216,7 +215,7 @@ more_fits version bits ([], rest) others one later = record {
 }
 more_fits version bits (byte ∷ bytes, rest) others one later =
     let payload = byte ∷ bytes in
-    let front = take_front (length payload) payload others refl in
+    let front = take_at payload others (length payload) refl in
     record {
       segments = segment_of one.mode (length payload) ∷ later.segments;
       cut = (
@@ -226,7 +225,7 @@ more_fits version bits (byte ∷ bytes, rest) others one later =
           characters = subst (λ l. IsTrue (list_all (has_character one.mode) l)) (sym front) one.characters;
           counted = one.counted;
         },
-        subst (IsSegmentation version later.segments) (sym (drop_front (length payload) payload others refl)) later.cut,
+        subst (IsSegmentation version later.segments) (sym (drop_at payload others (length payload) refl)) later.cut,
       );
       few = omega (
         arith,

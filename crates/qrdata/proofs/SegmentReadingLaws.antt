@@ -5,7 +5,7 @@ use Rattle.std.specs.Prelude.{Some, ◌==◌}
 use Rattle.std.specs.List.{find, list_all}
 use Rattle.std.proofs.Math.Nat.{mod-eq_of_lt}
 use Rattle.std.proofs.lemmas.Bool.Decides.{nat_tests}
-use Rattle.std.proofs.lemmas.List.{take-append-drop, length-take-le}
+use Rattle.std.proofs.lemmas.List.{take-append-drop, length-take-le, take_at}
 use Rattle.qrdata.specs.declared.mode.Mode.{Mode}
 use Rattle.qrdata.specs.declared.mode.Mode.TheVariants.{Numeric, Alphanumeric, Byte}
 use Rattle.qrdata.specs.declared.mode.Segment.{Segment}
@@ -13,7 +13,7 @@ use Rattle.qrdata.specs.Bits.{bits_of, number_of}
 use Rattle.qrdata.specs.Segments.{IsSegmentation, count_width, has_character, mode_indicator, modes, payload_bits}
 use Rattle.qrdata.specs.Segments.{segment_bits, segments_bits}
 use Rattle.qrdata.specs.Reading.{is_end, segment_at, segments_at}
-use Rattle.qrdata.proofs.BitStringLaws.{number_at-bits_of, number_of-bits_of, take_front, length-bits_of}
+use Rattle.qrdata.proofs.BitStringLaws.{number_at-bits_of, number_of-bits_of, length-bits_of}
 use Rattle.qrdata.proofs.PayloadLaws.{AreBytes, payload_at-payload_bits}
 
 indicator_range : (mode : Mode) → (0 < mode_indicator mode) × (mode_indicator mode < 16)
@@ -56,7 +56,7 @@ is_end-segment_bits version mode bytes rest =
     let four : length indicator ≡ 4 = length-bits_of 4 (mode_indicator mode) in
     let long : 4 ≤ length (indicator ++ after) = omega (arith, length-append indicator after) in
     let value : number_of (take 4 (indicator ++ after)) ≡ mode_indicator mode =
-    rw (take_front 4 indicator after four, number_of-bits_of 4 (mode_indicator mode))
+    rw (take_at indicator after 4 four, number_of-bits_of 4 (mode_indicator mode))
     (mod-eq_of_lt (indicator_range mode).1) in
     rw (append_assoc (indicator ++ count) (payload_bits mode bytes) rest, append_assoc)
     (not_end (indicator ++ after) long (omega (arith, (indicator_range mode).0)))

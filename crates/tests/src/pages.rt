@@ -39,7 +39,7 @@ fn page_of_linear(rt: HostRuntime) {
     let refusal = Refusal::WrongCheckDigit { given: 0, right: 7 };
     assert!(rt; Ean8::encode(b"73513530", &mut row) == Err(refusal));
     assert!(rt; row.is_empty());
-    assert!(rt; Ean8::QUIET_ZONES.left == 7);
+    assert!(rt; Ean8::QUIET_ZONE.left == 7);
 }
 
 #[test]

@@ -119,11 +119,11 @@ def add_column_options(group: Any) -> None:
 
 def add_row_options(group: Any) -> None:
     """Adds the options of which rows become lines."""
-    where = "print only rows that have this value; may be repeated"
+    where = "use only rows that have this value; may be repeated"
     value(group, "--where", "COLUMN=VALUE", condition, where, action="append", default=[])
-    since = "print only what is new or has changed since these lines"
+    since = "use only what is new or has changed since these lines"
     value(group, "--new-since", "LINES", str, since)
-    flag(group, "--hidden", "hidden", "print hidden rows too")
+    flag(group, "--hidden", "hidden", "use hidden rows too")
 
 
 def add_code_options(group: Any) -> None:
@@ -136,7 +136,7 @@ def add_code_options(group: Any) -> None:
     flag(group, "--fill-zeros", "fill_zeros", "put back up to three lost leading zeros")
     without = "the numbers have no check digit; labels adds it"
     flag(group, "--without-check-digit", "without_check_digit", without)
-    zeros = "take numbers that end in many zeros, which look rounded"
+    zeros = "accept numbers that end in many zeros, which look rounded"
     flag(group, "--allow-zeros", "allow_zeros", zeros)
     flag(group, "--links", "links", "draw the address of the link in the cell of a code")
 

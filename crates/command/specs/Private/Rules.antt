@@ -1,8 +1,6 @@
 -- How the command is put together.
-use Rattle.std.specs.Prelude.{Some}
 use Rattle.clap.specs.Words.{Rule, Text, new_rule}
-use Rattle.clap.specs.declared.builder.value_parser.ValueParser.TheVariants as parser
-use Rattle.command.specs.CommandLine.{switch, text_option}
+use Rattle.command.specs.CommandLine.{number_option, switch, text_option}
 use Rattle.command.specs.declared.command_line.Argument.{Argument}
 use Rattle.command.specs.declared.command_line.Takes.{Takes}
 use Rattle.command.specs.declared.command_line.Takes.TheVariants as takes
@@ -10,7 +8,7 @@ use Rattle.command.specs.declared.command_line.Takes.TheVariants as takes
 -- the rule of an argument of this name
 abbrev pub rule_named : Text → Takes → Rule
 rule_named name (takes.Text value) = text_option name
-rule_named name (takes.Number value low high) = record (text_option name) { parser = Some (parser.Signed low high) }
+rule_named name (takes.Number value bounds) = number_option name bounds.low bounds.high
 rule_named name takes.Nothing = switch name
 rule_named name (takes.File value) = record (new_rule name) { value_names = 1 }
 

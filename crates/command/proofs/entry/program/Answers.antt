@@ -1,7 +1,6 @@
 use Rattle.std.proofs.Common.{map, refl, sym}
 use Rattle.std.specs.Prelude.{string_bytes}
 use Rattle.command.specs.CommandLine.{invocation_of}
-use Rattle.command.specs.Program.{devices}
 use Rattle.command.proofs.ProgramLaws.{EndsShown-from}
 use Rattle.command.proofs.entry.program.Goals as goal
 use Rattle.command.proofs.entry.program.Goals.{in-Ok, in-Err}
@@ -25,11 +24,7 @@ returns g c =
         told = c.match-arguments.errors;
         ends_so = elim c.match-arguments.branch [
           | in-Ok w ↦ rw (w.in-Ok.is, w.end-is, w.files-is, w.input-is, w.output-is, w.errors-is, sym w.as_slice.ensures.value)
-              (EndsShown-from _ g.R.Read.remaining _ g.F.Reader.Read.remaining _ g.W.Write.contents g.E.Sink
-              g.F.NamedFiles.opens g.F.NamedFiles.bytes_of g.F.NamedFiles.refuses
-              (devices c.args.files.now c.args.input.now c.args.output.now c.args.errors.now)
-              (devices w.end_of-end.new.files w.end_of-end.new.input w.end_of-end.new.output w.end_of-end.new.errors) _
-              (invocation_of (map string_bytes w.as_slice.result.now)) w.end_of-end.ensures)
+              (EndsShown-from _ _ _ _ (invocation_of (map string_bytes w.as_slice.result.now)) w.end_of-end.ensures)
           | in-Err w ↦ rw w.in-Err.is (w.end-is, rw (w.files-is, w.input-is, w.output-is, w.errors-is) refl)
         ];
         written = c.write_whole.result;

@@ -1,7 +1,7 @@
 use Rattle.std.proofs.Common.{ap, subst, ◌∙◌}
 use Rattle.std.specs.Prelude.{bytes_eq}
+use Rattle.std.proofs.lemmas.List.{take_at}
 use Rattle.gf256.specs.ErrorCorrection.{AreEcCodewords}
-use Rattle.qrdata.proofs.BitStringLaws.{take_front}
 use Rattle.qr_reading.proofs.DeinterleavingLaws.{remainder_tests}
 use Rattle.qr_reading.proofs.block_reading.is_multiple.Goals as goal
 
@@ -12,6 +12,6 @@ returns c =
     let remainder = c.ec_codewords.new.out in
     let are = subst (λ k. AreEcCodewords k block remainder) c.requires.count.0 c.ec_codewords.ensures in
     c.eq.ensures
-    ∙ ap (bytes_eq c.args.ec_codewords.now) (take_front count remainder _ are.remainder.ec_codewords_length)
+    ∙ ap (bytes_eq c.args.ec_codewords.now) (take_at remainder _ count are.remainder.ec_codewords_length)
     ∙ remainder_tests count block c.args.ec_codewords.now remainder are c.requires.count.1 c.requires.short
     c.are_bytes.ensures c.are_bytes-2.ensures
