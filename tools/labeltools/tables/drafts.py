@@ -102,15 +102,15 @@ class DraftReader:
             self.refuse_names(row)
         if self.columns.variants_of:
             self.variants.see(row)
-        if not all(column.has(row, value) for column, value in self.columns.where):
-            return None
         columns = self.columns
+        if columns.where and not all(one.has(row, value) for one, value in columns.where):
+            return None
         code = self.code(row)
         self.right_codes += 1
         title = "\n".join(self.texts(columns.title, row, code).values())
         title = title or self.variants.title(row)
         texts = self.texts(columns.text, row, code)
-        currency = self.currency(row)
+        currency = self.currency(row) if columns.currency else None
         copies = columns.copies.copies(row) if columns.copies else 1
         label = Label(row.number, title, (*texts.values(),), copies=copies, names=(*texts,))
         price = self.price(columns.price, row, currency)
@@ -153,7 +153,7 @@ class DraftReader:
 
     def code(self, row: Row) -> Code:
         """Returns the code of a row; raises `RowError`."""
-        rules = self.rules(row)
+        rules = self.rules(row) if self.columns.symbology else self.options.codes
         column = self.columns.code
         text = column.code(row, rules.is_free)
         if rules.is_free and (link := (row.links or {}).get(column.place)):
