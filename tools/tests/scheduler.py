@@ -193,15 +193,17 @@ class Scheduler:
         """Removes a queue, and its jobs."""
         subprocess.run(["lpadmin", "-x", name], check=True, capture_output=True)
 
-    def add_driverless(self, name: str) -> None:
-        """Adds a queue without a driver's file for a printer that takes PWG raster."""
+    def add_driverless(self, name: str, command: str = "/bin/cat") -> str:
+        """Adds a queue without a driver's file for a printer that takes PWG raster, and prints by a
+        command; returns its address.
+        """
         support.needs("ippeveprinter", "dbus-daemon")
         (self.folder / name).mkdir()
         bus = self.start("dbus-daemon", "--session", "--nofork", "--print-address")
         address = {"DBUS_SYSTEM_BUS_ADDRESS": bus.stdout.readline().decode().strip()}
         words = ["ippeveprinter", "-k", "-r", "off", "-n", "localhost", "-f", "image/pwg-raster"]
         # It writes what a command prints; without one it waits 5 to 15 seconds for each job.
-        words += ["-c", "/bin/cat", "-d", f"{self.folder}/{name}", name, "-p"]
+        words += ["-c", command, "-d", f"{self.folder}/{name}", name, "-p"]
         while True:  # another program may take the port
             with socket.socket() as free:
                 free.bind(("localhost", 0))
@@ -213,6 +215,7 @@ class Scheduler:
         device = f"ipp://localhost:{port}/ipp/print"
         words = ["lpadmin", "-p", name, "-E", "-v", device, "-m", "everywhere"]
         subprocess.run(words, check=True, capture_output=True)
+        return device
 
     def printed(self, name: str) -> bytes:
         """What arrived at a queue, once its jobs are done."""

@@ -5,10 +5,13 @@ import os
 import re
 import shlex
 import signal
+import socket
 import subprocess
 import tempfile
+import threading
 import time
 import unittest
+from contextlib import suppress
 from desk import unread
 from pathlib import Path
 from typing import Any, Callable, Iterator, Sequence
@@ -24,7 +27,9 @@ from jobs import Dots, JobError
 from labeltools.common.messages import ToolError
 from labeltools.lines.symbologies import SYMBOLOGIES
 from labeltools.printing.job import planned, PrintOptions
+from labeltools.sending import ipp
 from labeltools.sending.cups import (
+    ABORTED,
     dots_of,
     dpi_of,
     lp_line,
@@ -493,6 +498,24 @@ class Queues(unittest.TestCase):
                 self.assertEqual(done.returncode, status)
                 subprocess.run(["cancel", "-a", name], capture_output=True)
 
+    def test_a_printer_that_gives_a_job_up(self) -> None:
+        """It says so itself, whatever CUPS has seen of that."""
+        device = self.scheduler.add_driverless("gives-up", "/bin/false")
+        self.addCleanup(self.scheduler.remove, "gives-up")
+        done = self.printed(*self.SHEET, "--print", "gives-up")
+        self.assertRegex(done.stderr.decode(), "it was not printed: .*job [0-9]+")
+        self.assertEqual(done.returncode, 1)
+        (job,) = ipp.groups_of(ipp.asked(device))
+        name = job[ipp.NAME].decode()
+        self.assertRegex(name, "^labels [0-9:.]+$")
+        self.assertEqual(ipp.state_at_printer(device, name), ABORTED)
+        self.assertEqual(ipp.state_at_printer(device, "labels"), 0)
+        said = self.printed(*self.SHEET, "--print", "home").stderr.decode()
+        sent = SentJob("home", int(re.findall("job ([0-9]+)", said)[0]), title=name)
+        self.assertTrue(sent.state().is_printed)  # no job of this name is there
+        with mock.patch("labeltools.sending.cups.state_at_printer", return_value=ABORTED):
+            self.assertEqual(sent.state().trouble, f"the printer gave up job {sent.number}")
+
     def test_a_signal_ends_only_the_watching(self) -> None:
         self.add("away", "zebra", "socket://127.0.0.1:1")
         words = (*self.ROLL, "--print", "away")
@@ -624,6 +647,35 @@ class Devices(unittest.TestCase):
                 self.assertEqual(done.returncode, 1)
                 self.assertIn(said, done.stderr.decode())
             self.assertEqual(os.listdir(folder), [])
+
+
+class Ipp(unittest.TestCase):
+    """Printers that answer IPP with something else, slowly, or not at all."""
+
+    def test_what_is_no_answer(self) -> None:
+        head = b"HTTP/1.1 200 OK\r\nContent-Length: %d\r\n\r\n"
+        cut = b"\1\1\0\0\0\0\0\1\2\x42\0\x08job-name\0\6lab"
+        for answer in (b"", b"rubbish", head % 3 + b"abc", head % len(cut) + cut, None):
+            with socket.create_server(("127.0.0.1", 0)) as server:
+                device = f"ipp://127.0.0.1:{server.getsockname()[1]}/ipp/print"
+                args = (server, answer)
+                printer = threading.Thread(target=self.play, args=args, daemon=True)
+                printer.start()
+                with mock.patch("labeltools.sending.ipp.SECONDS", 0.5):
+                    self.assertEqual(ipp.state_at_printer(device, "labels"), 0)
+                printer.join()
+        self.assertEqual(ipp.state_at_printer(device, "labels"), 0)  # it is off
+
+    def play(self, server: socket.socket, answer: bytes | None) -> None:
+        """Plays a printer, which answers, or dribbles until the other side has enough of it."""
+        line, _ = server.accept()
+        with line, suppress(OSError):
+            line.recv(65536)
+            if answer is not None:
+                line.sendall(answer)
+            while answer is None:
+                line.sendall(b"H")
+                time.sleep(0.05)
 
 
 class Languages(unittest.TestCase):

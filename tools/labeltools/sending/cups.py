@@ -9,6 +9,7 @@ import time
 from collections.abc import Callable, Container, Iterator, Mapping, Sequence, Sized
 from contextlib import contextmanager
 from dataclasses import dataclass, field
+from datetime import datetime
 from importlib import import_module
 from math import gcd
 from pathlib import Path
@@ -21,6 +22,7 @@ from labeltools.drawing.forms import PDF
 from labeltools.paper.stock import Size
 from labeltools.printing.job import DRAWING_DPI, Job
 from labeltools.sending.answers import NO_PAPER, OPEN_COVER, Trouble
+from labeltools.sending.ipp import state_at_printer
 from labeltools.sending.papers import (
     FOOMATIC,
     Papers,
@@ -271,11 +273,13 @@ class UnknownJob(ToolError):
 class SentJob:
     """A job that CUPS has taken: its queue, its number, and when CUPS made it, in seconds (0: not
     known). Its number alone does not tell: CUPS gives it to another job once it has forgotten all.
+    By its title a printer that speaks IPP knows it, too.
     """
 
     queue: str
     number: int
     created: int = 0
+    title: str = field(default="", compare=False)
 
     @property
     def key(self) -> str:
@@ -313,10 +317,12 @@ class SentJob:
         if state == ABORTED:
             return JobState(Text("CUPS gave up job {}: {}", self.number, said), said, True)
         if state == COMPLETED:
-            if not any(reason.startswith(REFUSED) for reason in reasons):
-                return JobState(NOTHING, said, True, True)
-            what = Text("the printer refused job {}: {}", self.number, said)
-            return JobState(what, said, True)
+            device = printer.get("device-uri", "")
+            is_given_up = any(reason.startswith(REFUSED) for reason in reasons)
+            if is_given_up or state_at_printer(device, self.title) in (CANCELLED, ABORTED):
+                what = Text("the printer gave up job {}", self.number)
+                return JobState(joined(": ", filter(None, (what, said))), said, True)
+            return JobState(NOTHING, said, True, True)
         found = trouble_of(self.queue, printer)
         if state == HELD and found is None:
             line = f"lp -i {self.queue}-{self.number} -H resume"
@@ -534,19 +540,21 @@ def print_by(
     path = f"/proc/self/fd/{file.fileno()}"
     options = job_options(job, queue, chosen)
     with refusals(queue.name) as cups:
-        number = int(cups.printFile(queue.name, path, "labels", options))
+        title = f"labels {datetime.now():%H:%M:%S.%f}"  # by which the printer knows it, too
+        number = int(cups.printFile(queue.name, path, title, options))
         try:
             created = cups.getJobAttributes(number).get("time-at-creation", 0)
         except cups_library().IPPError:  # it is over, and CUPS keeps none
             created = int(time.time())
-        return SentJob(queue.name, number, created)
+        return SentJob(queue.name, number, created, title)
 
 
 def job_of(key: str) -> SentJob:
     """Returns the job of a key; raises `ValueError` if it is none.
 
-    >>> job_of(SentJob("till.3", 7, 1764392400).key)
-    SentJob(queue='till.3', number=7, created=1764392400)
+    >>> job = SentJob("till.3", 7, 1764392400)
+    >>> job.key, job_of(job.key) == job
+    ('7.1764392400.till.3', True)
     """
     number, created, queue = key.split(".", 2)
     return SentJob(queue, int(number), int(created))

@@ -134,6 +134,7 @@ class NetworkPrinter(Outlet):
                 line.recv(HEARD)  # what it said before
             # to a question it would break off, as if it had thrown labels away
             if events_of(line.fileno(), select.POLLRDHUP, REGRET if self.has_sent else FIRST):
+                self.give_another()
                 return None
             with suppress(BlockingIOError):
                 line.send(question.data)
@@ -150,14 +151,20 @@ class NetworkPrinter(Outlet):
             if not events_of(line.fileno(), select.POLLIN, min(LOOK, ANSWER)):
                 continue
             data = line.recv(HEARD)
-            if not data:  # it has ended the connection
-                if not self.has_sent:
-                    self.drop()
+            if not data:
+                self.give_another()
                 return None
             heard += data
             if answer := question.read(heard):
                 return answer
         return None
+
+    def give_another(self) -> None:
+        """Drops a connection that the printer has ended at a question: it gets another one, unless
+        labels were sent by this one.
+        """
+        if not self.has_sent:
+            self.drop()
 
     def close(self) -> None:
         """Ends the connection after what was sent; raises `Broken` where the printer breaks it off.
