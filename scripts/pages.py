@@ -12,6 +12,7 @@
   line of the function page_of_NAME in crates/tests/src/pages.rt, in the same order, white space apart; of the page of
   `command` it is one of the `main` in crates/labels/src/main.rt.
 - A number of a page that a step of the gate counts is the one in scripts/counts.txt.
+- No line is a mark of a merge that somebody has to settle.
 
 The last line is `N pages, L links, B blocks, K names, M numbers, F faults`. A fault is a line before it, and makes the
 status 1. A paragraph of more than MOST_WORDS words is a line before it too, but no fault: such a paragraph is read
@@ -53,6 +54,7 @@ CODE = (
     *("lib/**/*.*", "lib/Makefile", "scripts/*.py"),
 )
 MOST_WORDS = 90
+OF_MERGES = re.compile(r"^(?:<<<<<<<|>>>>>>>|\|\|\|\|\|\|\|) .*", re.MULTILINE)
 WITHOUT_EXAMPLE = {"labels", "labels_c", "examples", "tests"}
 LONGEST = 40
 FILE = re.compile(r"\b(?:crates/[\w/]+\.rt|lib/[\w/]+\.\w+)\b")
@@ -265,6 +267,9 @@ def main() -> int:
         for line, words in long_paragraphs(text):
             print(f"{page}:{line}: a paragraph of {words} words is long")
         found = [*faults_of_blocks(page, blocks)]
+        found += [
+            (text.count("\n", 0, mark.start()) + 1, f"a merge left: {mark[0]}") for mark in OF_MERGES.finditer(text)
+        ]
         found += [(line, fault) for line, link in links_of(text) if (fault := fault_of_link(page, link))]
         if page in NAMING:
             found += faults_of_names(text)

@@ -63,6 +63,8 @@ MOVED = {
 NOQA = f"# {'noqa'}"
 REFERENCE = "docs/PROOF-REFERENCE.md"
 END, HANDLES = "\n## ", "Handles allowed: none."
+# How many changes of definitions are judged, as a step and a page have it.
+(JUDGED,) = re.findall(r"(\d+) changes of", read(os.path.join(TOP, "scripts/counts.txt")))
 # What is written in the place of a text, the first one in a file, for each step, and what that step says.
 CHANGED = {
     "lints.py": (
@@ -78,6 +80,7 @@ CHANGED = {
         ("crates/command/README.md", "\n", "\n\n", "crates/command/README.md:1: 41 lines, and at most 40"),
         ("docs/PRINTING.md", END, f"\n```sh\nlabels\n{END}", "this block is not closed"),
         ("docs/WINDOW.md", END, f"\n```sh\nlabels\n```\n{END}", "nothing runs the commands of this page"),
+        ("docs/TICKETS.md", END, f"\n{'<' * 7} HEAD\n{END}", "a merge left: <<<<<<< HEAD"),
         ("docs/INPUT.md", "](PRINTING.md", "](PRINTIN.md", "a link to no file: PRINTIN.md"),
         ("designs/README.md", "](jar-38x21.svg", "](jar.svg", "a link to no file: jar.svg"),
         ("docs/INPUT.md", END, f"\n~~~rust\nfn a() {{}}\n~~~\n{END}", "no script reads blocks of ~~~"),
@@ -87,7 +90,7 @@ CHANGED = {
         ("docs/INPUT.md", "```console\n$ ", "```console\n", "this session does not begin with a prompt"),
         (REFERENCE, "`Buffered::prove_reached`", "`Buffered::nought`", "no `Buffered::nought` in the code"),
         (REFERENCE, "believed definitions", "definitions", f"{REFERENCE}: no operator"),
-        ("scripts/counts.txt", "3666 changes", "3667 changes", f"{REFERENCE}: one at a time: 3,666"),
+        ("scripts/counts.txt", f"{JUDGED} changes", f"{JUDGED}0 changes", f"one at a time: {int(JUDGED):,}"),
         (
             "README.md",
             "](docs/PROOF.md",

@@ -651,13 +651,20 @@ class Read(unittest.TestCase):
                 self.assertEqual(decode.read_dots(form, data, 24), (picture, copies))
 
     def test_rows_by_the_manual(self) -> None:
-        """Counts as the ZPL II manual has them, before 0: G is 1, M is 7, Y is 19."""
+        """Counts as the ZPL II manual has them: G is 1, M is 7, Y is 19, g is 20, z is 400; those that
+        are written before F are before no 0.
+        """
         row = decode.rows_of_field((b"1G0Y0M0FF", 15))
         self.assertEqual(row.hex().upper(), "1" + "0" * 27 + "FF")
+        row = decode.rows_of_field((b"WFg0KFz0OF1", 226))
+        self.assertEqual(
+            row.hex().upper(), "F" * 17 + "0" * 20 + "F" * 5 + "0" * 400 + "F" * 9 + "1"
+        )
         rows = decode.rows_of_field((b"F0L0:12345678N012J0451234567G0", 4))
         wanted = "F0000000 F0000000 12345678 00000000 12000045 12345670"
         self.assertEqual(rows.hex(" ", 4).upper(), wanted)
-        over = b"1234567H02345678:", b"Y012345"  # runs that go on in the next row
+        # runs that go on in the next row
+        over = b"1234567H02345678:", b"12345KF345678:", b"Y012345", b"12K0345678"
         wrong = b"F0F", b"12345678F", b"GZ", b"12:", b"M:", b"12 3", b"12345678:\n:", b":12345678"
         others = b"N1::", b"gJ0", b"MG0::", b"123456,::", b"1234567f::", b"1234567N::"
         for text in (*wrong, *over, *others):

@@ -122,7 +122,9 @@ class Zpl(unittest.TestCase):
         self.assertLess(len(job), 30_000)
 
     def test_run_lengths_as_the_manual_has_them(self) -> None:
-        """Counts of the ZPL II manual: L is 6, M is 7, and Y is 19, of the digit that follows."""
+        """Counts of the ZPL II manual: J is 4, K 5, L 6, P 10, W 17, and X 18, of the digit that
+        follows.
+        """
         from labeltools.drawing.zpl import run_lengths
 
         rows = (
@@ -132,10 +134,11 @@ class Zpl(unittest.TestCase):
             ("", 26),
             ("0AB0000000CD", 14),
             ("0AB00000CDEF", 14),
+            (22 * "F", 4),
         )
         dots = bytes.fromhex("".join(digits + zeros * "0" for digits, zeros in rows))
         text = run_lengths(dots, 13)
-        self.assertEqual(text, b"FFY000000:Y0M0:0ABM0CDT00AB00000CDEFT0")
+        self.assertEqual(text, b"FFX0L0:X0L000:0ABL00CDP0J00ABJ00CDEFP0J0WFKFJ0")
         self.assertEqual(jobs.data_of_run_lengths(text, 13), dots)
 
     def test_no_field_is_longer_than_a_printer_takes(self) -> None:

@@ -157,6 +157,10 @@ class Keeper(unittest.TestCase):
         self.window.present()
 
     def tearDown(self) -> None:
+        typed = [self.window.choices()[name] for name in ("for-table", "for-print")]
+        if not any(typed):  # then no sentence names an option
+            shown = [*self.happened(), *(row[2] for row in self.rows()), *self.answers()]
+            self.assertNotIn("--", "".join(shown) + self.problem())
         self.window.destroy()
         settle(0.05)
         self.assertEqual(self.raised, [])
@@ -451,6 +455,27 @@ class WindowTest(Keeper):
         self.assertEqual(b"".join(printer.labels), plain)
         self.assertEqual(len(self.printed()), 40)
 
+    def test_a_label_in_doubt_is_asked_for(self) -> None:
+        """With each answer every other label is printed once."""
+        codes = [support.ean13(number) for number in range(401_234_500_000, 401_234_500_006)]
+        for is_there, printed in ((True, codes[:2] + codes[3:]), (False, codes)):
+            with self.subTest(is_there):
+                self.open("EAN;Name;Price\n" + "".join(f"{code};Pen;1,00 €\n" for code in codes))
+                if is_there:  # these choices are kept
+                    self.change(roll=True, to="zpl", dpi="600")
+                printer = Printer(within=3).start()
+                self.addCleanup(printer.off)
+                self.window.ways.send_to(printer.name, self.window.made.labels)
+                self.until(self.problem)
+                self.pressed("Go on with label 3", is_there)
+                self.until(lambda: f"printed by {printer.name}" in self.said())
+                printer.wait(len(printed))
+                plain = self.by_columns("--paper", "60x40", "--to", "zpl", "--dpi", "600")
+                wanted = re.findall(rb"\^XA.*?\^XZ\n", plain, re.DOTALL)
+                wanted = [one for one, code in zip(wanted, codes) if code in printed]
+                self.assertEqual(printer.labels, wanted)
+                self.assertEqual(len(self.printed()), 6)
+
     def by_columns(self, *words: Any) -> Any:
         """What the commands write for a table of codes, names and prices."""
         options = ["--header", "--code", "1", "--title", "2", "--price", "3"]
@@ -488,6 +513,10 @@ class WindowTest(Keeper):
             found = (chosen["roll"], chosen["to"], chosen["dpi"])
             self.assertEqual(found, (roll, to, dpi), key)
         self.assertIn("Till", [row[0] for row in self.window.printers])
+        with mock.patch.object(self.window.printers, "clear", create=True) as clear:
+            kept = printers.PRINTERS.all()
+            self.window.of_printers.fill([*sending.printers(kept)])
+            clear.assert_not_called()  # an open list stays open
         self.window.take({"to": "pdf"})  # it understands nothing else
         self.assertEqual(self.window.choices()["to"], "escpos")
         self.window.of_printers.settle("was-here")

@@ -248,11 +248,7 @@ def show_events(camera: Camera) -> None:
     window.of_printers.choose("tcp://192.168.1.40")
     camera.until(lambda: window.has_labels)
     camera.shot("roll")
-    window.working.show()
-    window.progress.set_fraction(23 / 49)
-    window.progress.set_text("23 / 49")
-    camera.shot("printing")
-    window.working.hide()
+    show_progress(camera)
     broken = Unfinished(Text("{}: the printer broke off", "Zebra ZD421"))
     broken.printer, broken.done = "tcp://192.168.1.40", 46
     window.ways.sending = window.made.labels, True
@@ -260,6 +256,21 @@ def show_events(camera: Camera) -> None:
     camera.shot("failed")
     window.history_button.set_active(True)
     camera.shot("happened")
+
+
+def show_progress(camera: Camera) -> None:
+    """A picture while labels are printed one by one."""
+    from labeltools.window.shop import WindowTalk
+    from labeltools.window.work import progress_text
+
+    window = camera.window
+    window.working.show()
+    window.progress.set_fraction(23 / 49)
+    talk = WindowTalk()
+    talk.done, talk.total, talk.printer = 23, 49, "Zebra ZD421"
+    window.progress.set_text(progress_text(talk))
+    camera.shot("printing")
+    window.working.hide()
 
 
 def draw(options: argparse.Namespace) -> None:

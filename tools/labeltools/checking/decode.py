@@ -18,11 +18,18 @@ ZPL_END = re.compile(rb"(?:\^PQ([0-9]+)\n)?\^XZ\n")
 DIGITS = b"0123456789ABCDEF"
 LOWER = b"abcdef"  # of digits
 ROWS = DIGITS + b":"  # of rows without counts
-COUNTS = bytes(range(ord("G"), ord("Y") + 1))  # of the 0 that follows: G is 1, Y is 19
-AT_COUNTS = bytes.maketrans(COUNTS, b" " * len(COUNTS))
+# counts of the digit that follows: G is 1, Y is 19; g is 20, z is 400; those that are named here
+# before F, and all others before 0
+COUNTS = {ord("F") + count: count for count in range(1, 20)}
+COUNTS |= {ord("f") + count: 20 * count for count in range(1, 21)}
+OF_DARK = b"KOWi"
 # the digits of a run but for the last one, which a row may end in, are marked meanwhile
-MARKED = bytes([ord("0") | 128])
-RUNS = {letter: MARKED * (letter - ord("G")) for letter in COUNTS}
+MARK = 128
+UNMARKED = bytes(byte % MARK for byte in range(256))
+RUNS = {
+    letter: (bytes([letter, digit]), bytes([digit + MARK]) * (COUNTS[letter] - 1) + bytes([digit]))
+    for letter, digit in ((one, ord("F" if one in OF_DARK else "0")) for one in COUNTS)
+}
 AGAIN = re.compile(rb":(:*)")
 RASTER = b"\x1dv0\0"
 SIZE = struct.Struct("<HH")  # of a raster image: its bytes across and its rows
@@ -183,18 +190,14 @@ def without_counts(text: bytes, digits: int) -> list[bytes]:
     """Returns the digits of rows with counts, of so many digits each, from one `:` to the next.
     Raises `NotDecoded`.
     """
-    counts = text.translate(None, ROWS)
-    parted = text.translate(AT_COUNTS)
-    if counts.translate(None, COUNTS) or parted.count(b" 0") != len(counts):
+    if not text.isascii():
         raise NotDecoded(Text("the output is not ZPL as label-print writes it"))
-    pieces = parted.split(b" ")
-    found = [b""] * (len(pieces) + len(counts))
-    found[0::2] = pieces
-    found[1::2] = map(RUNS.__getitem__, counts)
-    parts = b"".join(found).split(b":")
+    for letter in filter(text.__contains__, COUNTS):
+        text = text.replace(*RUNS[letter])
+    parts = text.split(b":")
     if not b"".join([part[digits - 1 :: digits] for part in parts]).isascii():
         raise NotDecoded(Text("a row of the ZPL has the wrong length"))
-    return [part.replace(MARKED, b"0") for part in parts]
+    return text.translate(UNMARKED).split(b":")
 
 
 def of_length(data: bytes, length: int) -> bytes:

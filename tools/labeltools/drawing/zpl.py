@@ -1,6 +1,7 @@
 """ZPL II of label printers."""
 
 import re
+from binascii import hexlify
 from functools import reduce
 from itertools import repeat
 from operator import ne, or_
@@ -15,11 +16,16 @@ INKED_ROWS = re.compile(rb"[^\0]+(?:\0{1,7}[^\0]+)*")
 INKED = re.compile(rb"[^\0]+(?:\0{1,2}[^\0]+)*")
 INKED_OF_MANY = re.compile(rb"[^\0]+")
 MANY = 50  # rows that differ, from which on a byte of white in each takes more: large letters
-# run lengths: a count of 6 to 19, L to Y, stands before a 0; fewer save next to nothing
-OFTEN = re.compile("(000000{1,14})")
-COUNTS = [chr(ord("F") + count) + "0" for count in range(20)]
-RUN = "000000"
-RARELY = 30  # digits to one of these: where there are more, counts save too little
+# run lengths: a count stands before a digit, G to Y for 1 to 19, g to z for 20 to 400. A run is
+# parted into a few of these, for each of which all is searched: more of them would take longer
+LIGHT = {120: b"l", 40: b"h", 18: b"X", 10: b"P", 6: b"L", 4: b"J"}
+DARK = {60: b"i", 17: b"W", 9: b"O", 5: b"K"}  # others than before 0
+# a digit with a count is a small letter meanwhile, so that it is in no run
+RUNS = [(b"0" * count, letter + b"o") for count, letter in LIGHT.items()]
+RUNS += [(b"F" * count, letter + b"f") for count, letter in DARK.items()]
+COUNTED = bytes.maketrans(b"of", b"0F")
+OFTEN = b"0" * 6, b"F" * 6
+RARELY = 20  # digits to one of these: where there are more, counts save too little
 BLOCKS: Kept[tuple[bytes, int], bytes] = Kept(1024)
 
 
@@ -99,23 +105,21 @@ def bands_of(picture: Picture, block: Block) -> Iterator[Block]:
 
 
 def run_lengths(dots: bytes, size: int) -> bytes:
-    """Returns rows of some bytes in hexadecimal: `:` for the row above once more, and where it
-    saves much, counts before 0 that come often.
+    """Returns rows of some bytes in hexadecimal: `:` for the row above once more, and counts before
+    digits that come often.
 
     >>> run_lengths(bytes.fromhex("FF00AB FF00AB 00000000000C"), 3)
-    b'FF00AB:L000000C'
+    b'FF00AB:L0J0C'
     """
     return BLOCKS.get((dots, size), new_run_lengths)
 
 
 def new_run_lengths(block: tuple[bytes, int]) -> bytes:
-    """Writes rows in run lengths, or without counts, which are quicker to write and to read."""
-    dots, size = block
-    rows = dots.hex("\n", size).upper().split("\n")
-    texts = [":" if row == above else row for above, row in zip(["", *rows], rows)]
-    whole = "".join(texts)
-    if whole.count(RUN) * RARELY >= len(whole):
-        pieces = OFTEN.split("\n".join(texts))  # no run goes on from a row to the next
-        pieces[1::2] = map(COUNTS.__getitem__, map(len, pieces[1::2]))
-        whole = "".join(pieces).replace("\n", "")
-    return whole.encode()
+    """Writes rows in run lengths."""
+    rows = hexlify(block[0], b"\n", block[1]).upper().split(b"\n")
+    again = [b":" if row == above else row for above, row in zip([b"", *rows], rows)]
+    text = b"\n".join(again)  # no run goes on from a row to the next
+    if sum(map(text.count, OFTEN)) * RARELY >= len(text):
+        for run, count in RUNS:
+            text = text.replace(run, count)
+    return text.translate(COUNTED, b"\n")

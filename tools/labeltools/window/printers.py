@@ -35,6 +35,7 @@ LANGUAGES = ("zpl", "escpos")  # of printers that take labels one by one
 USUAL_DPI = 203  # of these printers
 DRAWING_DPI = 600
 TEST = b'#{"title":"Test","price":"1,00"}\ncode128 TEST-123\n'
+Shown = tuple[str, str, str, str]  # of the list: a name, an icon, a state, a key
 TEST_SIZE = "50x25"  # millimetres of a test label
 
 
@@ -77,12 +78,10 @@ class Printers:
             (one.name, icon_of(one), translated(one.state), key) for key, one in self.all.items()
         ]
         rows += [(NONE, "", "", NONE)] if rows else []
-        rows.append((_("Add a network printer…"), "list-add-symbolic", "", ADD))
+        rows.append((_("Network printer…"), "list-add-symbolic", "", ADD))
         rows.append((_("Save a file…"), "document-save-symbolic", "", FILE))
         with self.window.filling():
-            self.window.printers.clear()
-            for row in rows:
-                self.window.printers.append(row)
+            show_rows(self.window.printers, rows)
             self.window.printer.set_active_id(self.wanted or None)
 
     @property
@@ -131,8 +130,14 @@ class Printers:
         elif printer.form in LANGUAGES:
             self.decide(printer.form, printer.dpi or USUAL_DPI, True)
         else:
+            self.window.has_labels = False  # they are for another printer
+            self.window.let_out(False)
             future = self.thread.submit(queue_of, key)
             future.add_done_callback(partial(GLib.idle_add, self.decide_by_queue, key))
+
+    def close(self) -> None:
+        """Looks for no printers any more."""
+        self.thread.shutdown(wait=False)
 
     def on_chosen(self, key: str) -> None:
         """Does what is chosen in the list by the keeper."""
@@ -145,7 +150,11 @@ class Printers:
 
     def decide_by_queue(self, key: str, future: "Future[Queue]") -> None:
         """Makes the labels for a queue, whose driver is known now."""
-        if key != self.wanted or future.exception() is not None:
+        if key != self.wanted or not self.window.get_visible():
+            return
+        error = future.exception()
+        if isinstance(error, ToolError):
+            self.window.show_problem(error)
             return
         queue = future.result()
         is_roll = bool(queue.papers.known) and not queue.papers.is_office
@@ -245,6 +254,17 @@ class Printers:
         elif error is not None:
             text = str(error)
         self.window.new_said.set_text(text)
+
+
+def show_rows(model: Any, rows: Sequence[Shown]) -> None:
+    """Shows rows in a list, which may be open: it is made anew only for other printers."""
+    if [row[3] for row in model] != [row[3] for row in rows]:
+        model.clear()
+        for new in rows:
+            model.append(new)
+    for old, new in zip(model, rows):
+        if tuple(old) != new:
+            model[old.iter] = new
 
 
 def icon_of(printer: Printer) -> str:

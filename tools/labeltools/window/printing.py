@@ -66,6 +66,7 @@ class Printing:
         window.print_what.set_visible(not is_roll)
         self.fill(options)
         self.show_what()
+        window.print_yes.grab_focus()  # Enter prints
         answer = window.printing.run()
         window.printing.hide()
         return self.wanted() if answer == Gtk.ResponseType.OK else None

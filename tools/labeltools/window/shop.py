@@ -44,7 +44,7 @@ class WindowTalk:
     def __init__(self, doing: str = "", is_sending: bool = False) -> None:
         self.doing = doing  # what is shown while it is not known how much there is to do
         self.is_sending = is_sending  # labels, whose end is always shown
-        self.is_direct = False  # whether a printer takes them one by one, until `stops` has one
+        self.printer = ""  # that takes them one by one, until `stops` has one
         self.notes: list[LeftOut] = []
         self.done = 0  # of the work
         self.total = 0  # of it, where that is known
@@ -64,7 +64,7 @@ class WindowTalk:
 
     def go_on(self, done: int, total: int) -> None:
         """Keeps how far the work is; raises `Cancelled` where it is stopped."""
-        if self.stops and not self.is_direct:
+        if self.stops and not self.printer:
             raise Cancelled(Text("stopped"))
         self.done = done
         self.total = total

@@ -228,9 +228,11 @@ class WaysOut:
         self, printer: str, labels: Prepared, counts: bool = True, is_rest: bool = False
     ) -> None:
         """Sends to a printer in the network or on USB what label-print sends."""
+        known = self.window.of_printers.all.get(printer)
+        name = known.name if known else printer
 
         def way(labels: Prepared, talk: WindowTalk) -> Sent:
-            talk.is_direct = True
+            talk.printer = name
             return None, send_to(labels, printer, talk, talk.stops), len(labels.prints)
 
         self.send(way, labels, counts, is_rest)

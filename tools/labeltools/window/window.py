@@ -234,6 +234,7 @@ class Window(Gtk.ApplicationWindow):
     def on_destroy(self, _window: Any) -> None:
         """Ends work."""
         self.work.close()
+        self.of_printers.close()
 
     def on_stop(self, _button: Any) -> None:
         """Ends work; where a table was being read, another one can be opened."""

@@ -97,4 +97,7 @@ def progress_text(talk: WindowTalk) -> str:
     if not talk.total:
         return f"{talk.doing} {talk.done:n}" if talk.done else talk.doing
     done, total = (f"{number:n}" for number in (talk.done, talk.total))
+    if talk.printer:
+        text = _("Label {done} of {all} on {printer}")
+        return text.format(done=done, all=total, printer=talk.printer)
     return _("{done} of {all}").format(done=done, all=total)
