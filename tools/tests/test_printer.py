@@ -513,7 +513,7 @@ class Queues(unittest.TestCase):
         said = self.printed(*self.SHEET, "--print", "home").stderr.decode()
         sent = SentJob("home", int(re.findall("job ([0-9]+)", said)[0]), title=name)
         self.assertTrue(sent.state().is_printed)  # no job of this name is there
-        with mock.patch("labeltools.sending.cups.state_at_printer", return_value=ABORTED):
+        with mock.patch("labeltools.sending.ipp.state_at_printer", return_value=ABORTED):
             self.assertEqual(sent.state().trouble, f"the printer gave up job {sent.number}")
 
     def test_a_signal_ends_only_the_watching(self) -> None:

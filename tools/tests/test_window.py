@@ -34,7 +34,7 @@ TABLE = """Nr;EAN;Name;Price;Stock;Labels
 4;96385074;Gum, and a title that is longer than any label;1,20 €;8;1
 """
 PROGRAMS = ("Xvfb", "pdftoppm", "msgfmt")
-WAIT = float(os.environ.get("WAIT", 300))  # seconds for work, on a busy machine too
+WAIT = 300.0  # seconds for work, on a busy machine too
 BEAT = 10  # milliseconds between two looks at the window
 SCALE = 4  # pixels of a millimetre
 LOADED = "application bar gtk printers questions sheets ways window work".split()

@@ -108,8 +108,8 @@ def run_lengths(dots: bytes, size: int) -> bytes:
     """Returns rows of some bytes in hexadecimal: `:` for the row above once more, and counts before
     digits that come often.
 
-    >>> run_lengths(bytes.fromhex("FF00AB FF00AB 00000000000C"), 3)
-    b'FF00AB:L0J0C'
+    >>> run_lengths(bytes.fromhex("FF0000 FF0000 000000"), 3)
+    b'FFJ0:L0'
     """
     return BLOCKS.get((dots, size), new_run_lengths)
 

@@ -22,7 +22,6 @@ from labeltools.drawing.forms import PDF
 from labeltools.paper.stock import Size
 from labeltools.printing.job import DRAWING_DPI, Job
 from labeltools.sending.answers import NO_PAPER, OPEN_COVER, Trouble
-from labeltools.sending.ipp import state_at_printer
 from labeltools.sending.papers import (
     FOOMATIC,
     Papers,
@@ -318,8 +317,8 @@ class SentJob:
             return JobState(Text("CUPS gave up job {}: {}", self.number, said), said, True)
         if state == COMPLETED:
             device = printer.get("device-uri", "")
-            is_given_up = any(reason.startswith(REFUSED) for reason in reasons)
-            if is_given_up or state_at_printer(device, self.title) in (CANCELLED, ABORTED):
+            is_refused = any(reason.startswith(REFUSED) for reason in reasons)
+            if is_refused or is_given_up(device, self.title):
                 what = Text("the printer gave up job {}", self.number)
                 return JobState(joined(": ", filter(None, (what, said))), said, True)
             return JobState(NOTHING, said, True, True)
@@ -351,6 +350,15 @@ class SentJob:
             if state != before:
                 end = time.monotonic() + IDLE
         return state
+
+
+def is_given_up(device: str, title: str) -> bool:
+    """Returns whether a printer that speaks IPP says that it gave a job up; False of another."""
+    if not device.startswith(("ipp:", "ipps:")):
+        return False
+    from labeltools.sending.ipp import state_at_printer  # with all of HTTP, which takes time
+
+    return state_at_printer(device, title) in (CANCELLED, ABORTED)
 
 
 def trouble_of(queue: str, printer: Mapping[str, Any]) -> Trouble | None:

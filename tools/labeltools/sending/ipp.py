@@ -101,7 +101,7 @@ def state_at_printer(device: str, name: str) -> int:
     """Returns the state of the last job of a name that a printer has completed, by its number in
     IPP; 0 if the printer does not say it.
     """
-    if not name or not device.startswith(("ipp://", "ipps://")):
+    if not name:
         return 0
     with suppress(OSError, http.client.HTTPException, struct.error, ValueError):
         for job in groups_of(asked(device)):
