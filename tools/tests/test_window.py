@@ -24,7 +24,7 @@ from labeltools.common.messages import ToolError
 from labeltools.common.text import NOTHING, Text
 from labeltools.sending import cups as sending_cups, printers as sending
 from labeltools.sending.cups import JobState, Queue, SentJob
-from printers import Printer
+from printers import Printer, READY, STATUS
 from scheduler import raster_of, Scheduler, WITH_TEST
 
 TABLE = """Nr;EAN;Name;Price;Stock;Labels
@@ -454,6 +454,15 @@ class WindowTest(Keeper):
         plain = self.by_columns("--paper", "60x40", "--to", "zpl", "--dpi", "203")
         self.assertEqual(b"".join(printer.labels), plain)
         self.assertEqual(len(self.printed()), 40)
+
+    def test_what_a_printer_has_taken_and_does_not_print_is_a_warning(self) -> None:
+        self.open()
+        self.change(roll=True, to="zpl", dpi="203")
+        printer = Printer(answers=(READY, STATUS % (1, 0, 2, 0))).start()
+        self.addCleanup(printer.off)
+        self.window.ways.send_to(printer.name, self.window.made.labels)
+        self.until(lambda: "it has no paper: put some in" in self.said())
+        self.assertEqual(self.window.events.event.kind, "warning")
 
     def test_a_label_in_doubt_is_asked_for(self) -> None:
         """With each answer every other label is printed once."""

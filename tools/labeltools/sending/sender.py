@@ -298,13 +298,13 @@ def direct_outlet(printer: str) -> Outlet:
     return Device(printer)
 
 
-def send_to(found: Prepared, printer: str, talk: Talk, came: Sized = ()) -> Text:
-    """Sends labels one by one to a printer until something came, and returns what it took; raises
-    `ToolError`.
+def send_to(found: Prepared, printer: str, talk: Talk, came: Sized = ()) -> Sender:
+    """Sends labels one by one to a printer until something came, and returns the sender, which
+    knows what the printer took; raises `ToolError`.
     """
     sender = Sender(direct_outlet(printer))
     sender.send_all(found, talk, came)
-    return sender.result()
+    return sender
 
 
 def save_to(found: Prepared, path: Path, talk: Talk) -> None:

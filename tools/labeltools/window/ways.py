@@ -7,7 +7,7 @@ from concurrent.futures import Future
 from dataclasses import replace
 from functools import partial
 from pathlib import Path
-from typing import Any
+from typing import Any, NamedTuple
 
 from labeltools.common.language import _
 from labeltools.common.messages import ToolError
@@ -23,8 +23,18 @@ from labeltools.window.printing import open_settings, Options, Printing, Printou
 from labeltools.window.shop import MadeLabels, Table, WindowTalk
 
 WATCH = 2000  # milliseconds between two looks at a job of CUPS
-Sent = tuple[SentJob | None, Text, int]  # a job of CUPS, what is reported, and of how many labels
-Way = Callable[[Prepared, WindowTalk], Sent]
+Way = Callable[[Prepared, WindowTalk], "Sent"]
+
+
+class Sent(NamedTuple):
+    """What went out: a job of CUPS if it is one, what is reported, of how many labels, and as what
+    kind of event.
+    """
+
+    job: SentJob | None
+    text: Text
+    count: int
+    kind: str = INFO
 
 
 class WaysOut:
@@ -52,7 +62,7 @@ class WaysOut:
         """Says which labels went out, and from then on what becomes of a job of CUPS. Keeps them,
         those of a job once it is printed.
         """
-        job, text, count = sent
+        job, text, count, kind = sent
         labels, counts = self.sending
         if not counts:
             text = Text("{}; it was a trial, so these labels do not count as printed", text)
@@ -60,7 +70,7 @@ class WaysOut:
             table.keep_printed(made, labels)
         else:
             self.waiting[job] = table, table.keep_waiting(made, labels, job)
-        self.report(INFO, text, job)
+        self.report(kind, text, job)
         if job is not None:
             self.watch(job, count)
 
@@ -143,7 +153,7 @@ class WaysOut:
         def way(labels: Prepared, talk: WindowTalk) -> Sent:
             save_to(labels, path, talk)
             count = len(labels.prints)
-            return None, Text("{} saved as {}", labels_text(count), path.name), count
+            return Sent(None, Text("{} saved as {}", labels_text(count), path.name), count)
 
         self.send(way, self.window.made.labels)
 
@@ -185,7 +195,7 @@ class WaysOut:
 
         def way(labels: Prepared, talk: WindowTalk) -> Sent:
             sent, text = print_on(labels, queue, talk, wanted.options)
-            return sent, text, len(labels.prints)
+            return Sent(sent, text, len(labels.prints))
 
         self.send(way, wanted.labels, not wanted.is_trial)
 
@@ -233,7 +243,9 @@ class WaysOut:
 
         def way(labels: Prepared, talk: WindowTalk) -> Sent:
             talk.printer = name
-            return None, send_to(labels, printer, talk, talk.stops), len(labels.prints)
+            sender = send_to(labels, printer, talk, talk.stops)
+            kind = WARNING if sender.is_stuck else INFO
+            return Sent(None, sender.result(), len(labels.prints), kind)
 
         self.send(way, labels, counts, is_rest)
 
