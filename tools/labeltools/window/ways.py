@@ -33,7 +33,7 @@ class Sent(NamedTuple):
 
     job: SentJob | None
     text: Text
-    count: int
+    how_many: int
     kind: str = INFO
 
 
