@@ -45,7 +45,7 @@ Honig Linde;4006381333931;3,50 €;2,99 €;4
 title code - price copies
 Artikelnr;Omschrijving;EAN;Inkoopprijs;Adviesprijs
 A1;Drop zoet;4006381333931;1,00;1,95
-- title code ?price ?price
+- title code - ?price
 Autor;Titel;ISBN;Ladenpreis
 K. Lenz;Herbstlicht;978-3-16-148410-0;24,00 €
 - title code price
@@ -144,7 +144,7 @@ Keller;Riesling trocken;14,90;19,87;4006381333931
 - title price - code
 Item;Description;Price;Wholesale;Retail Price;Sale Price;Width;UPC
 Hammer, claw;Steel, 12 oz;24.49;12.10;0.00;0.00;8.25;4006381333931
-?title ?title ?price ?price ?price - - code
+?title ?title ?price - ?price - - code
 OXARTNUM;OXEAN;OXTITLE;OXSHORTDESC;OXPRICE;OXSTOCK
 A-201;4006381333931;Pencil, soft;Of cedar wood;0.80;12
 - code title - price -
@@ -228,7 +228,7 @@ class Guesses(unittest.TestCase):
         found = guessed(f"{names};Verkaufspreis\n{row};4,95 €\n")
         self.assertEqual(found.columns["price"], 3)
         found = guessed(f"{names};Apothekenpreis\n{row};4,95 €\n")  # a word that is not known
-        self.assertEqual(found.doubts, {"price": [2, 3]})
+        self.assertEqual(found.doubts, {"price": [3]})
 
     def test_the_row_of_the_names(self) -> None:
         names, row = TABLES[:2]
@@ -648,7 +648,7 @@ class Prices(unittest.TestCase):
     def test_a_price_that_has_no_amounts_is_asked_about(self) -> None:
         """A spreadsheet that was not calculated has errors in place of the prices of the shop."""
         columns = [["EAN", *CODES], ["EK", *LOW], ["VK", *["#WERT!"] * 3], ["UVP", *HIGH]]
-        self.assertEqual(guess(columns, 1).doubts, {"price": [1, 2, 3]})
+        self.assertEqual(guess(columns, 1).doubts, {"price": [2, 3]})
         for name in ("Listeneinkaufspreis", "Leverantörspris", "Personalpreis"):
             found = guess([["EAN", *CODES], [name, *HIGH]], 1)
             self.assertEqual(found.doubts, {"price": [1]}, name)
@@ -657,9 +657,17 @@ class Prices(unittest.TestCase):
         codes = ["EAN", *CODES, "96385074"]
         for cells in (["", "", "", ""], ["9,99", "", "", ""]):
             found = guess([codes, ["EK", *LOW, "1"], ["VK", *cells], ["UVP", *HIGH, "5"]], 1)
-            self.assertEqual(found.doubts, {"price": [1, 2, 3]}, cells)
+            self.assertEqual(found.doubts, {"price": [2, 3]}, cells)
             found = guess([codes, ["Netto", *LOW, "1,00"], ["Preis", *cells]], 1)
             self.assertEqual(found.doubts, {"price": [1, 2]}, cells)
+
+    def test_prices_in_several_currencies_are_asked_about(self) -> None:
+        """Though only one of them is plain: a book is sold in three countries."""
+        prices = [["Preis EUR (D)", *HIGH], ["Preis EUR (A)", *HIGH], ["Preis CHF", *HIGH]]
+        found = guess([["EAN", *CODES], *prices], 1)
+        self.assertEqual(found.doubts, {"price": [1, 2, 3]})
+        found = guess([["EAN", *CODES], *prices[:1], ["Preis Euro", *HIGH]], 1)
+        self.assertEqual(found.columns.get("price"), 2)
 
     def test_an_advised_price_yields_to_the_same_amounts(self) -> None:
         codes = ["EAN", *CODES]

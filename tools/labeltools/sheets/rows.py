@@ -33,6 +33,12 @@ class Row(NamedTuple):
     links: Mapping[int, str] | None = None
     hidden_places: Container[int] = ()
 
+    @property
+    def width(self) -> int:
+        """How many columns the row has, those of merged cells included."""
+        merged = [merge.last_place + 1 for merge in self.merges if merge.row <= self.number]
+        return max(len(self.cells), *merged) if merged else len(self.cells)
+
     def is_blank(self) -> bool:
         """Returns whether the row has nothing in it."""
         if self.problem:

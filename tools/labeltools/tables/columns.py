@@ -155,7 +155,7 @@ def column_of(argument: str, head: Head) -> Column:
     places = [place for place, name in enumerate(head.names) if name and name == wanted]
     by_name = bool(places)
     if not places:
-        places = [place for place in range(width_of(head.row)) if str(place + 1) == argument]
+        places = [place for place in range(head.row.width) if str(place + 1) == argument]
     if len(places) != 1:
         raise not_one(argument, head, len(places))
     place = places[0]
@@ -176,12 +176,6 @@ def column_word(names: Sequence[str], place: int) -> str:
     name = names[place]
     is_sure = name and not name.isdecimal() and names.count(name) == 1
     return name if is_sure else str(place + 1)
-
-
-def width_of(row: Row) -> int:
-    """Returns how many columns a row has, those of merged cells included."""
-    merged = [merge.last_place + 1 for merge in row.merges if merge.row <= row.number]
-    return max(len(row.cells), *merged) if merged else len(row.cells)
 
 
 def not_one(argument: str, head: Head, count: int) -> ToolError:

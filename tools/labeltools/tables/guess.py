@@ -56,7 +56,7 @@ MOST_IN_ONE = 4  # words that count as one
 SHORT = 5  # letters of a word that is never written as several
 MANY = 6  # names that begin alike by no chance
 SAMPLE = 300  # rows that are looked at
-PAID = ("prices", "taxed", "paid", "beside-prices")  # the words of a plain price
+PAID = ("prices", "taxed", "paid", "currencies", "beside-prices")  # words of a plain price
 CODES = ("codes", "own-numbers")
 TITLES = ("titles", "parts", "articles", "descriptions")
 
@@ -207,7 +207,7 @@ class ColumnSample:
     @property
     def price_rank(self) -> Plainness:
         """How plainly its name says that it has prices that customers pay."""
-        is_priced = self.says("prices", "taxed", "paid") or not self.words
+        is_priced = self.says(*PAID[:-1]) or not self.words
         return self.plainness(*PAID) if is_priced else Plainness.OF_SOME_KIND
 
 
@@ -367,7 +367,8 @@ def price_columns(columns: Mapping[int, ColumnSample]) -> Places:
     """Returns the columns that may have the price that customers pay: those that are named so, and
     those with amounts of money that are not named as something else. The one of the plainest name
     is sure if most rows have an amount in it, and none is for sale. Prices with tax are meant where
-    others do not say it. What is advised yields to the same amounts, and is sure only alone.
+    others do not say it. What is advised yields to the same amounts. It is sure only alone, as one
+    of several currencies is. Costs are not asked about.
     """
     may_be = {at: one for at, one in columns.items() if may_be_price(one)}
     paid = {at: one for at, one in may_be.items() if not one.says("cost", "net")}
@@ -381,9 +382,12 @@ def price_columns(columns: Mapping[int, ColumnSample]) -> Places:
     if taxed:
         left = {at: one for at, one in left.items() if at in taxed or one.says("sale", "advised")}
     at, one = next(iter(left.items()))
-    is_alone = len(left) == 1 and not (one.says("advised") and len(paid) > 1)
-    is_named = first is not Plainness.OF_SOME_KIND and one.filled >= LEAST and one.has(is_amount)
-    return Places([*may_be], at if is_alone and is_named else None)
+    moneys = {word[:3] for other in paid.values() for word in other.says("currencies")}
+    is_some = one.says("advised") or len(moneys) > 1 and one.says("currencies")
+    is_sure = len(left) == 1 and first is not Plainness.OF_SOME_KIND and one.filled >= LEAST
+    if is_sure and one.has(is_amount) and not (is_some and len(paid) > 1):
+        return Places([*may_be], at)
+    return Places([at for at, one in may_be.items() if not one.says("cost")])
 
 
 def may_be_price(column: ColumnSample) -> bool:
