@@ -543,7 +543,7 @@ class WindowTest(Keeper):
 
     def test_says_what_is_left_out_and_what_there_is(self) -> None:
         self.open()
-        self.assertEqual(self.window.left_out.get_text(), "1 row is left out")
+        self.assertEqual(self.window.left_out.get_text(), "1 row is skipped")
         row, cell, why = self.rows()[0]
         self.assertEqual((row, cell), ("4", "4006381333932"))
         self.assertIn("a digit is wrong", why)

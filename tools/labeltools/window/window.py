@@ -1,5 +1,5 @@
 """The window of the shop, by GTK 3: a table, what its columns are for, the pages as they are
-printed, and the rows that are left out. Its widgets are those of window.ui.
+printed, and the rows that are skipped. Its widgets are those of window.ui.
 """
 
 from collections.abc import Iterable, Iterator, Mapping, Sequence
@@ -475,8 +475,8 @@ class Window(Gtk.ApplicationWindow):
             self.ways.look_back(self.table)
 
     def show_left_out(self, notes: Sequence[Any], count: int) -> None:
-        """Shows how many rows are left out, with their list where there is room for it."""
-        text = translated(counted("{} row is left out", "{} rows are left out", count))
+        """Shows how many rows are skipped, with their list where there is room for it."""
+        text = translated(counted("{} row is skipped", "{} rows are skipped", count))
         self.left_out.set_text(text if count else _("Please look at this"))
         name = "dialog-warning-symbolic" if count else "dialog-information-symbolic"
         self.left_out_icon.set_from_icon_name(name, Gtk.IconSize.BUTTON)
@@ -485,7 +485,7 @@ class Window(Gtk.ApplicationWindow):
         self.on_fold(self.fold)
 
     def on_fold(self, fold: Any) -> None:
-        """Shows the list of what is left out, or hides it."""
+        """Shows the list of what is skipped, or hides it."""
         is_open = fold.get_active()
         self.notes_box.set_visible(is_open)
         name = "pan-down-symbolic" if is_open else "pan-end-symbolic"
