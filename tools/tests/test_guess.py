@@ -45,7 +45,7 @@ Honig Linde;4006381333931;3,50 €;2,99 €;4
 title code - price copies
 Artikelnr;Omschrijving;EAN;Inkoopprijs;Adviesprijs
 A1;Drop zoet;4006381333931;1,00;1,95
-- title code - ?price
+- title code ?price ?price
 Autor;Titel;ISBN;Ladenpreis
 K. Lenz;Herbstlicht;978-3-16-148410-0;24,00 €
 - title code price
@@ -228,7 +228,7 @@ class Guesses(unittest.TestCase):
         found = guessed(f"{names};Verkaufspreis\n{row};4,95 €\n")
         self.assertEqual(found.columns["price"], 3)
         found = guessed(f"{names};Apothekenpreis\n{row};4,95 €\n")  # a word that is not known
-        self.assertEqual(found.doubts, {"price": [3]})
+        self.assertEqual(found.doubts, {"price": [2, 3]})
 
     def test_the_row_of_the_names(self) -> None:
         names, row = TABLES[:2]

@@ -368,7 +368,7 @@ def price_columns(columns: Mapping[int, ColumnSample]) -> Places:
     those with amounts of money that are not named as something else. The one of the plainest name
     is sure if most rows have an amount in it, and none is for sale. Prices with tax are meant where
     others do not say it. What is advised yields to the same amounts. It is sure only alone, as one
-    of several currencies is. Costs are not asked about.
+    of several currencies is. Costs are asked about only beside a single other one.
     """
     may_be = {at: one for at, one in columns.items() if may_be_price(one)}
     paid = {at: one for at, one in may_be.items() if not one.says("cost", "net")}
@@ -387,7 +387,7 @@ def price_columns(columns: Mapping[int, ColumnSample]) -> Places:
     is_sure = len(left) == 1 and first is not Plainness.OF_SOME_KIND and one.filled >= LEAST
     if is_sure and one.has(is_amount) and not (is_some and len(paid) > 1):
         return Places([*may_be], at)
-    return Places([at for at, one in may_be.items() if not one.says("cost")])
+    return Places([*paid] if len(paid) > 1 else [*may_be])
 
 
 def may_be_price(column: ColumnSample) -> bool:
