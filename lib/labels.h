@@ -1,8 +1,8 @@
 /* liblabels: bar codes and QR codes, drawn and read back by proved code.
  *
- * EAN-13, EAN-8, UPC-A, Code 128 and QR versions 1 to 10, as a picture (plain PBM or text), a bitmap, or modules of a
- * byte each, of data or of a line of text; and the data of dots. The manual is labels(3); lines and options are those
- * of labels(1).
+ * EAN-13, EAN-8, UPC-A, Code 128 and QR versions 1 to 10, as an image (the text of a picture: plain PBM, or ## and
+ * spaces), a bitmap (a picture as packed bits, one for each dot), or modules of a byte each, of data or of a line of
+ * text; and the data of a bitmap. The manual is labels(3); lines and options are those of labels(1).
  *
  * No call takes memory from the heap, keeps state, prints or aborts. All are reentrant: any number of threads may call
  * at once. A call uses at most 40 KB of stack.
@@ -45,7 +45,7 @@ enum { LABELS_MAX_MODULES = 3249 }; /* no symbol has more: QR version 10 has 57 
 enum { LABELS_MAX_DATA = 652 };     /* no symbol has more bytes: QR version 10-L has 652 digits */
 enum { LABELS_MESSAGE_ROOM = 96 };  /* bytes of a message, its NUL among them */
 
-/* Bytes that are enough for the plain PBM of a picture w pixels wide and h high. */
+/* Bytes that are enough for the plain PBM of a picture w dots wide and h high. */
 #define LABELS_PICTURE_ROOM(w, h) (14 + (size_t)(h) * ((size_t)(w) + ((size_t)(w) + 69) / 70))
 
 /* A symbology that a call is given. In C it is the enum, which is as large as an int and mixes with it: so gcc -Wextra and
@@ -77,13 +77,13 @@ enum labels_code {
     LABELS_NOT_ONE_LINE,           /* line: it has a line feed */
     LABELS_BAD_ARGUMENT,           /* a pointer is NULL where it must not be, a size is above PTRDIFF_MAX, or the room
                                       overlaps the data */
-    LABELS_NOT_READ                /* the dots are no symbol of the symbology */
+    LABELS_NOT_READ                /* the dots are not a symbol that can be read */
 };
 
 /* How labels are drawn. A call tests all of them, also those that it does not use. */
 typedef struct labels_options {
-    uint32_t format;      /* of pictures: enum labels_format */
-    uint32_t scale;       /* of pictures: pixels of a module, 1 to 8 */
+    uint32_t format;      /* of images: enum labels_format */
+    uint32_t scale;       /* of pictures: dots of a module, 1 to 8 */
     uint32_t height;      /* of bars, in modules, 1 to 500 */
     uint32_t level;       /* of QR: enum labels_level */
     uint32_t min_version; /* of QR, 1 to 10 */
@@ -98,7 +98,7 @@ typedef struct labels_options {
 typedef struct labels_answer {
     uint32_t code;         /* as the call returns it: enum labels_code */
     uint32_t reserved;
-    size_t length;         /* bytes of the whole picture or data, or modules of the symbol; 0 where there is none */
+    size_t length;         /* bytes of the whole image, bitmap or data, or modules of the symbol; 0 if there is none */
     size_t at;             /* the byte of the data that is wrong, the setting of the line, or the first wrong option of
                               labels_options (1 format .. 7 escapes, 8 a reserved word), from 1 on; 0 where none is */
     size_t message_length; /* bytes of the message */
@@ -186,20 +186,20 @@ LABELS_API void labels_defaults(labels_options *options);
  * `found` and `answer` where they are not wanted; what is read where its size is 0, and what is written where its room
  * is 0. */
 
-/* Draws one symbol as a picture. Puts its bytes into `out`, as many as there is room for, and nothing after them; the
- * picture has no NUL at its end. `answer->length` is that of the whole picture: a call without room asks for it. */
+/* Draws one symbol as an image. Puts its bytes into `out`, as many as there is room for, and nothing after them; the
+ * image has no NUL at its end. `answer->length` is that of the whole image: a call without room asks for it. */
 LABELS_API int labels_draw(const labels_options *options, labels_symbology_number symbology, const void *data,
                            size_t size, char *out, size_t room, labels_answer *answer);
 
 /* Draws one symbol as modules. Puts them into `modules` where there is room for all, row by row from the top, a byte
  * each, 1 where dark, else 0, without quiet zones. Room that they do not take may be set to 0, up to LABELS_MAX_MODULES
  * bytes in all. `info` is set where the code is LABELS_OK or LABELS_NO_ROOM; else each number in it is 0, and its data
- * is "". What is behind the NUL of the data is left as it was. */
+ * is "". What is after the NUL of the data is left as it was. */
 LABELS_API int labels_symbol(const labels_options *options, labels_symbology_number symbology, const void *data,
                              size_t size, unsigned char *modules, size_t room, labels_symbol_info *info,
                              labels_answer *answer);
 
-/* Draws what labels(1) draws for one line, as "qr,level=Q HELLO", as a picture. The line comes without its line feed. */
+/* Draws what labels(1) draws for one line, as "qr,level=Q HELLO", as an image. The line comes without its line feed. */
 LABELS_API int labels_draw_line(const labels_options *options, const void *text, size_t size, char *out, size_t room,
                                 labels_answer *answer);
 
@@ -209,12 +209,12 @@ LABELS_API int labels_line(const labels_options *options, const void *text, size
 
 /* Draws one symbol as a bitmap: the picture of labels_draw(), scale and quiet zones included, bars in all their rows. A
  * dot is a bit, 1 where dark; the first of a row is the highest bit of its first byte. A row is (dots->width + 7) / 8
- * bytes, and its last bits are 0 where it has no dots for them; the next row begins `stride` bytes after it, with
- * stride 0 at once. Nothing else is written, also between the rows: a bitmap can be put into a larger one, at any
- * byte. Where the room is less than `answer->length`, or `stride` less than a row and not 0, nothing is put and the
- * code is LABELS_NO_ROOM; the length is that for the given stride. So a call with stride 0 and without room asks for
- * `dots` and the length. `height` 1 gives bars in `scale` rows. For a format in which 0 is dark, turn each byte:
- * ~byte. */
+ * bytes, and its last bits are 0 where it has no dots for them; the next row begins `stride` bytes after the beginning
+ * of this one, or with stride 0 directly after it. Nothing else is written, also between the rows: a bitmap can be put
+ * into a larger one, at any byte. Where the room is less than `answer->length`, or `stride` less than a row and not 0,
+ * nothing is put and the code is LABELS_NO_ROOM; the length is that for the given stride. So a call with stride 0 and
+ * without room asks for `dots` and the length. `height` 1 gives bars in `scale` rows. For a format in which 0 is dark,
+ * invert each byte: ~byte. */
 LABELS_API int labels_bitmap(const labels_options *options, labels_symbology_number symbology, const void *data,
                              size_t size, unsigned char *bits, size_t stride, size_t room, labels_dots *dots,
                              labels_answer *answer);
@@ -226,30 +226,31 @@ LABELS_API int labels_bitmap_line(const labels_options *options, const void *tex
 /* Reads the dots of one symbol, and puts its data into `out`, as many bytes as there is room for, and nothing after
  * them: no NUL. `answer->length` is that of the whole data, at most LABELS_MAX_DATA. It has no options.
  *
- * The dots are those of a region of bits, exactly the symbol in its quiet zone: each module is a square of dots, and the
- * quiet zone has the width that labels_symbol() gives in `info`. Bars are any number of modules high, all rows are equal,
- * and no quiet zone is above and below them. Neither the symbology nor the scale is told: they are found, and `found` has
- * them; its numbers are 0 where nothing is read. Where the region is read by no symbology at any scale it is turned, by as
- * few quarter turns as it is read after. No two symbologies, and no two scales, read the same upright dots.
+ * The dots are those of a region of a bitmap, exactly the symbol in its quiet zone: each module is a square of dots,
+ * and the quiet zone has the width that labels_symbol() gives in `info`. Bars are any number of modules high, all rows
+ * are equal, and no quiet zone is above and below them. You give neither the symbology nor the scale: they are found,
+ * and `found` has them; its numbers are 0 if nothing is read. If the region cannot be read upright, by any symbology at
+ * any scale, it is turned, by as few quarter turns as needed. No two symbologies, and no two scales, read the same
+ * upright dots.
  *
- * Nothing is corrected or guessed: with one dot of the wrong colour they are not read. Only the colour of the seven
+ * Nothing is corrected or guessed: a symbol with one dot of the wrong colour is not read. Only the colour of the seven
  * remainder modules of QR versions 2 to 6, which hold no data, does not matter (ISO/IEC 18004, table 1). The data is
  * what the symbol says, of EAN and UPC with the check digit, which is checked. A UPC-A symbol of 12 digits has the bars
  * of the EAN-13 symbol of a 0 and these digits. Their quiet zones differ: 9 and 9 modules of UPC-A, 11 and 7 of EAN-13.
  *
- * The time grows with the number of dots alone, whatever they show: each symbology is tried at one scale in each direction,
- * at which its quiet zone ends at the first dark dot. A region without a dark dot is looked at once.
+ * The time grows only with the number of dots, whatever they show: each symbology is tried at one scale in each
+ * direction, at which its quiet zone ends at the first dark dot. A region without a dark dot is looked at once.
  *
- * `bits` has `size` bytes; those from the end of the last row of the region on may be left out. The bits around the region
- * do not matter. The code is LABELS_OK; LABELS_NO_ROOM where the data is longer than the room; LABELS_BAD_OPTION where the
- * region is not within the bits, its rows overlap, `dark` is neither 0 nor 1, or a reserved word is not 0; LABELS_NOT_READ
- * where the dots are no symbol; or LABELS_BAD_ARGUMENT. */
+ * `bits` has `size` bytes; those from the end of the last row of the region on may be left out. The bits of the bitmap
+ * outside the region do not matter. The code is LABELS_OK; LABELS_NO_ROOM where the data is longer than the room;
+ * LABELS_BAD_OPTION where the region is not within the bitmap, its rows overlap, `dark` is neither 0 nor 1, or a
+ * reserved word is not 0; LABELS_NOT_READ where the dots are no symbol; or LABELS_BAD_ARGUMENT. */
 LABELS_API int labels_read_bits(const labels_region *region, const void *bits, size_t size, labels_found *found,
                                 char *out, size_t room, labels_answer *answer);
 
-/* Superseded by labels_read_bits(), which is told neither symbology nor scale, and takes bits as they lie; this call stays
- * as long as the library is liblabels.so.1. It reads dots of a byte each in the same way, as a symbol of this symbology
- * whose modules are `scale` dots wide, from 1 on. It does not turn them.
+/* Superseded by labels_read_bits(), which needs neither symbology nor scale, and takes a bitmap as it is; this call
+ * stays as long as the library is liblabels.so.1. It reads dots of a byte each in the same way, as a symbol of this
+ * symbology whose modules are `scale` dots wide, from 1 on. It does not turn them.
  *
  * `dots` has `width` times `height` bytes, row by row from the top: the digit '1' where a dot is dark, '0' where it is
  * light, as in plain PBM without its head and its white space. It may be NULL where width or height is 0. The codes are
