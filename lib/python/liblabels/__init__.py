@@ -397,7 +397,7 @@ def draw(
 ) -> bytes:
     """Returns the picture of some data, byte for byte as labels(1) prints it, with its quiet zones.
 
-    `format` is "pbm" (plain PBM) or "ascii", `scale` the pixels of a module, 1 to 8. The other options are those of
+    `format` is "pbm" (plain PBM) or "ascii", `scale` the dots of a module, 1 to 8. The other options are those of
     `line`. Raises what `symbol` raises.
 
     >>> draw("qr", "HELLO")[:9]
@@ -424,7 +424,7 @@ def bitmap(
     min_version: int = 1,
     mask: int | None = None,
 ) -> Bitmap:
-    """Returns the picture of some data as bits, with its quiet zones. The options are those of `draw`.
+    """Returns the picture of some data as a bitmap, with its quiet zones. The options are those of `draw`.
 
     A `scale` above 8, up to 100, is that of dots which the module enlarges. Raises what `symbol` raises.
 
@@ -450,7 +450,7 @@ def bitmap_line(
     mask: int | None = None,
     escapes: bool = False,
 ) -> Bitmap | None:
-    """Returns the picture of one line as bits, or None for an empty line or a comment.
+    """Returns the picture of one line as a bitmap, or None for an empty line or a comment.
 
     The options are those of `draw_line`, with a `scale` of 1 to 100. Raises what `line` raises.
     """
