@@ -22,7 +22,7 @@ async function sell(codes) {
   for (const code of codes) {
     const answer = await print('ean13 ' + code)
     const [word, number, ...rest] = answer.split(' ')
-    if (word === 'taken') console.log(code, 'is printed')
+    if (word === 'taken') console.log(code, 'taken by the printer')
     else if (word === 'unsent') console.log(code, 'print it again later')
     else console.log(code, word + ':', rest.join(' '))
   }

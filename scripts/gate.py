@@ -10,9 +10,11 @@ and writes their lines.
 
 quick: what needs no program and no proof, some 45 seconds of a processor. all: that, every proof from nothing (but of
 crates that an earlier `rt ci` proved on this machine), the wrong bodies, the program as users get it, and built: what
-needs that program and the library. Of a step that fails all is printed that it wrote, of another one its last line,
-and of each how long it took. A step that takes too long is ended, with all that it started. What others need ends the
-run where it fails. The last line is `N passed, M failed`.
+needs that program and the library. The proofs wait for one another, and most of what comes after the builds runs on
+one processor: so the wrong bodies of a crate are tried beside the proofs, once the crates below it are proved, and of
+what comes after the builds as many steps run as there are processors. Of a step that fails all is printed that it
+wrote, of another one its last line, and of each how long it took. A step that takes too long is ended, with all that
+it started. What others need ends the run where it fails. The last line is `N passed, M failed`.
 """
 
 import contextlib
@@ -22,7 +24,8 @@ import signal
 import subprocess
 import sys
 import time
-from typing import NoReturn, Sequence
+from dataclasses import dataclass
+from typing import IO, Iterable, NoReturn, Sequence
 
 import sources
 
@@ -49,27 +52,76 @@ BUILT = (
     "run_recipes.py",
     "instructions.py --check",
 )
-ALL = (*QUICK, PROOFS, WRONG, PLAIN, *BUILT)
+# These run some at a time.
+LAST = (WRONG, *BUILT)
+ALL = (*QUICK, PROOFS, PLAIN, *LAST)
 # The run ends after each of these where a step has failed, or it has itself.
 NEEDED = {QUICK[-1]: True, PROOFS: False, PLAIN: False}
 COUNTS = "scripts/counts.txt"
 HEAD = "# The last line of each step of the gate: `scripts/gate.py --write STEP` makes it anew.\n"
 # Seconds that a step may take, on a busy machine too.
 LONGEST = 7200.0
+PROCESSORS = len(os.sched_getaffinity(0))
 ENDING = (signal.SIGTERM, signal.SIGHUP, signal.SIGINT)
 # What differs from run to run: how long `rt ci` took.
 VARIES = re.compile(r" \([^)]*\)$")
 
 
-def run(step: str) -> tuple[int, str]:
-    """The status of a step, and all that it wrote, which out/step.txt has meanwhile. What it started and left there is
-    ended too."""
+@dataclass
+class Begun:
+    """A step that is on its way: its process, the file that has what it wrote so far, when it began, and when it was
+    seen that it had ended or taken too long."""
+
+    process: subprocess.Popen[bytes]
+    said: IO[str]
+    start: float
+    stop: float = 0.0
+
+    def is_over(self) -> bool:
+        """Whether it has ended, or taken too long."""
+        if not self.stop:
+            ended = os.waitid(os.P_PID, self.process.pid, os.WEXITED | os.WNOHANG | os.WNOWAIT)
+            now = time.monotonic()
+            self.stop = now if ended or now - self.start > LONGEST else 0.0
+        return self.stop > 0
+
+    def end(self) -> None:
+        """Ends it where it has not ended, and what it started and left there."""
+        with contextlib.suppress(ProcessLookupError):
+            os.killpg(self.process.pid, signal.SIGKILL)
+        self.process.wait()
+        self.said.close()
+
+    def result(self) -> tuple[int, str]:
+        """Its status and all that it wrote, once it is over."""
+        ended = os.waitid(os.P_PID, self.process.pid, os.WEXITED | os.WNOHANG | os.WNOWAIT)
+        fault = "" if ended else f"it took longer than {LONGEST:.0f} seconds, and was ended\n"
+        with contextlib.suppress(ProcessLookupError):
+            os.killpg(self.process.pid, signal.SIGKILL)
+        status = self.process.wait()
+        self.said.seek(0)
+        return status, self.said.read() + fault
+
+
+# The steps that are on their way.
+BEGUN: dict[str, Begun] = {}
+
+
+def path_of(step: str) -> str:
+    """The file that has what a step wrote."""
+    return f"{sources.TOP}/out/steps/{re.sub('[^a-z]+', '-', step)}.txt"
+
+
+def begin(step: str) -> None:
+    """Begins a step."""
     command = step.split() if step == PROOFS else [sources.PYTHON, *f"scripts/{step}".split()]
-    path = f"{sources.TOP}/out/step.txt"
-    sources.write(path, "")
+    if step == WRONG and PROOFS in BEGUN:
+        command += ["--beside", path_of(PROOFS)]
+    sources.write(path_of(step), "")
+    said = open(path_of(step), "r+", encoding="utf-8", errors="replace")
     # A signal that comes before there is a process to end waits.
     signal.pthread_sigmask(signal.SIG_BLOCK, ENDING)
-    with open(path, "r+", encoding="utf-8", errors="replace") as said, subprocess.Popen(
+    process = subprocess.Popen(
         command,
         cwd=sources.TOP,
         env={**os.environ, "PYTHONDONTWRITEBYTECODE": "1"},
@@ -78,19 +130,31 @@ def run(step: str) -> tuple[int, str]:
         stderr=said,
         start_new_session=True,
         preexec_fn=let_signals_in,
-    ) as process:
-        fault = ""
-        try:
-            let_signals_in()
-            process.wait(LONGEST)
-        except subprocess.TimeoutExpired:
-            fault = f"it took longer than {LONGEST:.0f} seconds, and was ended\n"
-        finally:
-            with contextlib.suppress(ProcessLookupError):
-                os.killpg(process.pid, signal.SIGKILL)
-        process.wait()
-        said.seek(0)
-        return process.returncode, said.read() + fault
+    )
+    BEGUN[step] = Begun(process, said, time.monotonic())
+    let_signals_in()
+
+
+def run(step: str, later: Iterable[str] = ()) -> tuple[int, str, float]:
+    """Runs a step, and returns its status, all that it wrote and how long it took. Meanwhile later ones begin, so that
+    as many are on their way as there are processors."""
+    waiting = [it for it in (step, *later) if it not in BEGUN]
+    while step in waiting or not BEGUN[step].is_over():
+        has_room = sum(not it.is_over() for it in BEGUN.values()) < PROCESSORS
+        if step in waiting or (waiting and has_room):
+            begin(waiting.pop(0))
+        else:
+            time.sleep(0.05)
+    one = BEGUN[step]
+    found = one.result()
+    BEGUN.pop(step).end()
+    return *found, one.stop - one.start
+
+
+def end_all() -> None:
+    """Ends the steps that are on their way."""
+    while BEGUN:
+        BEGUN.popitem()[1].end()
 
 
 def let_signals_in() -> None:
@@ -115,18 +179,18 @@ def processor_seconds() -> float:
     return sum(os.times()[:4])
 
 
-def judged(step: str, kept: dict[str, str], writes: bool) -> int:
-    """Runs a step, and prints what it says where it failed, or else its last line. Returns its status, or 1 where that
-    line is another one than is kept; `writes` keeps it."""
-    start, used = time.monotonic(), processor_seconds()
-    status, said = run(step)
+def judged(step: str, later: Iterable[str], kept: dict[str, str], writes: bool) -> int:
+    """Runs a step, beside later ones, and prints what it says where it failed, or else its last line. Returns its
+    status, or 1 where that line is another one than is kept; `writes` keeps it."""
+    used = processor_seconds()
+    status, said, taken = run(step, later)
     last = VARIES.sub("", said.rstrip("\n").split("\n")[-1])
     if writes and status == 0:
         kept[step] = last
     fault = f"status {status}" if status else f"kept is: {kept.get(step, 'no line')}" * (kept.get(step) != last)
     print(f"{said}{fault}" if fault else last)
-    taken = f"{time.monotonic() - start:.1f} s, {processor_seconds() - used:.1f} of processor"
-    print(f"{'FAILED' if fault else 'ok'}: {step}, {taken}", flush=True)
+    how_long = f"{taken:.1f} s, {processor_seconds() - used:.1f} of processor"
+    print(f"{'FAILED' if fault else 'ok'}: {step}, {how_long}", flush=True)
     return status or int(bool(fault))
 
 
@@ -135,7 +199,8 @@ def run_all(steps: Sequence[str], kept: dict[str, str], writes: bool) -> int:
     failed = sorted(f"{step}, which is no step" for step in {*kept} - {*ALL})
     print(*failed, sep="\n", end="\n" * bool(failed))
     for count, step in enumerate(steps, 1):
-        status = judged(step, kept, writes)
+        beside = LAST if step in LAST else (WRONG,) * (step == PROOFS)
+        status = judged(step, [it for it in steps[count:] if it in beside], kept, writes)
         failed += [step] if status else []
         if status and step in NEEDED or failed and NEEDED.get(step):
             break
@@ -155,7 +220,10 @@ def main() -> int:
     heed_signals()
     lines = sources.read(f"{sources.TOP}/{COUNTS}").splitlines()
     kept = dict(line.split(": ", 1) for line in lines if not line.startswith("#"))
-    status = run_all(steps, kept, writes)
+    try:
+        status = run_all(steps, kept, writes)
+    finally:
+        end_all()
     if writes:
         lines = [HEAD, *(f"{step}: {kept[step]}\n" for step in ALL if step in kept)]
         sources.write(f"{sources.TOP}/{COUNTS}", "".join(lines))

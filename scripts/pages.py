@@ -12,7 +12,8 @@
   line of the function page_of_NAME in crates/tests/src/pages.rt, in the same order, white space apart; of the page of
   `command` it is one of the `main` in crates/labels/src/main.rt.
 - A number of a page that a step of the gate counts is the one in scripts/counts.txt.
-- No line is a mark of a merge that somebody has to settle.
+- No line is a mark of a merge that somebody has to settle. None, not even that of a table, has more than LONGEST_LINE
+  bytes: Debian's lintian takes longer ones for the work of a program.
 
 The last line is `N pages, L links, B blocks, K names, M numbers, F faults`. A fault is a line before it, and makes the
 status 1. A paragraph of more than MOST_WORDS words is a line before it too, but no fault: such a paragraph is read
@@ -54,9 +55,10 @@ CODE = (
     *("lib/**/*.*", "lib/Makefile", "scripts/*.py"),
 )
 MOST_WORDS = 90
-OF_MERGES = re.compile(r"^(?:<<<<<<<|>>>>>>>|\|\|\|\|\|\|\|) .*", re.MULTILINE)
+OF_MERGES = re.compile(r"(?:<<<<<<<|>>>>>>>|\|\|\|\|\|\|\|) .*")
 WITHOUT_EXAMPLE = {"labels", "labels_c", "examples", "tests"}
 LONGEST = 40
+LONGEST_LINE = 500
 FILE = re.compile(r"\b(?:crates/[\w/]+\.rt|lib/[\w/]+\.\w+)\b")
 # A name of the code: words that are joined by colons or points, as in `Filter::feed`, `answer.length`.
 NAME = re.compile(r"[^\W\d]\w*(?:(?:::|\.)[^\W\d]\w*)*(?:\(\))?")
@@ -224,6 +226,15 @@ def example_of(name: str) -> tuple[str, str]:
     return f"{function} of {path}", words_of(bodies.get(function, ""))
 
 
+def faults_of_lines(text: str) -> Iterator[tuple[int, str]]:
+    """What is wrong with the lines of a page, each with its number."""
+    for number, line in enumerate(text.split("\n"), 1):
+        if OF_MERGES.match(line):
+            yield number, f"a merge left: {line}"
+        if len(line.encode()) > LONGEST_LINE:
+            yield number, f"{len(line.encode())} bytes in a line, and at most {LONGEST_LINE} are wanted"
+
+
 def faults_of_example(name: str, page: str, blocks: Iterable[Block]) -> Iterator[tuple[int, str]]:
     """What is wrong with a crate's page: its length, and each line that the code does not have in its place."""
     if page.count("\n") > LONGEST:
@@ -267,9 +278,7 @@ def main() -> int:
         for line, words in long_paragraphs(text):
             print(f"{page}:{line}: a paragraph of {words} words is long")
         found = [*faults_of_blocks(page, blocks)]
-        found += [
-            (text.count("\n", 0, mark.start()) + 1, f"a merge left: {mark[0]}") for mark in OF_MERGES.finditer(text)
-        ]
+        found += [*faults_of_lines(text)]
         found += [(line, fault) for line, link in links_of(text) if (fault := fault_of_link(page, link))]
         if page in NAMING:
             found += faults_of_names(text)

@@ -1,7 +1,7 @@
 #!/usr/bin/python3
 """Builds what users get, for every amd64 processor: crates/labels/out/labels and crates/labels_c/out/liblabels_c.a.
 The library for arm64 is crates/labels_c/out/arm64/liblabels_c.a. All are put into out/ too, where `make` looks for
-what it would build: so `make release` takes them, and proves nothing again.
+what it would build: so `make release` takes them, and proves nothing again. So is liblabels, which many steps take.
 
 It does what `rt run --cpu x86-64 < /dev/null`, `rt lib --target aarch64-unknown-linux-gnu` and `rt lib --cpu x86-64`
 do in these two folders, but after `rt ci` over the libraries that this has proved, which those commands would prove
@@ -72,6 +72,8 @@ def main() -> int:
     print(verdict, end="")
     status = status or build_for_arm64(library) or int(library.build_static(FLAGS))
     fault = f"status {status}" if status else fault_of_page(sources.read(PAGE), verdict) or fault_of_make()
+    if not fault:
+        sources.library()
     print(fault or "the program and both libraries are built")
     return 1 if fault else 0
 

@@ -6,6 +6,7 @@ kit's layout, which `rt ci` demands, what stands side by side begins in one colu
 """
 
 import functools
+import gc
 import itertools
 import json
 import os
@@ -55,8 +56,10 @@ OPENING = {"(", "[", "{"}
 CLOSING = {")", "]", "}"}
 MODIFIERS = {"abbrev", "unfoldable", "pub", "record", "data", "ruleset"}
 KINDS = {"fn", "struct", "enum", "trait", "impl", "mod", "const", "ghost", "use", "type", "static"}
-# The files that were read, by their paths below the repository and their texts.
+# The files that were read, by their paths below the repository and their texts. They stay to the end, and looking
+# among their hundreds of thousands of words for what can be freed would take a third of the time.
 FILES_READ: dict[tuple[str, str], "File"] = {}
+gc.disable()
 One = TypeVar("One", bound=Hashable)
 RELATIONS = {"≡", "≢", "≤", "<", "↔"}
 

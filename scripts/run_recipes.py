@@ -19,9 +19,11 @@ status is 1. In each run this is shown wrong cases first, each of which it has t
 else than the page says, if only in the last letter, one that fails, and other pictures, if only in one pixel.
 """
 
+import compileall
 import contextlib
 import io
 import os
+import py_compile
 import re
 import shutil
 import subprocess
@@ -141,7 +143,7 @@ def prepare(folder: Path, program: Path) -> dict[str, str]:
     """Copies the repository's files and the program, and returns the environment of the commands."""
     work = folder / "labels"
     for part in FOLDERS:
-        shutil.copytree(TOP / part, work / part, ignore=shutil.ignore_patterns("__pycache__"))
+        shutil.copytree(TOP / part, work / part)
     shutil.copy(TOP / "CHANGELOG.md", work)
     for name in ("bin", "home"):
         (folder / name).mkdir()
@@ -242,6 +244,9 @@ def main() -> int:
     commands = {page: [*commands_of(page)] for page in pages.RUN}
     manuals = {f"man/{page.name}": examples_of(page) for page in sorted((TOP / "man").glob("*.1"))}
     commands |= {name: found for name, found in manuals.items() if found or name == "man/labels.1"}
+    # The tools start more than a hundred times, and without byte code each time from their texts.
+    by_sum = py_compile.PycInvalidationMode.CHECKED_HASH
+    compileall.compile_dir(TOP / "tools/labeltools", quiet=1, invalidation_mode=by_sum)
     cases = [*wrong_cases()]
     counts = [judged(name, faults_of(name, found, program)) for name, found in commands.items()]
     count, good = map(sum, zip(*counts))

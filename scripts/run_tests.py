@@ -86,10 +86,20 @@ def tests_in(suite: unittest.TestSuite) -> Iterator[Any]:
 
 
 def parts_of(suite: unittest.TestSuite) -> Iterator[unittest.TestSuite]:
-    """The tests, in parts for one process each: those of one file, and no more than MOST."""
+    """The tests, in parts for one process each: those of one file, no more than MOST, and not half of a class, which
+    would be set up twice, but for one of more."""
     for _, tests in itertools.groupby(tests_in(suite), lambda it: type(it).__module__):
-        while part := [*itertools.islice(tests, MOST)]:
-            yield unittest.TestSuite(part)
+        part: list[Any] = []
+        for _, of_class in itertools.groupby(tests, type):
+            more = [*of_class]
+            if len(part) + len(more) > MOST and part:
+                yield unittest.TestSuite(part)
+                part = []
+            part += more
+            while len(part) > MOST:
+                yield unittest.TestSuite(part[:MOST])
+                part = part[MOST:]
+        yield unittest.TestSuite(part)
 
 
 def judged(suite: unittest.TestSuite, is_quick: bool, stream: TextIO) -> Counts:

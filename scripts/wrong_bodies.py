@@ -11,6 +11,9 @@ changes the code is tried in its function's place. A proof reads of other functi
 tries several functions, and those that are not tried have a hole for a proof (scripts/stand_ins.py). What fails only
 because it calls another is not judged, and is tried again without it.
 
+With --beside a run of `rt ci` is on its way: a crate is tried once that says that those below it are proved, over its
+libraries, which are linked to at once, since at its end it puts back those of an earlier session.
+
 The verdicts of a crate are kept in out/wrong-bodies, and hold as long as nothing changes that decides them: the files
 of the crate and of those below it, its bodies, the kit, these scripts. Verdicts with a fault are not kept.
 
@@ -19,17 +22,18 @@ crate or there is no kit. For each crate a line says how many bodies were refuse
 passed, M failed`, as of `rt ci`.
 """
 
+import argparse
 import concurrent.futures
-import functools
 import hashlib
 import os
 import re
 import shutil
 import sys
 import tempfile
+import time
 from dataclasses import dataclass, field
 from enum import Enum, auto
-from typing import Any, Sequence
+from typing import Any, Iterable, Iterator, Sequence
 
 import edits
 import libraries
@@ -49,6 +53,10 @@ STANDS_ON = re.compile(r"not proved; it stands on (.*?), which antt refuses")
 # An error in an answer, and what it is if the answer names a step of the code that the body does not have.
 ERROR = re.compile(r"^\./proofs/(.*)\.antt:[\d:]+ error: `(.*?)`: (.*)$", re.M)
 GONE = "has no field `"
+# The memory that a check of bodies takes, and a proof of a crate.
+OF_A_CHECK, OF_A_PROOF = 1_600_000_000, 1_100_000_000
+# What `rt ci` says of a crate that is proved, or that an earlier run proved.
+BUILT = re.compile(r"^rt: (\w+) (?:proved$|is kept: )", re.M)
 # What the prover says of a function where some goals wait for what it calls.
 NOT_TRIED = "`search` has not tried the goals of `{}::{}`,"
 LAST = re.compile(r"^(only|logic)=", re.M)
@@ -224,18 +232,61 @@ def counts_of(names: Sequence[str]) -> dict[str, int]:
     return {it: len(bodies[it]) for it in sorted(with_wrong, key=lambda it: -len(bodies[it]))}
 
 
-def crates_asked() -> tuple[list[str], bool]:
-    """Returns the crates that the arguments name, and whether libraries are taken as they are."""
+def arguments() -> argparse.Namespace:
+    """Returns the arguments: crates, and how their libraries are taken."""
     parser, known = sources.parser_of(__doc__), sources.crates_of(sources.TOP)
     crates = "a crate of crates.txt (all that have wrong bodies)"
     parser.add_argument("crates", nargs="*", metavar="CRATE", help=crates)
     built = "take the libraries below as `rt ci` left them; else build those that changed"
     parser.add_argument("--built", action="store_true", help=built)
+    beside = "take each library once `rt ci`, which writes this file, has built it"
+    parser.add_argument("--beside", metavar="FILE", help=beside)
     given = parser.parse_args()
     unknown = [name for name in given.crates if name not in known]
     if unknown:
         parser.error(f"no crate {unknown[0]} in crates.txt, which has: {' '.join(known)}")
-    return given.crates, given.built
+    return given
+
+
+def linked(file: str, to: str) -> None:
+    """Links to a file, or copies it where that is on another disk."""
+    try:
+        os.link(file, to)
+    except OSError:
+        shutil.copy2(file, to)
+
+
+def each_once_built(crates: Sequence[Any], path: str, room: str) -> Iterator[Any]:
+    """Yields each crate once those below it are proved by the `rt ci` that writes this file, and links their libraries
+    into a folder."""
+    waiting, there = [*crates], set[str]()
+    below = {dep.name: dep for crate in crates for dep in crate.below()}
+    while waiting:
+        for name in sorted({*BUILT.findall(sources.read(path))} & below.keys() - there):
+            library = f"{room}/{name}.rlib"
+            shutil.copytree(below[name].rlib, library, copy_function=linked)
+            below[name].rlib = library
+            there.add(name)
+        ready = [crate for crate in waiting if {dep.name for dep in crate.below()} <= there]
+        waiting = [crate for crate in waiting if crate not in ready]
+        yield from ready
+        if waiting:
+            time.sleep(0.2)
+
+
+def at_once(is_beside: bool) -> int:
+    """Returns how many crates are tried at a time: as many as there are processors, if the memory has room for them,
+    and for as many proofs where these are on their way."""
+    (kilobytes,) = re.findall(r"^MemAvailable: *(\d+)", sources.read("/proc/meminfo"), re.M)
+    processors = len(os.sched_getaffinity(0))
+    room = int(kilobytes) * 1000 - is_beside * processors * OF_A_PROOF
+    return max(1, min(processors, room // OF_A_CHECK))
+
+
+def try_each(rtlib: Any, crates: Iterable[Any], is_beside: bool = False) -> list[Tried]:
+    """Tries crates as they come, some at a time."""
+    with concurrent.futures.ThreadPoolExecutor(at_once(is_beside)) as pool:
+        return [it.result() for it in [pool.submit(tried_once, rtlib, crate) for crate in crates]]
 
 
 def judged(results: Sequence[Tried]) -> int:
@@ -247,9 +298,9 @@ def judged(results: Sequence[Tried]) -> int:
 
 def main() -> int:
     """Tries the bodies of the crates that are asked for, and returns the status."""
-    names, as_left = crates_asked()
-    counts = counts_of(names or sources.crates_of(sources.TOP))
-    without = [name for name in names if name not in counts]
+    given = arguments()
+    counts = counts_of(given.crates or sources.crates_of(sources.TOP))
+    without = [name for name in given.crates if name not in counts]
     if without or not counts:
         print(f"no wrong bodies in {', '.join(without) or 'any crate'}: nothing was tried")
         print("0 passed, 1 failed")
@@ -258,12 +309,12 @@ def main() -> int:
     rtlib.guarded()  # once, before the threads call it
     of_kit = {it.name: it for it in rtlib.crates_below(sources.TOP)}
     crates = [of_kit[name] for name in counts]
+    if given.beside:
+        os.nice(5)  # `rt ci` waits for nothing
+        with tempfile.TemporaryDirectory(prefix="wrong-bodies-libraries-") as room:
+            return judged(try_each(rtlib, each_once_built(crates, given.beside, room), is_beside=True))
     below = dict.fromkeys(dep for crate in crates for dep in crate.below())
-    if libraries.build([*below], as_left):
-        return 1
-    with concurrent.futures.ThreadPoolExecutor(len(os.sched_getaffinity(0))) as pool:
-        results = [*pool.map(functools.partial(tried_once, rtlib), crates)]
-    return judged(results)
+    return 1 if libraries.build([*below], given.built) else judged(try_each(rtlib, crates))
 
 
 if __name__ == "__main__":

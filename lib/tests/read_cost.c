@@ -46,10 +46,12 @@ static int in_picture(const char *name, uint32_t x, uint32_t y) {
                                           : 0;
 }
 
-static void draw(int symbology, const char *data, uint32_t scale) {
+static void draw(int symbology, const char *data, uint32_t scale, uint32_t level, uint32_t mask) {
     labels_options options = LABELS_DEFAULTS;
     labels_dots dots;
     options.scale = scale;
+    options.level = level;
+    options.mask = mask;
     if (labels_bitmap(&options, symbology, data, strlen(data), bits, STRIDE, sizeof bits, &dots, NULL) != LABELS_OK)
         exit(2);
     width = dots.width;
@@ -81,6 +83,31 @@ static void put_finder(uint32_t scale) {
         }
 }
 
+/* Whether version 1 fixes a module near its upper left corner, or in one of its timing patterns. */
+static int is_fixed(uint32_t x, uint32_t y) {
+    return (x < 9 && y < 9) || (x == 6 && 8 < y && y < 12) || (y == 6 && 8 < x && x < 12);
+}
+
+/* Gives a QR symbol of version 1, level L and mask 0 the corner of its upper left in each corner, and a timing pattern on
+ * each side: the format information of that level and mask fits all of this, so every module that is fixed in one
+ * direction is right in each. Only the codewords are wrong. */
+static void put_corners(uint32_t scale) {
+    memcpy(turned, bits, sizeof bits);
+    for (uint32_t y = 0; y < 21 * scale; y++)
+        for (uint32_t x = 0; x < 21 * scale; x++) {
+            uint32_t column = x / scale, row = y / scale;
+            for (int turns = 0; turns < 4 && !is_fixed(column, row); turns++) {
+                uint32_t old = column;
+                column = row;
+                row = 20 - old;
+            }
+            uint32_t place = 4 * scale + x, line = 4 * scale + y;
+            bits[line * STRIDE + place / 8] &= (unsigned char)~(0x80 >> place % 8);
+            if (is_dark(turned, (4 + column) * scale, (4 + row) * scale))
+                put_dark(bits, place, line);
+        }
+}
+
 int main(int count, char **words) {
     if (count < 3)
         return 2;
@@ -88,11 +115,13 @@ int main(int count, char **words) {
     const uint32_t side = (uint32_t)atoi(words[2]);
     width = height = side;
     if (strncmp(name, "ean8-", 5) == 0)
-        draw(LABELS_EAN8, "7351353", side);
+        draw(LABELS_EAN8, "7351353", side, LABELS_LEVEL_M, LABELS_MASK_AUTO);
+    else if (strcmp(name, "qr-corners") == 0)
+        draw(LABELS_QR, "HELLO", side, LABELS_LEVEL_L, 0);
     else if (strncmp(name, "qr-", 3) == 0)
-        draw(LABELS_QR, "HELLO", side);
+        draw(LABELS_QR, "HELLO", side, LABELS_LEVEL_M, LABELS_MASK_AUTO);
     else if (strncmp(name, "large-", 6) == 0)
-        draw(LABELS_QR, LARGE, side);
+        draw(LABELS_QR, LARGE, side, LABELS_LEVEL_M, LABELS_MASK_AUTO);
     else
         for (uint32_t y = 0; y < height; y++)
             for (uint32_t x = 0; x < width; x++)
@@ -100,6 +129,8 @@ int main(int count, char **words) {
                     put_dark(bits, x, y);
     if (strcmp(name, "qr-finders") == 0)
         put_finder(side);
+    if (strcmp(name, "qr-corners") == 0)
+        put_corners(side);
     for (int turns = atoi(name + strcspn(name, "123")); turns > 0; turns--)
         turn();
     labels_dots dots = {width, height, {0}};

@@ -9,13 +9,17 @@ from support import LIB, PROVED, WithLibrary, run, text_of
 
 FLAGS = ("-std=c11", "-O2", "-g", "-Wall", "-Wextra", "-Werror", f"-I{LIB}", f"-I{LIB}/tests")
 PICTURES = "blank row column dot last corner dark rows columns squares noise below".split()
-# Of the smallest QR version and of the largest, in each direction; and one with four finder patterns.
-SYMBOLS = [*(f"{symbol}-{turns}" for symbol in ("ean8", "qr", "large") for turns in range(4)), "qr-finders"]
+# Of the smallest QR version and of the largest, in each direction.
+SYMBOLS = [f"{symbol}-{turns}" for symbol in ("ean8", "qr", "large") for turns in range(4)]
+# A QR symbol with a finder pattern more, and one whose fixed modules are right in all four directions.
+WRONG = ("qr-finders", "qr-corners")
 # The number of divisors of a side is that of the scales that it has room for.
 MANY_DIVISORS, PRIME = 360, 359
 MOST_FOR_A_DOT = 75
 # In a QR symbol whose modules are single dots each of them is a bit that is read.
 MOST_FOR_A_MODULE = 120
+# Of `qr-corners` at scale 1, which is read up to its codewords in each direction: no picture that we found costs more.
+MOST_FOR_CORNERS = 210
 NOT_READ = 17
 
 
@@ -43,11 +47,12 @@ class Cost(WithLibrary):
                 self.assertLess(cost, MOST_FOR_A_DOT)
 
     def test_symbols_in_each_direction(self) -> None:
-        for scale, most in ((1, MOST_FOR_A_MODULE), (2, MOST_FOR_A_DOT), (8, MOST_FOR_A_DOT)):
-            for picture in SYMBOLS:
+        for scale, most_of_others in ((1, MOST_FOR_A_MODULE), (2, MOST_FOR_A_DOT), (8, MOST_FOR_A_DOT)):
+            for picture in (*SYMBOLS, *WRONG):
+                most = MOST_FOR_CORNERS if (picture, scale) == ("qr-corners", 1) else most_of_others
                 with self.subTest(picture, scale=scale):
                     code, cost = self.counted(picture, scale)
-                    self.assertEqual(code, NOT_READ if picture == "qr-finders" else 0)
+                    self.assertEqual(code, NOT_READ if picture in WRONG else 0)
                     self.assertLess(cost, most)
 
     def test_divisors_of_the_side_cost_nothing(self) -> None:

@@ -58,10 +58,7 @@ LAWS = {
 
 # Of these the prover does not find by itself what is left without them (docs/PROOF-REFERENCE.md): `refutes:` names
 # them in a body.
-BESIDE = {
-    *("Shows.images", "RunsOver.runs", "RunsOver.whole", *(f"Ends.{case}" for case in range(1, 10))),
-    *("PutsWhole.message", "PutsModules.message", "PutsBitmap.message"),
-}
+BESIDE = {"Shows.images", "RunsOver.runs", "RunsOver.whole", *(f"Ends.{case}" for case in range(1, 10))}
 
 
 def fields_of(name: str, text: str) -> list[str]:
@@ -134,18 +131,18 @@ class Fields(unittest.TestCase):
 
     def test_one_without_is_seen(self) -> None:
         """Each, once its lines are gone; a field and a clause more; and a name of nothing."""
-        given = bodies()
-        for name in {*promised()} - {*LAWS}:
+        given, all_promised = bodies(), promised()
+        for name in {*all_promised} - {*LAWS}:
             gone = {
                 path: re.sub(rf"(?<=[ ]){re.escape(name)}(?= |$)", "", text, flags=re.M)
                 for path, text in given.items()
             }
-            self.assertEqual(without_a_body(promised(), gone), {name})
+            self.assertEqual(without_a_body(all_promised, gone), {name})
         record = read(path_of(RECORDS["Runs"])) + "\n  pub later : OnOk r (out.is_flushed o' ≡ true)\n"
         self.assertIn("Runs.later", fields_of("Runs", record.replace("\n\n  pub later", "\n  pub later")))
         function = read(path_of(FUNCTIONS["program"])).replace("ensures shows {", "ensures later {")
         self.assertIn("program.later", clauses_of("program", function))
-        self.assertIn("Runs.none", without_a_body(promised(), {**given, "": "refutes: Runs.none"}))
+        self.assertIn("Runs.none", without_a_body(all_promised, {**given, "": "refutes: Runs.none"}))
 
 
 if __name__ == "__main__":

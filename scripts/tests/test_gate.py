@@ -15,7 +15,7 @@ import sys
 import tempfile
 import time
 import unittest
-from typing import Any
+from typing import Any, Iterable, Mapping
 from unittest import mock
 
 from support import PYTHON, SCRIPTS, TOP, InCopy, InFolder, in_copy, module, read, run_command, write
@@ -44,21 +44,15 @@ class Three(unittest.TestCase):
         pass
 """
 DIFFER = "crates.txt and the folders crates/*/src differ in: "
-OF_PICTURE = ("crates/picture", "crates/pictures", f"{DIFFER}picture pictures")
-# What is moved away for each step, and what that step says.
-MOVED = {
-    "lints.py": (
-        ("debian/tests/shells", "away", "debian/tests has other files"),
-        ("man", "m", "there is no folder man"),
-    ),
-    "pages.py": (
-        OF_PICTURE,
-        ("crates", "boxes", DIFFER),
-        *((page, "away", f"there is no {page}") for page in ("README.md", "docs/PROOF.md", "crates/device/README.md")),
-    ),
-    "unused.py": (OF_PICTURE, ("crates", "boxes", DIFFER)),
+OF_PICTURE = {"crates/picture": f"{DIFFER}picture picture-away"}
+OF_PAGES = {page: f"there is no {page}" for page in ("README.md", "docs/PROOF.md", "crates/device/README.md")}
+# What is moved away together for each step, and what that step says of each.
+MOVED: dict[str, tuple[dict[str, str], ...]] = {
+    "lints.py": ({"debian/tests/shells": "debian/tests has other files"}, {"man": "there is no folder man"}),
+    "pages.py": (OF_PICTURE, {"crates": DIFFER}, OF_PAGES),
+    "unused.py": (OF_PICTURE, {"crates": DIFFER}),
     "believed.py --check": (OF_PICTURE,),
-    "run_tests.py scripts/tests": (("scripts/tests", "scripts/t", "there is no folder scripts/tests"),),
+    "run_tests.py scripts/tests": ({"scripts/tests": "there is no folder scripts/tests"},),
 }
 NOQA = f"# {'noqa'}"
 REFERENCE = "docs/PROOF-REFERENCE.md"
@@ -81,6 +75,7 @@ CHANGED = {
         ("docs/PRINTING.md", END, f"\n```sh\nlabels\n{END}", "this block is not closed"),
         ("docs/WINDOW.md", END, f"\n```sh\nlabels\n```\n{END}", "nothing runs the commands of this page"),
         ("docs/TICKETS.md", END, f"\n{'<' * 7} HEAD\n{END}", "a merge left: <<<<<<< HEAD"),
+        ("docs/SCANNING.md", END, f"\n| {'a' * 500} |\n{END}", "504 bytes in a line, and at most 500 are wanted"),
         ("docs/INPUT.md", "](PRINTING.md", "](PRINTIN.md", "a link to no file: PRINTIN.md"),
         ("designs/README.md", "](jar-38x21.svg", "](jar.svg", "a link to no file: jar.svg"),
         ("docs/INPUT.md", END, f"\n~~~rust\nfn a() {{}}\n~~~\n{END}", "no script reads blocks of ~~~"),
@@ -104,10 +99,6 @@ CHANGED = {
 class TakenAway(InCopy):
     """Each test takes something away, and a step that runs before the proofs fails for it."""
 
-    def assert_step_fails(self, step: str, said: str) -> None:
-        status, text = self.judged(*step.split())
-        self.assertEqual((status, said in text), (1, True), text)
-
     def judged(self, name: str, *arguments: str) -> tuple[int, str]:
         """What a step says of the copy; no program runs for a lint."""
         with mock.patch.object(module("lints"), "all_lints", return_value=()):
@@ -115,10 +106,12 @@ class TakenAway(InCopy):
 
     def test_what_is_moved_away(self) -> None:
         for step, rows in MOVED.items():
-            for old, new, said in rows:
-                with self.subTest(step=step, old=old, new=new):
-                    self.move(old, new)
-                    self.assert_step_fails(step, said)
+            for row in rows:
+                with self.subTest(step=step, moved=[*row]):
+                    for name in row:
+                        self.move(name, f"{name}-away")
+                    status, said = self.judged(*step.split())
+                    self.assertEqual((status, [one for one in row.values() if one not in said]), (1, []), said)
                 self.doCleanups()
 
     def test_what_is_written_otherwise(self) -> None:
@@ -193,6 +186,25 @@ class TakenAway(InCopy):
         ):
             self.assertIn(wanted, said)
         self.assertEqual(status, 1)
+
+
+class Parts(unittest.TestCase):
+    """The tests that one process runs."""
+
+    def test_no_class_is_halved(self) -> None:
+        """But for one of more tests than a process runs; what comes behind it can be with its rest."""
+        run_tests = module("run_tests")
+        most = run_tests.MOST
+        counts = {"One": most // 2, "Two": most // 2, "Three": 1, "Four": most, "Five": 2 * most + 1, "Six": 1}
+        suite = unittest.TestSuite()
+        for name, count in counts.items():
+            tests = {f"test_{number}": lambda _: None for number in range(count)}
+            suite.addTest(unittest.defaultTestLoader.loadTestsFromTestCase(type(name, (unittest.TestCase,), tests)))
+        parts = [[*run_tests.tests_in(part)] for part in run_tests.parts_of(suite)]
+        found = [[*dict.fromkeys(type(test).__name__ for test in part)] for part in parts]
+        self.assertEqual(found, [["One", "Two"], ["Three"], ["Four"], ["Five"], ["Five"], ["Five", "Six"]])
+        self.assertEqual(sum(map(len, parts)), sum(counts.values()))
+        self.assertEqual(max(map(len, parts)), most)
 
 
 # Makefiles, which no lint reads.
@@ -281,8 +293,6 @@ def is_alive(process: str) -> bool:
         return False
 
 
-# A step that says this, and ends so.
-STEP = "import sys\nprint({said!r})\nsys.exit({status})\n"
 # What steps end with, the lines that are kept, and what the gate then says of them: all passed, or which failed.
 RUNS: tuple[tuple[dict[str, int | str], dict[str, str], int, str], ...] = (
     ({}, {}, 0, "{all} passed, 0 failed"),
@@ -294,7 +304,7 @@ RUNS: tuple[tuple[dict[str, int | str], dict[str, str], int, str], ...] = (
     ({"rt": 3}, {}, 3, "7 passed, 1 failed"),
     ({"rt": "fewer proofs (1 minute)"}, {}, 1, "kept is: rt is right\nFAILED: rt ci, "),
     ({"wrong_bodies.py": 1}, {}, 1, "{but_one} passed, 1 failed"),  # what comes after it runs all the same
-    ({"plain_builds.py": 1}, {}, 1, "9 passed, 1 failed"),
+    ({"plain_builds.py": 1}, {}, 1, "8 passed, 1 failed"),
     ({"instructions.py": 1}, {}, 1, "{but_one} passed, 1 failed"),
 )
 INSTALL = "apt-get install -y --no-install-recommends zint"
@@ -322,6 +332,24 @@ STARTS: tuple[tuple[str, dict[str, str], dict[str, str], int, str], ...] = (
 class Gate(InFolder):
     """gate.py over stand-ins of its steps, and `.ci/run` over stand-ins of what it calls."""
 
+    def step(self, name: str, text: str) -> None:
+        """Writes the stand-in of a step."""
+        path = self.path("bin/rt") if name == "rt" else self.path("scripts", name)
+        write(path, f"#!/bin/sh\n{text}", is_program=name == "rt")
+
+    def judged(self, steps: Iterable[str], kept: Mapping[str, str], processors: int = 2) -> tuple[int, str]:
+        """What the gate says of stand-ins on so many processors, where these lines are kept."""
+        write(self.path("scripts/counts.txt"), "".join(f"{it}: {kept[it]}\n" for it in kept if kept[it]))
+        for name, old, new in (
+            ("gate.py", "PROCESSORS = len(os.sched_getaffinity(0))", f"PROCESSORS = {processors}"),
+            ("sources.py", f'PYTHON = "{PYTHON}"', 'PYTHON = "/bin/sh"'),  # it starts sooner
+        ):
+            text = read(os.path.join(SCRIPTS, name))
+            self.assertIn(old, text)
+            write(self.path("scripts", name), text.replace(old, new))
+        path = f"{self.path('bin')}:{os.environ['PATH']}"
+        return run_command([PYTHON, self.path("scripts/gate.py"), *steps], PATH=path)
+
     def test_steps(self) -> None:
         gate = module("gate")
         names = {"rt" if step == "rt ci" else step.split()[0] for step in gate.ALL}
@@ -330,17 +358,40 @@ class Gate(InFolder):
             for name in names:
                 ends = changed.get(name, f"{name} is right (in 2 seconds)" if name == "rt" else f"{name} is right")
                 code, line = (ends, "x") if isinstance(ends, int) else (0, ends)
-                text = STEP.format(said=f"one\n{line}", status=code)
-                path = self.path("bin/rt") if name == "rt" else self.path("scripts", name)
-                write(path, "#!/usr/bin/python3\n" * (name == "rt") + text, is_program=name == "rt")
+                self.step(name, f"echo 'one\n{line}'\nexit {code}\n")
             kept = {step: f"{'rt' if step == 'rt ci' else step.split()[0]} is right" for step in gate.ALL} | lines
-            write(self.path("scripts/counts.txt"), "".join(f"{it}: {kept[it]}\n" for it in kept if kept[it]))
-            for name in ("gate.py", "sources.py"):
-                shutil.copy(os.path.join(SCRIPTS, name), self.path("scripts", name))
-            path = f"{self.path('bin')}:{os.environ['PATH']}"
             with self.subTest(changed=changed, lines=lines):
-                found = run_command([PYTHON, self.path("scripts/gate.py"), "all"], PATH=path)
+                found = self.judged(["all"], kept)
                 self.assertEqual((found[0], said.format(**how) in found[1]), (status, True), found[1])
+
+    def test_wrong_bodies_beside_the_proofs(self) -> None:
+        """They begin while these are on their way, with the file of what these say, and end where these fail."""
+        steps = module("gate").PROOFS, module("gate").WRONG
+        waits = "echo proofs\nwhile [ ! -e begun ]; do sleep 0.01; done\n"
+        for status, more in ((0, ""), (3, "sleep 999\n")):
+            self.step("rt", f"{waits}rm begun\nexit {status}\n")
+            self.step("wrong_bodies.py", f'cat "$3"\necho $1 $2\ntouch begun\n{more}')
+            with self.subTest(status):
+                found = self.judged(steps, dict(zip(steps, ("proofs", "--built --beside"))))
+                passed = 2 if status == 0 else 0
+                self.assertEqual(found[0], status, found[1])
+                self.assertIn(f"{passed} passed, {2 - passed - status // 3} failed\n", found[1])
+                self.assertEqual(read(self.path("out/steps/wrong-bodies-py-built.txt")), "proofs\n--built --beside\n")
+
+    def test_steps_that_run_together(self) -> None:
+        """As many as there are processors: the third begins once the second has ended, though the first waits for
+        it. They are judged in their order."""
+        first, second, third = steps = "compare_symbols.py", "scan_damaged.py", "read_foreign.py"
+        for processors, waits in ((2, "while [ ! -e third ]; do sleep 0.01; done"), (1, "[ ! -e second ]")):
+            self.step(first, f"{waits}\necho one\n")
+            self.step(second, "touch second\necho two\n")
+            self.step(third, "touch third\necho three\n")
+            with self.subTest(processors):
+                kept = dict(zip(steps, ("one", "two", "three")))
+                status, said = self.judged(steps, kept, processors)
+                self.assertEqual((status, re.findall(r"^ok: (\S+),", said, re.M)), (0, [*steps]), said)
+            for name in ("second", "third"):
+                os.remove(self.path(name))
 
     def test_a_step_that_hangs(self) -> None:
         """It is ended, with what it started."""
@@ -348,8 +399,9 @@ class Gate(InFolder):
         text = "import os, time\nprint('begun', os.fork(), flush=True)\ntime.sleep(99)\n"
         write(self.path("scripts/hangs.py"), text)
         with mock.patch.object(gate, "LONGEST", 9.0), mock.patch.object(gate.sources, "TOP", self.folder):
-            status, said = gate.run("hangs.py")
+            status, said, taken = gate.run("hangs.py")
         self.assertEqual((status, said.split("\n")[-2]), (-9, "it took longer than 9 seconds, and was ended"))
+        self.assertGreaterEqual(taken, 9)
         (started,) = {*re.findall(r"begun (\d+)", said)} - {"0"}
         end = time.monotonic() + 30
         while is_alive(started) and time.monotonic() < end:
@@ -362,7 +414,8 @@ class Gate(InFolder):
         for name in ("gate.py", "sources.py"):
             shutil.copy(os.path.join(SCRIPTS, name), self.path("scripts", name))
         with subprocess.Popen([PYTHON, self.path("scripts/gate.py"), "lints.py"], stdout=subprocess.PIPE) as gate:
-            while not os.path.exists(self.path("out/step.txt")) or not read(self.path("out/step.txt")):
+            said = self.path("out/steps/lints-py.txt")
+            while not os.path.exists(said) or not read(said):
                 time.sleep(0.01)
             children = read(f"/proc/{gate.pid}/task/{gate.pid}/children").split()
             gate.terminate()

@@ -7,6 +7,7 @@ built program: where a script calls one, a stand-in of a few lines is put on the
 import contextlib
 import io
 import os
+import shutil
 import sys
 import tempfile
 import types
@@ -41,7 +42,7 @@ class Arguments(InFolder):
 
     def test_no_such_program(self) -> None:
         for name in ("compare_symbols.py", "run_recipes.py", "refuse_each_growth.py"):
-            self.assertEqual(run(name, "/no/such/program")[0], 2, name)
+            self.assertEqual(in_copy(TOP, name, "/no/such/program")[0], 2, name)
 
 
 class WrongBodies(InFolder):
@@ -289,6 +290,31 @@ class Outcomes(InFolder):
                     wrong_bodies.tried_once(None, crate)
             self.assertTrue(check.called)
 
+    def test_beside_the_proofs(self) -> None:
+        """A crate is tried once `rt ci` says that those below it are proved, over links to their libraries."""
+        path, room = self.path("said.txt"), self.path("room")
+        others = "rt: low NOT PROVED\nrt: lower proved\nrt: low proved by none\n"
+        for last in ("rt: low proved\n", "rt: low is kept: an earlier run proved it\n"):
+            low = types.SimpleNamespace(name="low", rlib=self.path("low.rlib"), below=list)
+            high = types.SimpleNamespace(name="high", below=lambda: [low])
+            texts = iter([others, others + last])
+            write(path, "")
+            write(self.path("low.rlib/format"), "")
+            with self.subTest(last), mock.patch.object(wrong_bodies.time, "sleep") as slept:
+                slept.side_effect = lambda _: write(path, next(texts))
+                self.assertEqual([*wrong_bodies.each_once_built([high, low], path, room)], [low, high])
+                self.assertEqual((low.rlib, [*texts]), (f"{room}/low.rlib", []))
+                self.assertTrue(os.path.samefile(f"{room}/low.rlib/format", self.path("low.rlib/format")))
+            shutil.rmtree(room)
+
+    def test_as_many_at_a_time_as_the_memory_takes(self) -> None:
+        processors = mock.patch("os.sched_getaffinity", lambda _: {1, 2, 3, 4})
+        for megabytes, counts in ((500, (1, 1)), (5_000, (3, 1)), (8_000, (4, 2)), (16_000, (4, 4))):
+            text = f"MemFree: 1 kB\nMemAvailable: {megabytes:9}000 kB\n"
+            with mock.patch.object(wrong_bodies.sources, "read", {"/proc/meminfo": text}.get), processors:
+                self.assertEqual((wrong_bodies.at_once(False), wrong_bodies.at_once(True)), counts, megabytes)
+        self.assertGreaterEqual(wrong_bodies.at_once(True), 1)
+
     def test_calls_of_a_function_by_itself(self) -> None:
         for number, (head, is_method, wanted) in enumerate(
             (
@@ -520,6 +546,8 @@ WRONG_PROGRAMS = (
     ("shells", {"fish": "echo zpl"}),
     ("shells", {"zsh": "false"}),
 )
+# In the place of Python, which writes the table: what stands in for the tools reads none.
+NO_TABLE = {"python3": "true"}
 PAGES = ("README.md", "docs/INPUT.md", "docs/pictures/sheet.png")
 
 
@@ -527,6 +555,7 @@ class PackageTests(InFolder):
     """The tests of the packages fail for a program that is wrong: they run in a fresh Debian, by hand."""
 
     def passes(self, name: str, pages: str, **programs: str) -> bool:
+        """Whether a test of the packages passes with these programs in the place of right ones."""
         folder = tempfile.mkdtemp(dir=self.folder)
         for program, text in {**RIGHT_PROGRAMS, **programs}.items():
             write(os.path.join(folder, "bin", program), f"#!/bin/sh\n{text}\n", is_program=True)
@@ -538,11 +567,12 @@ class PackageTests(InFolder):
         self.assertEqual(names, {*os.listdir(f"{TOP}/debian/tests")} - {"control", "library"})
         for name in names:
             self.assertTrue(self.passes(name, TOP), name)
+            self.assertTrue(self.passes(name, TOP, **NO_TABLE), name)
 
     def test_wrong_programs_fail(self) -> None:
         for name, programs in WRONG_PROGRAMS:
             with self.subTest(name, programs=programs):
-                self.assertFalse(self.passes(name, TOP, **programs))
+                self.assertFalse(self.passes(name, TOP, **NO_TABLE, **programs))
         for gone in PAGES:
             for page in PAGES:
                 write(self.path(gone, page), "")

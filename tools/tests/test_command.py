@@ -34,7 +34,7 @@ main_of("small-tool", function)
         return done.returncode, done.stdout, done.stderr.decode()
 
     def test_how_it_ends(self) -> None:
-        missing = "small-tool: nothing.txt: No such file or directory\n"
+        missing = "small-tool: nothing.txt: No such file or directory; is its name right?\n"
         for body, ended in (
             ("print('fine')", (0, b"fine\n", "")),
             ("return 1", (1, b"", "")),

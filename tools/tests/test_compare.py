@@ -237,7 +237,7 @@ def first_letters(whole: list[str]) -> int:
 def wrong_count(whole: list[str], size: int) -> None:
     """Makes a count of a row above all codes one more; the row keeps its length."""
     number = first_letters(whole)
-    row = decode.rows_of_field((whole[number].encode(), size)).hex().upper()
+    row = decode.rows_of_field(whole[number].encode(), size).hex().upper()
     whole[number] = "0" + row[:-1]
 
 
@@ -654,13 +654,13 @@ class Read(unittest.TestCase):
         """Counts as the ZPL II manual has them: G is 1, M is 7, Y is 19, g is 20, z is 400; those that
         are written before F are before no 0.
         """
-        row = decode.rows_of_field((b"1G0Y0M0FF", 15))
+        row = decode.rows_of_field(b"1G0Y0M0FF", 15)
         self.assertEqual(row.hex().upper(), "1" + "0" * 27 + "FF")
-        row = decode.rows_of_field((b"WFg0KFz0OF1", 226))
+        row = decode.rows_of_field(b"WFg0KFz0OF1", 226)
         self.assertEqual(
             row.hex().upper(), "F" * 17 + "0" * 20 + "F" * 5 + "0" * 400 + "F" * 9 + "1"
         )
-        rows = decode.rows_of_field((b"F0L0:12345678N012J0451234567G0", 4))
+        rows = decode.rows_of_field(b"F0L0:12345678N012J0451234567G0", 4)
         wanted = "F0000000 F0000000 12345678 00000000 12000045 12345670"
         self.assertEqual(rows.hex(" ", 4).upper(), wanted)
         # runs that go on in the next row

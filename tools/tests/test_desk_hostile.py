@@ -465,7 +465,9 @@ class Streams(Desk):
         Path(self.folder, "lines").write_bytes(lines)
         for name, path in (("standard input", "-"), ("lines", f"{self.folder}/lines")):
             done = printed("--stream", path, input=lines)
-            self.said(done, 1, f"\nrefused 5 (.*/)?{name}: line 2: not understood: .title.\n")
+            self.said(
+                done, 1, f"\nrefused 5 (.*/)?{name}: line 2: not understood: .title.; make it"
+            )
 
     def test_the_places_in_a_journal_are_those_of_the_lines(self) -> None:
         lines = b'qr A\n\n#{"row":7}\nqr B\n#{"title":"C"}\n# remark\nqr C\n'

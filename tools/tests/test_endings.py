@@ -145,7 +145,8 @@ class FileBetween(unittest.TestCase):
         done = support.printed(*ROLL, "zpl", "nothing.lines")
         self.assertEqual((done.returncode, done.stdout), (1, b""))
         self.assertEqual(
-            support.messages(done), ["label-print: nothing.lines: No such file or directory"]
+            support.messages(done),
+            ["label-print: nothing.lines: No such file or directory; is its name right?"],
         )
 
 

@@ -15,7 +15,6 @@ from labeltools.layout.fitting import Fitted, Fitter, LEFT, Placed, Style
 from labeltools.layout.glyphs import LINE_END
 from labeltools.layout.layout import LaidOut
 from labeltools.layout.letters import FONT, Letters
-from labeltools.layout.medium import font_options, Medium
 from labeltools.layout.pango import UNIT
 from laying import documents_of
 
@@ -66,7 +65,7 @@ class Glyphs(unittest.TestCase):
     def compare(self, is_dots: bool, texts: Sequence[tuple[str, Style, int]]) -> int:
         """Compares texts that are drawn as glyphs, and returns how many these are."""
         known = 0
-        by = Fitter(Letters(FONT), font_options(Medium(300, is_dots)), is_dots)
+        by = Fitter(Letters(FONT), is_dots)
         for text, style, width in texts:
             found = by.by_glyphs(text, style, width, 10 * style.size)
             if found is None:
@@ -101,7 +100,7 @@ class Glyphs(unittest.TestCase):
         self.assertGreater(self.compare(True, texts), 100)
 
     def test_letters_that_are_one_glyph_are_left_to_pango(self) -> None:
-        by = Fitter(Letters(FONT), font_options(Medium(300, False)), False)
+        by = Fitter(Letters(FONT), False)
         style = Style(FONT, True, 120, 1, LEFT, 0.0, 0)
         for text in ("Profi", "Stoff", "Pfiff", "قلم", "鉛筆", "é̄", "a\u00adb"):
             self.assertIsNone(by.by_glyphs(text, style, 9000, 900), text)

@@ -34,37 +34,36 @@ TABLE = "EAN;Name;Preis\n4006381333932;Stift;0,80\n96385074;Gummi;1E3\n400638133
 NO_WORDS = (
     r"\"[^\"]*\"|[a-z -]+ \(U\+\w+\)|--[a-z-]+(?: (?:'.*?'|[a-z0-9]+))?(?:[ (A-Z)]+ OR [a-z]\w+)*"
 )
-# the texts that name options in words
-IN_WORDS = """--after {}: the first label is {}
---again needs --journal and rows or codes
---again: the journal has these printers: {}
---dpi {}: the maximum is {}
---each
---each: the folder {} is not empty
---each: two labels would be the file {}
---encoding {} is unknown
---fill-zeros, --without-check-digit and --symbology code128 or qr do not go together
---list-stock takes one WORD: put quotes around several
---only names {}, which the input does not have
---only-code names {}, which the input does not have
---price-as needs --price, --unit-price or --old-price
---price-text and --price-as do not go together
---print: printers do not take {}
---stream prints each line
---to {} needs --dpi
---variants-of needs --title
---{} may be {}
-CUPS prints an interrupted run again from its beginning; give --print tcp://HOST or /dev/usb/lp0
-a grid needs --columns, --rows and --cell
-give --to pdf, zpl or escpos
-give --to zpl or escpos
-give a file that label-print --journal has made, or a new name
-leave out --only and --after
-name what to print again with --only or --only-code
-only for --to escpos
-only for a grid of --cell
-the following arguments are required: --code
-{} and --each do not go together
+# the texts that name options in words; in front of each is an option without which it is not said, none of which
+# a window gives, or `-` where a window says something else
+IN_WORDS = """after: --after {}: the first label is {}
+again: --again needs --journal and rows or codes
+again: --again: the journal has these printers: {}
+each: --each
+each: --each: the folder {} is not empty
+each: --each: two labels would be the file {}
+-: --encoding {} is unknown
+-: --fill-zeros, --without-check-digit and --symbology code128 or qr do not go together
+list-stock: --list-stock takes one WORD: put quotes around several
+only: --only names {}, which the input does not have
+only-code: --only-code names {}, which the input does not have
+-: --price-as needs --price, --unit-price or --old-price
+-: --price-text and --price-as do not go together
+print: --print: printers do not take {}
+stream: --stream prints each line
+variants-of: --variants-of needs --title
+no code: --{} may be {}
+print: CUPS prints an interrupted run again from its beginning; give --print tcp://HOST or /dev/usb/lp0
+cell: a grid needs --columns, --rows and --cell
+print: give --to pdf, zpl or escpos
+print, journal, stream: give --to zpl or escpos
+journal: give a file that label-print --journal has made, or a new name
+stream: leave out --only and --after
+again: name what to print again with --only or --only-code
+no-cut, dots: only for --to escpos
+columns, rows, page, margin, gap: only for a grid of --cell
+no code: the following arguments are required: --code
+each: {} and --each do not go together
 """.splitlines()
 
 
@@ -136,17 +135,67 @@ def is_literal(node: ast.expr) -> bool:
     return isinstance(node, ast.Constant) and isinstance(node.value, str)
 
 
-def remedies() -> set[str]:
-    """The options that are remedies: `Remedy("dpi")`, `map(Remedy, ("edge", "shift"))`."""
+def in_words() -> list[tuple[str, str]]:
+    """The texts that name options in words, each behind what it needs."""
+    return [(needs, text) for needs, _, text in (one.partition(": ") for one in IN_WORDS)]
+
+
+def texts_of_windows() -> set[str]:
+    """The texts in whose place a window says another one: `Text("…").in_window(…)`."""
+    found = set()
+    for path in sources():
+        for node in ast.walk(ast.parse(path.read_text())):
+            if isinstance(node, ast.Attribute) and node.attr == "in_window":
+                inner = node.value
+                if isinstance(inner, ast.Call) and inner.args and is_literal(inner.args[0]):
+                    found.add(ast.literal_eval(inner.args[0]))
+    return found
+
+
+def remedies(is_shown: bool = False) -> set[str]:
+    """The options that are remedies: `Remedy("dpi")`, `map(Remedy, ("edge", "shift"))`; or those
+    alone for which a window has a button.
+    """
     found = set()
     for path in sources():
         for node in ast.walk(ast.parse(path.read_text())):
             if isinstance(node, ast.Call) and getattr(node.func, "id", "") == "Remedy":
+                if is_shown and len(node.args) < 3 and not node.keywords:
+                    continue
                 found |= {one.value for one in node.args[:1] if isinstance(one, ast.Constant)}
             elif isinstance(node, ast.Call) and getattr(node.func, "id", "") == "map":
-                if getattr(node.args[0], "id", "") == "Remedy":
+                if not is_shown and getattr(node.args[0], "id", "") == "Remedy":
                     found |= {*ast.literal_eval(node.args[1])}
     return found
+
+
+def says() -> list[tuple[str, str]]:
+    """What the buttons of remedies say, each behind its option where that is the same for all."""
+    found = []
+    for path in sources():
+        tree = ast.parse(path.read_text())
+        named: dict[str, list[ast.expr]] = {}
+        for node in ast.walk(tree):
+            if isinstance(node, ast.Assign):
+                named.setdefault(ast.unparse(node.targets[0]), []).append(node.value)
+        for node in ast.walk(tree):
+            if isinstance(node, ast.Call) and getattr(node.func, "id", "") in ("Remedy", "replace"):
+                said = [one.value for one in node.keywords if one.arg == "says"] or node.args[2:3]
+                option = node.args[0].value if isinstance(node.args[0], ast.Constant) else ""
+                for one in said:
+                    for value in named.get(ast.unparse(one), [one]):
+                        found += [(option, text) for text in templates_in(value)]
+    return found
+
+
+def templates_in(node: ast.expr) -> list[str]:
+    """The templates of the texts that an expression may be."""
+    return [
+        ast.literal_eval(one.args[0])
+        for one in ast.walk(node)
+        if isinstance(one, ast.Call) and getattr(one.func, "id", "") == "Text"
+        if is_literal(one.args[0])
+    ]
 
 
 def in_capitals(text: str) -> str:
@@ -201,7 +250,10 @@ class German(unittest.TestCase):
         support.needs("xgettext", "msgcat")
         named = {one for one in texts_of_tools() if "--" in one}
         (of_journal,) = (one for one in named if "line of the journal" in one)
-        self.assertEqual(sorted(named - {of_journal}), sorted(IN_WORDS))
+        self.assertEqual(named - {of_journal}, {text for _, text in in_words()})
+        other = texts_of_windows()
+        for needs, text in in_words():
+            self.assertEqual(needs == "-", text in other, text)
 
     def test_remedies_are_options(self) -> None:
         helps = support.help_of("label-table") + support.help_of("label-print")

@@ -10,7 +10,8 @@ from pathlib import Path
 import support
 from labeltools.common.messages import Silence
 from labeltools.sheets.file_options import FileOptions
-from labeltools.tables.guess import column_words, Guess, guess, guess_of
+from labeltools.tables.guess import Guess, guess, guess_of
+from labeltools.tables.name_words import column_words
 from labeltools.tables.table_options import TableOptions
 from sheets import KINDS, Sheet
 
@@ -144,7 +145,7 @@ Keller;Riesling trocken;14,90;19,87;4006381333931
 - title price - code
 Item;Description;Price;Wholesale;Retail Price;Sale Price;Width;UPC
 Hammer, claw;Steel, 12 oz;24.49;12.10;0.00;0.00;8.25;4006381333931
-?title ?title ?price - ?price - - code
+?title ?title price - - - - code
 OXARTNUM;OXEAN;OXTITLE;OXSHORTDESC;OXPRICE;OXSTOCK
 A-201;4006381333931;Pencil, soft;Of cedar wood;0.80;12
 - code title - price -
@@ -162,13 +163,13 @@ ISBN13;Title;List Price;Our Price
 code title ?price ?price
 barcode;itemcallnumber;title;author;isbn
 39087001234567;QA-76;Herbstlicht;K. Lenz;978-3-16-148410-0
-?code - title - ?code
+code - title - -
 ArtNr;KurzBez;Bez;EANNr;Vk0Brutto;Vk0Netto
 100231;BLEIST;Bleistift, weich;4006381333931;0,80;0,67
 - - title code price -
 Copy Barcode;Title;ISBN;Price
 39087001234567;Herbstlicht;978-3-16-148410-0;24.00
-?code title ?code price
+code title - ?price
 Order ID;Ticket code;Barcode URL;Name;First name;Event name
 ORD-20041;VK7Q1XH2A;https://t.example/1;Anna Adler;Anna;Autumn concert
 - code - title - -
@@ -179,7 +180,7 @@ Product ID;SKU;Title;Price;MSRP
 SYMBOLOGIES = {
     "Regal": "qr",
     **dict.fromkeys(("Inventarnummer", "Charge", "Bestellnummer", "Artikelnummer"), "code128"),
-    **dict.fromkeys(("N° billet", "Etikett", "Order ID", "Product ID"), "code128"),
+    **dict.fromkeys(("N° billet", "Etikett", "Order ID", "Product ID", "barcode"), "code128"),
     "Copy Barcode": "code128",
 }
 
@@ -219,7 +220,7 @@ class Guesses(unittest.TestCase):
             self.assertEqual(" ".join(said), wanted, names)
             self.assertEqual(found.header, 1)
             wanted = SYMBOLOGIES.get(names.partition(";")[0], "auto")
-            self.assertEqual(found.symbology, wanted, names)
+            self.assertEqual(found.rules.symbology, wanted, names)
 
     def test_what_a_shop_pays_is_no_price(self) -> None:
         names = "EAN;Artikel;EK netto"
@@ -299,7 +300,7 @@ class Guesses(unittest.TestCase):
             ("Nr", "400638133390 400638133391 400638133392", ["--without-check-digit", none]),
             ("EAN", "72651101016 72651101023", ["--fill-zeros", none]),
             ("EAN", "4006381 4006382 4006383", ["--without-check-digit", none]),
-            ("Barcode", "AB-1001 AB-1002 AB-1003", [none]),
+            ("Barcode", "100201 100202 100203", [none]),
         ):
             with tempfile.TemporaryDirectory() as folder:
                 path = Path(folder, "table.csv")
@@ -378,6 +379,145 @@ class Guesses(unittest.TestCase):
             said, _ = self.proposed_and_run("\n".join([names, *rows[:3], other, ""]))
             self.assertNotIn("--variants-of", said)  # the rows do not say it
 
+    def test_a_first_and_a_last_name_are_one_title(self) -> None:
+        """The one of a guest, not that of the buyer; what has the first name in it is the whole."""
+        rows = ["T-1001;Adler;Anna;Becker;Ben;8.00", "T-1002;Becker;Ben;Becker;Ben;8.00", ""]
+        names = "Ticket code;Last name;First name;Buyer last name;Buyer first name;Price"
+        said, done = self.proposed_and_run("\n".join([names, *rows]))
+        self.assertIn("--price may be Price", said)  # whether a ticket has it nobody else knows
+        self.assertIn("--code 'Ticket code' --title 'Last name' --title 'First name' --sym", said)
+        self.assertIn(b'"title":"Adler\\nAnna"', done.stdout)
+        for names, row, wanted, second in (
+            ("Ticket code;Nom;Prénom", "T-1001;Adler;Anna", {"code": 0, "title": 1}, 2),
+            ("Ticket code;Nom;Prénom", "T-1001;Anna Adler;Anna", {"code": 0, "title": 1}, None),
+            ("Ticket code;Vorname;Nachname;Buch", "T-1001;Anna;Adler;Herbst", {"code": 0}, None),
+        ):
+            found = guessed(f"{names}\n{row}\n")
+            self.assertEqual((found.columns, found.beside.get("title")), (wanted, second), row)
+
+    def test_an_old_encoding_is_proposed_where_one_reading_is_sensible(self) -> None:
+        """By the letters of the language of the names; where other letters are sensible, too, it is
+        asked as before, and without a proposal nothing is read in an old encoding.
+        """
+        german, english = "EAN;Artikel;Preis", "EAN;Name;Price"
+        for names, title, encoding, wanted in (
+            (german, "Käse", "cp1252", "cp1252"),
+            (german, "Crème fraîche", "cp1252", "cp1252"),
+            (german, "Möhre ½ kg", "cp850", ""),
+            (german, "Möhren, weiß", "mac_roman", "mac_roman"),
+            (german, "Größe 5 €", "iso8859-15", "iso8859-15"),
+            ("EAN;Désignation;Prix TTC", "Crème brûlée", "cp1252", "cp1252"),
+            ("EAN;Nazwa;Cena", "Mąka, świeża", "cp1250", "cp1250"),
+            ("EAN;Nazwa;Cena", "Mąka, świeża", "iso8859-2", "iso8859-2"),
+            ("EAN;Název;Cena", "Čaj", "cp1250", "cp1250"),
+            ("EAN;Megnevezés;Bruttó ár", "Tej, sűrű", "cp1250", "cp1250"),
+            ("Barkod;Ürün Adı;Fiyat", "Yağ, ışık", "cp1254", "cp1254"),
+            ("Штрихкод;Наименование;Цена", "Мыло", "cp1251", "cp1251"),
+            ("Barcode;Περιγραφή;Τιμή", "Τσάι", "cp1253", "cp1253"),
+            (english, "Füller, weiß", "cp1252", "cp1252"),
+            (english, "Łosoś, żółty, mąka", "cp1250", "cp1250"),
+            (english, "Crème", "cp1252", ""),  # or Crčme
+            (english, "Kőr", "cp1250", ""),  # or Kõr
+            (english, "Мыло", "koi8-r", ""),
+            (german, "Käse 12 ¤", "cp1252", ""),
+        ):
+            text = f"{names}\n4006381333931;{title};1,20\n"
+            with tempfile.TemporaryDirectory() as folder:
+                path = Path(folder, "table.csv")
+                path.write_bytes(text.encode(encoding))
+                said = support.run_here("label-table", path).stderr.decode()
+                self.assertEqual(f" --encoding {wanted} {path}" in said, bool(wanted), said)
+                if wanted:
+                    self.assertIn(f"the table is read as {wanted}, with words such as ", said)
+                    self.assertIn(f": if letters are wrong, leave out --encoding {wanted}\n", said)
+                    words = shlex.split(said.partition("try label-table ")[2])
+                    done = support.run_here("label-table", *words)
+                    self.assertIn(f'"title":"{title}"'.encode(), done.stdout)
+                else:
+                    self.assertNotIn("try label-table", said)
+                done = support.run_here("label-table", "--code", "1", "--title", "2", path)
+                self.assertEqual((done.returncode, done.stdout), (1, b""), title)
+                self.assertIn(b" is not UTF-8, as line ", done.stderr)
+
+    def test_a_price_that_may_be_none_is_asked_about(self) -> None:
+        """Tickets, copies of books and things of an inventory have a price, and may be lent."""
+        for names, row in (
+            ("Asset Tag ID;Description;Price", "AT-1001;Chair, red;9.00"),
+            ("Ticket code;First name;Last name;Price", "T-1001;Anna;Adler;9.00"),
+            ("Barcode;ISBN;Title;Price", "AB-1001;978-3-16-148410-0;Herbstlicht;9.00"),
+        ):
+            found = guessed(f"{names}\n{row}\n")
+            self.assertEqual(found.doubts["price"], [names.count(";")], names)
+            self.assertNotIn("price", found.columns)
+        found = guessed("PLU;Article;Price\n4100;Pears;9.00\n")  # which a shop sells
+        self.assertEqual(found.columns.get("price"), 2)
+
+        for more, is_asked in (("Custodian", True), ("Emprunteur", True), ("Colour", False)):
+            found = guessed(f"SKU;Name;Price;{more}\nAB-1001;Chair, red;9.00;Anna\n")
+            self.assertEqual("price" in found.doubts, is_asked, more)
+
+    def test_codes_of_tickets_are_their_own_numbers(self) -> None:
+        """Twelve digits without the right check digit, beside a first and a last name."""
+        rows = "745944522779;Adler;Anna\n511260041544;Becker;Ben\n651268188657;Clay;Carla\n"
+        for names in ("Code-barres;Nom;Prénom", "Barcode;Last name;First name"):
+            said, done = self.proposed_and_run(f"{names}\n{rows}")
+            self.assertIn(" --symbology code128 ", said)
+            self.assertNotIn("most codes", said)
+            self.assertIn(b"code128 745944522779\n", done.stdout)
+        said, _ = self.proposed_and_run(f"Barcode;Name;Maker\n{rows}")
+        self.assertIn("most codes in Barcode are not EAN or UPC", said)
+
+    def test_a_name_may_look_like_a_number(self) -> None:
+        """As those of computers; beside another plain title the keeper is asked."""
+        row = "INV20241;PC-ACC-021;Windows 11 Professional"
+        for names, wanted, asked in (
+            ("Numéro d'inventaire;Nom;Système d'exploitation - Nom", 1, None),
+            ("Asset tag;Name;OS name", 1, None),
+            ("Inventarnummer;Name;Beschreibung", None, [1, 2]),
+            ("PLU;Name;Beschreibung", None, [1, 2]),
+        ):
+            found = guessed(f"{names}\n{row}\n")
+            self.assertEqual(found.columns.get("title"), wanted, names)
+            self.assertEqual(found.doubts.get("title"), asked, names)
+
+    def test_a_title_of_some_kind_is_asked_about_beside_other_texts(self) -> None:
+        row = "4006381333931;Tea, green;Tea of Fuzhou"
+        for names, is_sure in (
+            ("EAN;Artikel;Web name", False),
+            ("EAN;Line;Web name", False),
+            ("EAN;Web name;Preis", True),
+            ("EAN;Vendor name;Web name", True),
+            ("EAN;Product name;Web name", True),
+        ):
+            found = guessed(f"{names}\n{row}\n")
+            self.assertEqual("title" in found.columns, is_sure, names)
+
+    def test_a_code_of_something_else_is_asked_about(self) -> None:
+        """Of a carton; or one that few rows have, where all have another number."""
+        carton = [["Item no", *NUMBERS[1]], ["Carton EAN", *CODES]]
+        self.assertEqual(guess(carton, 1).doubts, {"code": [1, 0]})
+        plain = [["Item no", *NUMBERS[1]], ["EAN", *CODES], ["Carton EAN", *CODES[::-1]]]
+        self.assertEqual(guess(plain, 1).columns, {"code": 1})
+        few = [["Item no", *NUMBERS[1]], ["EAN", CODES[0], "", ""]]
+        self.assertEqual(guess(few, 1).doubts, {"code": [1, 0]})
+        old = [["Book no", *NUMBERS[1]], ["ISBN", CODES[0], "", ""]]
+        self.assertEqual(guess(old, 1).columns, {"code": 0})
+        shop = [["EAN", *CODES], ["ISBN", "", "978-0-306-40615-7", ""]]
+        self.assertEqual(guess(shop, 1).columns, {"code": 0})  # the same number, less often
+        shop = [["handleId", "tea-a", "tea-b", "tea-c"], ["sku", "T-A", "T-B", "T-C"]]
+        self.assertEqual(guess(shop, 1).columns, {"code": 1})
+        shop = [["handleId", "tea-a", "tea-b", "tea-c"], ["sku", "T-A", "", ""]]
+        self.assertEqual(guess(shop, 1).doubts, {"code": [1]})
+        library = [["Accession no", "1201", "1202", "1203"], ["Barcode", *NUMBERS[0]]]
+        self.assertEqual(guess([*library, ["ISBN", *CODES]], 1).columns, {"code": 1})
+        books = [["ISBN", *CODES], ["ISBN-10", "180615904X", "0062890964", "0301198063"]]
+        self.assertEqual(guess(books, 1).columns, {"code": 0})
+        urls = [
+            ["code", "1201", "1202", "1203"],
+            ["image", *(f"https://x.example/{n}" for n in "abc")],
+        ]
+        self.assertEqual(guess(urls, 1).columns, {"code": 0})
+
     def test_html_is_no_title(self) -> None:
         names = "EAN;Description;Text"
         row = "4006381333931;<p>A <b>mild</b> tea</p>;Tea, mild\n"
@@ -439,7 +579,7 @@ class Guesses(unittest.TestCase):
         """What is a price cannot be a cost, and what is a name cannot be what has none."""
         words = column_words()
         for kinds, others in (
-            (("prices", "taxed", "paid", "beside-prices", "sale"), ("cost", "net")),
+            (("prices", "taxed", "paid", "sold", "beside-prices", "sale"), ("cost", "net")),
             (("titles", "descriptions"), ("others", "numbers")),
             (("codes", "own-numbers"), ("others", "titles")),
             (("short",), ("long",)),
@@ -519,7 +659,7 @@ PRICES = (
     ("Name;EAN;Preiseinheit;Bruttopreis", 4),
     ("Name;EAN;Marge €;VK €", 4),
     ("Stoff;EAN;VK/m;Rabattpreis", 0),
-    ("Name;EAN;Unit cost;Unit price", 0),
+    ("Name;EAN;Unit cost;Unit price", 4),
     ("Name;EAN;Zolltarif;VK-Preis", 4),
     ("Café;EAN;Prix 250 g;Prix 1 kg", 0),
     ("Plante;EAN;Prix pro TTC;Prix particulier TTC", 4),
@@ -574,7 +714,7 @@ class Codes(unittest.TestCase):
         ):
             numbers = [f"{start}{end}" for end in ends]
             found = guess([["Nr", *numbers], ["Name", "Tea", "Book", "Gum", "Pen"]], 1)
-            self.assertEqual((found.symbology, found.columns["code"]), (wanted, 0), start)
+            self.assertEqual((found.rules.symbology, found.columns["code"]), (wanted, 0), start)
         text = "Nr\n" + "".join(f"{number}\n" for number in ("4006381333932", "4006381333933"))
         done = support.run_here("label-table", "--code", "Nr", input=text.encode())
         self.assertIn('most codes in column 1 ("Nr") have a wrong', support.messages(done)[-1])
@@ -596,7 +736,6 @@ class Codes(unittest.TestCase):
             ("Name;Description", [1]),
             ("Kurzbeschreibung;Titel", [2]),
             ("Item;Description", []),
-            ("Nachname;Vorname", []),
             ("Bezeichnung 1;Bezeichnung 2", []),
             ("Aufdruck;Merkmal", []),
         ):
@@ -669,6 +808,25 @@ class Prices(unittest.TestCase):
         found = guess([["EAN", *CODES], *prices[:1], ["Preis Euro", *HIGH]], 1)
         self.assertEqual(found.columns.get("price"), 2)
 
+    def test_prices_that_are_none_are_not_proposed(self) -> None:
+        """Zeros, a weight, what is empty, and what a customer paid before."""
+        codes, name = ["EAN", *CODES], ["Name", "Tea", "Book", "Gum"]
+        for names, first, second, wanted in (
+            ("Retail price;Unit price", ["0.00"] * 3, HIGH, {"price": [3]}),
+            ("Brutto;Our price", ["0,25", "0,35", "1,05"], HIGH, {"price": [2, 3]}),
+            ("Price;Cost price", [""] * 3, [""] * 3, {}),
+            ("Price;Deal", LOW, ["1,43", "10,00", "2,44"], {"price": [2, 3]}),
+        ):
+            one, other = names.split(";")
+            found = guess([codes, name, [one, *first], [other, *second]], 1)
+            self.assertNotIn("price", found.columns, names)
+            self.assertEqual(found.doubts, wanted, names)
+        for regular, is_sure in (("Ordinary price", True), ("Shop price", False)):
+            found = guess([codes, name, ["Price", *LOW], [regular, "2,40", "", ""]], 1)
+            self.assertEqual(found.columns.get("price"), 2 if is_sure else None, regular)
+        found = guess([codes, name, ["Preço", *LOW], ["PVP", *HIGH]], 1)  # which has the tax
+        self.assertEqual(found.columns.get("price"), 3)
+
     def test_an_advised_price_yields_to_the_same_amounts(self) -> None:
         codes = ["EAN", *CODES]
         for advised in ("MSRP", "UVP"):
@@ -676,6 +834,50 @@ class Prices(unittest.TestCase):
             self.assertEqual(same.columns.get("price"), 2, advised)
             other = guess([codes, [advised, *HIGH], ["Price", *LOW]], 1)
             self.assertEqual(other.doubts, {"price": [1, 2]}, advised)
+
+    def test_an_advised_price_yields_to_what_the_shop_sells_for(self) -> None:
+        """But not if that is far below, as what other shops pay is."""
+        for sold, advised in (
+            ("VK", "UVP"),
+            ("Prix de vente", "Prix conseillé"),
+            ("Precio de venta", "Precio sugerido"),
+            ("Preț vânzare", "Preț recomandat"),
+            ("Prodajna cijena", "Preporučena cijena"),
+        ):
+            found = guess([["EAN", *CODES], [sold, *LOW], [advised, "1,49", "9,90", "2,50"]], 1)
+            self.assertEqual(found.columns.get("price"), 1, sold)
+            found = guess([["EAN", *CODES], [sold, *LOW], [advised, "2,90", "19,90", "4,50"]], 1)
+            self.assertEqual(found.doubts, {"price": [1, 2]}, sold)
+
+    def test_amounts_say_which_price_has_the_tax(self) -> None:
+        """By up to three taxes in a table; and nothing is said by a few rows, or an old price."""
+        codes, taxes = ["EAN", *(f"{CODES[0]}{n}" for n in range(6))], (19, 19, 19, 7, 7, 7)
+        bare = ["10.00", "20.00", "5.00", "30.00", "8.00", "12.00"]
+        whole = [f"{float(one) * (100 + tax) / 100:.2f}" for one, tax in zip(bare, taxes)]
+        for names, wanted in (
+            ("Precio base;Precio total", 2),
+            ("Prix;Prix total", 2),
+            ("Cena;Cena razem", 2),
+            ("Price;Retail price", 2),
+            ("Price;Regular price", None),
+            ("Price;Sale price", None),
+            ("Price;Total value", 1),
+        ):
+            one, other = names.split(";")
+            found = guess([codes, [one, *bare], [other, *whole]], 1)
+            self.assertEqual(found.columns.get("price"), wanted, names)
+        found = guess([codes[:3], ["Price", *bare[:2]], ["Retail price", *whole[:2]]], 1)
+        self.assertEqual(found.doubts, {"price": [1, 2]})
+        whole = ["189", "259", "199", "189", "349", "59"]  # without decimals
+        found = guess([codes, ["Prodejní", *bare], ["Prodejní s DPH", *whole]], 1)
+        self.assertEqual(found.columns.get("price"), 2)
+
+    def test_a_word_that_a_cost_has_is_no_kind_of_price(self) -> None:
+        for cost, price in (("Purchase rate", "Rate"), ("Tarif achat", "Tarif")):
+            found = guess([["EAN", *CODES], [price, *HIGH], [cost, *LOW]], 1)
+            self.assertEqual(found.columns.get("price"), 1, price)
+        found = guess([["EAN", *CODES], ["Rate", *HIGH]], 1)
+        self.assertEqual(found.doubts, {"price": [1]})
 
     def test_what_a_stock_is_named_for_is_no_kind_of_price(self) -> None:
         codes, price = ["EAN", *CODES], ["Price Corner Cafe", *HIGH]

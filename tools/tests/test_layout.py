@@ -10,7 +10,7 @@ from typing import Any, Sequence
 import support
 from labeltools.designs.framed import styled_text
 from labeltools.layout.area import ROLL_SMALLEST
-from labeltools.layout.letters import FONT, Letters
+from labeltools.layout.letters import extent_of, FONT, Letters
 from labeltools.lines.symbologies import SYMBOLOGIES
 from laying import laid_out, look
 
@@ -306,7 +306,7 @@ class Measures(unittest.TestCase):
             "1 kg = 5,98 €",
         ):
             for is_bold in (False, True):
-                ink, _ = letters.extents(text, is_bold)
+                ink = extent_of(letters.whole_sign(text, is_bold))
                 found = letters.extent(text, is_bold)
                 self.assertAlmostEqual(found.width, ink.width, delta=0.03 * ink.width, msg=text)
                 self.assertAlmostEqual(found.height, ink.height, delta=0.01, msg=text)

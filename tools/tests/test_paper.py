@@ -393,6 +393,15 @@ class Forms(unittest.TestCase):
         for fields in NO_FIELDS, {"title": "Seife"}, PRICED:
             self.check([(line, fields) for line in (*LINES, QR)])
 
+    def test_codes_in_many_places(self) -> None:
+        """Each of twenty heights is in its place in a PDF, also when it comes again."""
+        heights = [*range(10, 30)] * 2
+        labels: list[Label] = [(f"code128,height={high} A7", {"title": "A"}) for high in heights]
+        pdf = printed(labels, *roll((60.0, 40.0), 203))
+        first, again = (bars_in(rendered(pdf, 203, page), "code128 A7") for page in (1, 21))
+        self.assertIsNotNone(first)
+        self.assertEqual(first, again)
+
     def test_zpl_has_the_dots_of_pbm(self) -> None:
         """In run lengths, as drivers of Linux send them; upright at the corner, whatever the job
         before has set.
@@ -594,7 +603,7 @@ class Users(unittest.TestCase):
         cells = ("--cell", "1x1", "--columns", "9999", "--rows", "9999", "--page", "9999x9999")
         copies = support.file_of([("ean8 7351353", {"copies": 9999})] * 101)
         for data, arguments, what in (
-            (label, cells, "the maximum is 10,000\n"),
+            (label, cells, "the maximum is 10,000; give fewer"),
             (copies, self.ROLL, "the maximum is 1,000,000;"),
         ):
             script = 'ulimit -v 600000 -t 60; exec "$@"'

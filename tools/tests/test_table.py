@@ -27,6 +27,9 @@ AROUND = {
     "apostrophe": f"begins with an apostrophe, {BECOMES}: delete the apostrophe",
     "asterisks": f"is between asterisks, {BECOMES}: delete the asterisks",
 }
+EMPTY = (
+    "standard input is empty: nothing is printed; did the command that wrote it report an error?"
+)
 OTHER = "a code that is not an EAN or UPC needs --symbology code128 (bars) or qr"
 
 
@@ -171,7 +174,7 @@ class Cells(TableTest):
         self.check(f"sep=|\r\ncode|a\r\n{SMALL}|b\r\n", ["--code", "code"], [f"ean8 {SMALL}"])
 
     def test_told_delimiter_that_row_1_does_not_have(self) -> None:
-        problem = 'row 1 has no "," between cells, but ";": leave out --delimiter'
+        problem = 'row 1 has ";" between cells, and not ",": leave out --delimiter'
         self.check(
             "code;name\nA1;a\n", "--code 1 --symbology qr --delimiter ,".split(), [], [problem], 2
         )
@@ -375,7 +378,7 @@ class Columns(TableTest):
         self.check(f"a;b;\n1;2\n1;2;{SMALL}\n", ["--code", "3"], [f"ean8 {SMALL}"], [problem], 1)
 
     def test_tables_without_rows(self) -> None:
-        self.check("", ["--code", "1"], [], ["standard input is empty: nothing is printed"], 1)
+        self.check("", ["--code", "1"], [], [EMPTY], 1)
         for table in ("\r\n\r\n", "\ufeff", ";;\n;;\n"):
             self.check(table, ["--code", "1"], [], ["standard input has only empty cells"], 1)
         problem = "standard input has no row below row 1, which has the names of the columns"
@@ -846,9 +849,13 @@ class Arguments(TableTest):
         )
         for symbology in ("code128", "qr"):
             for argument in ("--fill-zeros", "--without-check-digit"):
-                self.check_usage(["--code", "1", "--symbology", symbology, argument], text)
-        self.check_usage("--code 1 --fill-zeros --without-check-digit".split(), text)
-        text = "--price-as needs --price, --unit-price or --old-price"
+                hint = f"leave out {argument} or --symbology {symbology}"
+                words = ["--code", "1", "--symbology", symbology, argument]
+                self.check_usage(words, f"{text}: {hint}")
+        hint = "leave out --fill-zeros or --without-check-digit"
+        words = ["--code", "1", "--fill-zeros", "--without-check-digit"]
+        self.check_usage(words, f"{text}: {hint}")
+        text = "--price-as needs --price, --unit-price or --old-price: leave out --price-as"
         self.check_usage("--code 1 --price-as 0,00".split(), text)
         text = "EAN-13 has no setting level"
         self.check_usage("--code 1 --settings height=20,level=Q".split(), text)

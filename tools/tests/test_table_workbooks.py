@@ -38,6 +38,9 @@ class Written(WorkbookTest):
         '<row r="4"/>',
         f'<row r="5"><c r="A5" t="str"><f>"x"&amp;1</f><v>{BOOK}</v></c><c r="B5" t="s"><v>4</v></c>'
         '<c r="C5"/></row>',
+        f'<row r="6"><c r="A6" t="inlineStr"><is><t>{PENCIL}</t></is></c><c r="B6" t="inlineStr">'
+        '<is><t xml:space="preserve">Käse _x0042_</t></is></c>'
+        '<c r="C6" t="inlineStr"><is><t></t></is></c></row>',
         f'<row r="7" s="1"><c r="A7"><v>{SMALL}</v></c><c r="B7" t="s"><v>5</v></c>'
         '<c r="C7" s="0"><f>A7*2</f><v>3.25</v></c></row>',
         '<row r="9"><c r="A9" t="s"><v>6</v></c><c r="B9" t="inlineStr"><is><t>Tee</t></is></c></row>',
@@ -45,6 +48,7 @@ class Written(WorkbookTest):
     LINES = [
         ({"row": 2, "title": "Käse & Co", "price": "1.5"}, f"ean13 {PENCIL}"),
         ({"row": 5, "title": "Tee, grün"}, f"ean13 {BOOK}"),
+        ({"row": 6, "title": "Käse B"}, f"ean13 {PENCIL}"),
         ({"row": 7, "title": "zu A", "price": "3.25"}, f"ean8 {SMALL}"),
         ({"row": 9, "title": "Tee"}, f"ean13 {PENCIL}"),
     ]
@@ -86,8 +90,9 @@ class Written(WorkbookTest):
         text = parts[name].replace('encoding="UTF-8"', 'encoding="ISO-8859-1"')
         data = packed({**parts, name: text.encode("latin-1")})
         self.assertEqual(self.said_of(data)[0], self.LINES)
-        wrong = packed({**parts, name: parts[name].encode("latin-1")})
-        self.assertIn("is damaged", self.said_of(wrong)[1][0])
+        for name in (name, "xl/worksheets/sheet1.xml"):
+            wrong = packed({**parts, name: parts[name].encode("latin-1")})
+            self.assertIn("is damaged", self.said_of(wrong)[1][-1], name)
 
     def test_rows_that_no_spreadsheet_writes(self) -> None:
         """What the parser refuses is refused, though it stands among plain rows."""

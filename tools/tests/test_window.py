@@ -1,8 +1,10 @@
 """Tries the window on a screen of its own (Xvfb): what it prints is what the commands print."""
 
+import gettext
 import json
 import os
 import re
+import shlex
 import subprocess
 import sys
 import tempfile
@@ -13,19 +15,29 @@ from contextlib import redirect_stdout
 from dataclasses import replace
 from importlib import import_module
 from io import StringIO
+from itertools import product
 from pathlib import Path
 from typing import Any, Callable
 from unittest import mock
+from xml.etree import ElementTree
 
 import cairo
 
 import support
+import test_german
+from labeltools.commands.label_print import print_options
+from labeltools.commands.label_table import understood
+from labeltools.common.arguments import words_of
 from labeltools.common.messages import ToolError
 from labeltools.common.text import NOTHING, Text
+from labeltools.drawing.forms import FORMS
+from labeltools.printing.job import planned
 from labeltools.sending import cups as sending_cups, printers as sending
 from labeltools.sending.cups import JobState, Queue, SentJob
+from labeltools.tables.codes import NAMES
 from printers import Printer, READY, STATUS
 from scheduler import raster_of, Scheduler, WITH_TEST
+from workbooks import cell, rows, xlsx
 
 TABLE = """Nr;EAN;Name;Price;Stock;Labels
 1;4006381333931;Pencil, red;0,80 €;5000;3
@@ -37,7 +49,7 @@ PROGRAMS = ("Xvfb", "pdftoppm", "msgfmt")
 WAIT = 300.0  # seconds for work, on a busy machine too
 BEAT = 10  # milliseconds between two looks at the window
 SCALE = 4  # pixels of a millimetre
-LOADED = "application bar gtk printers questions sheets ways window work".split()
+LOADED = "application bar gtk printers questions sheets shop ways window work".split()
 # What setUpModule makes.
 screen: Any = None
 scheduler: Any = None
@@ -48,6 +60,7 @@ printers: Any = None
 gtk: Any = None
 questions: Any = None
 sheets: Any = None
+shop: Any = None
 ways: Any = None
 window: Any = None
 work: Any = None
@@ -86,9 +99,10 @@ def setUpModule() -> None:
 
 def load() -> None:
     """Loads the window, where there is a screen."""
-    global application, bar, gtk, printers, questions, sheets, ways, window, work, Gdk, Gio, GLib, Gtk
+    global application, bar, gtk, printers, questions, sheets, shop, ways, window, work
+    global Gdk, Gio, GLib, Gtk
     sys.path.insert(0, str(support.TOOLS))
-    application, bar, gtk, printers, questions, sheets, ways, window, work = (
+    application, bar, gtk, printers, questions, sheets, shop, ways, window, work = (
         import_module(f"labeltools.window.{name}") for name in LOADED
     )
     Gdk, Gio, GLib, Gtk = gtk.Gdk, gtk.Gio, gtk.GLib, gtk.Gtk
@@ -140,6 +154,7 @@ class Keeper(unittest.TestCase):
     """A shop keeper at a window: what he does, and what he sees."""
 
     def setUp(self) -> None:
+        self.has_typed = False  # options, which a sentence may repeat
         self.raised: list[Any] = []
         hook = sys.excepthook
         sys.excepthook = lambda *error: self.raised.append(error)  # GTK goes on after an error
@@ -157,13 +172,16 @@ class Keeper(unittest.TestCase):
         self.window.present()
 
     def tearDown(self) -> None:
-        typed = [self.window.choices()[name] for name in ("for-table", "for-print")]
-        if not any(typed):  # then no sentence names an option
-            shown = [*self.happened(), *(row[2] for row in self.rows()), *self.answers()]
-            self.assertNotIn("--", "".join(shown) + self.problem())
+        if not self.has_typed:
+            self.check_sentences()
         self.window.destroy()
         settle(0.05)
         self.assertEqual(self.raised, [])
+
+    def check_sentences(self) -> None:
+        """No sentence of the window names an option."""
+        shown = [*self.happened(), *(row[2] for row in self.rows()), *self.answers()]
+        self.assertNotIn("--", "".join(shown) + self.problem() + self.counted())
 
     def shown(self) -> Any:
         """The pixels of what the window shows, and how many of them are dark."""
@@ -211,6 +229,7 @@ class Keeper(unittest.TestCase):
 
     def change(self, **choices: Any) -> None:
         """Changes choices, and waits for the labels; for other words the table is read again."""
+        self.has_typed = self.has_typed or bool({"for_table", "for_print"}.intersection(choices))
         taken = [{name.replace("_", "-"): value} for name, value in choices.items()]
         self.remade(lambda: [*map(self.window.take, taken)])
         words = choices.get("for_table", self.window.words)
@@ -251,7 +270,7 @@ class Keeper(unittest.TestCase):
     def answers(self) -> Any:
         """The buttons that help."""
         asked = [self.window.questions.box(name) for name in questions.BELOW]
-        boxes = [one.answers for one in asked if one.get_visible()] + [self.window.helps]
+        boxes = [one.answers for one in asked if one.get_visible()] + [*self.window.helps]
         if self.window.stack.get_visible_child_name() == "asking":
             boxes = [self.window.answers]
         found = {one.get_label() or one.get_child().get_text(): one for b in boxes for one in b}
@@ -263,7 +282,7 @@ class Keeper(unittest.TestCase):
         before = len(self.happened())
         work(*values)
         self.until(lambda: len(self.happened()) > before or self.problem())
-        return self.happened()[-before - 1].removeprefix("6 labels ")
+        return self.happened()[-before - 1].removeprefix("6 labels are ")
 
     def saved(self, name: str) -> Any:
         """What the window saves."""
@@ -271,6 +290,12 @@ class Keeper(unittest.TestCase):
         self.said_after(self.window.ways.save, path)
         self.assertEqual(self.problem(), "")
         return path.read_bytes()
+
+    def pressed(self, button: str, answer: bool | None = None) -> None:
+        """Presses the button that has a text, and answers what is asked in a dialog then."""
+        how = {} if answer is None else {"return_value": answer}
+        with mock.patch.object(self.window, "asked_in_dialog", create=True, **how):
+            self.answers()[button].clicked()
 
     def chosen(self, key: str) -> None:
         """Chooses a printer, of those that are there now."""
@@ -311,6 +336,247 @@ class Keeper(unittest.TestCase):
         return [tuple(row) for row in self.window.notes]
 
 
+GUM = "EAN;Name;Price\n96385074;Gum;1,00\n"
+TEA = GUM + "4006381333931;Tea;{}\n"
+NOT_YET = GUM + "{};Tea;2,00\n"
+OPEN = "EAN;Name;Price\n96385074;Gum;1,200\n4006381333931;Pen;2,500\n"
+CARETS = "EAN^Name\n96385074^Gum\n4006381333931^Tea\n"
+CARET = "EAN^13\n96385074\n4006381333931\n"
+BARE = "--without-check-digit"
+NAMED = ["EAN", "Name", "Price"]
+BOUGHT = ["96385074", "Gum", "1,00"]
+LINK = '<c t="str"><f>HYPERLINK("https://example.com/7","Here")</f><v>Here</v></c>'
+HIDDEN = rows(NAMED, BOUGHT, ["4006381333931", "Tea", "2,00"]).replace('r="3"', 'r="3" hidden="1"')
+SHEETS = xlsx(
+    rows(NAMED, BOUGHT), ("Tea", "visible", rows(NAMED, ["4006381333931", "Tea", "2,00"]))
+)
+NUMBERS = rows(NAMED, ["96385074", "Gum", cell(1.5, style=1)])
+DAYS = rows(NAMED, ["96385074", cell(45678, style=1), "1,00"])
+# a table, what is chosen before, a button that helps, and the words of label-table instead
+PRESSED: tuple[tuple[str | bytes, dict[str, Any], str, str], ...] = (
+    (NOT_YET.format("36000291452"), {}, "Put lost zeros back in front", "--fill-zeros"),
+    (NOT_YET.format("4006350000000"), {}, "Codes may end with zeros", "--allow-zeros"),
+    (NOT_YET.format("3"), {}, "The codes are Code 128", "--symbology code128"),
+    (NOT_YET.format("A-1"), {}, "The codes are QR Code", "--symbology qr"),
+    (NOT_YET.format("01234565"), {}, "The codes are EAN-8", "--symbology ean8"),
+    (NOT_YET.format("0000096385074"), {}, "The codes are EAN-13", "--symbology ean13"),
+    (
+        NOT_YET.format("40063813339"),
+        {"for_table": BARE},
+        "The codes are UPC-A",
+        f"{BARE} --symbology upca",
+    ),
+    (NOT_YET.format("4006381333931"), {"for_table": "--symbology ean8"}, "Find their kind", ""),
+    (NOT_YET.format("400638133393"), {}, "The codes have no check digit", BARE),
+    (NOT_YET.format("4006381333931"), {"for_table": BARE}, "The codes have a check digit", ""),
+    (TEA.format("soon"), {}, "Prices may be any text", "--price-text"),
+    (TEA.format("2,0000"), {}, "Print two decimals", "--price-as 0,00"),
+    (TEA.format("Taler2,00"), {}, "Taler is a currency", "--currency-name Taler"),
+    (
+        TEA.format("2,00"),
+        {"for_table": "--fill-zeros", "symbology": "code128"},
+        "Put no zeros in front",
+        "--symbology code128",
+    ),
+    (
+        TEA.format("2,00"),
+        {"for_table": "--fill-zeros", "symbology": "code128"},
+        "Find their kind",
+        "--fill-zeros",
+    ),
+    (
+        TEA.format("2,00"),
+        {"for_table": "--price-text", "price_as": "0,00 €"},
+        "Every price is a number",
+        "--price-as '0,00 €'",
+    ),
+    (
+        TEA.format("2,00"),
+        {"for_table": "--price-text", "price_as": "0,00 €"},
+        "As in the table",
+        "--price-text",
+    ),
+    (TEA.format("2,00"), {"for_table": "--hidden"}, "Read it all the same", ""),
+    (TEA.format("2,00"), {"for_table": "--delimiter tab"}, "Find what is between cells", ""),
+    (
+        "of May;;\n" + TEA.format("2,00"),
+        {"for_table": "--where Name=Gum", "header_row": 1},
+        "The names are in row 2",
+        "--header-row 2 --where Name=Gum",
+    ),
+    (
+        OPEN.replace(",", "."),
+        {"price_as": "€0.00"},
+        "The comma, as in 1,50",
+        "--decimal comma --price-as €0.00",
+    ),
+    (
+        OPEN,
+        {"price_as": "€0.00"},
+        "The point, as in 1.50",
+        "--decimal point --price-as €0.00",
+    ),
+    (CARETS, {}, "It is between cells", "--code 1 --title 2 --delimiter ^"),
+    (CARET, {}, "It is data", "--code 1 --delimiter none"),
+    (
+        GUM.replace("Gum", "Füller").encode("cp1252"),
+        {"for_table": ""},
+        "Füller",
+        "--encoding cp1252",
+    ),
+    (GUM.replace("Gum", "Füller").encode("utf-16-le"), {}, "UTF-16-LE", "--encoding utf-16-le"),
+    (
+        GUM.replace("Gum", "Füller").encode(),
+        {"for_table": "--encoding cp1252"},
+        "Read it as UTF-8",
+        "",
+    ),
+    (SHEETS, {}, "Tea", "--sheet Tea"),
+    (xlsx(HIDDEN), {}, "Print hidden rows too", "--hidden"),
+    (xlsx(NUMBERS, formats=["0.00"]), {}, "1,50", "--decimal comma"),
+    (xlsx(DAYS, formats=[14]), {"title": "2"}, "As 31.12.2026", "--date-as dd.mm.yyyy"),
+    (
+        xlsx(rows(NAMED, [LINK, "Gum", "1,00"], ["B7", "Tea", "2,00"])),
+        {"symbology": "qr"},
+        "Draw the address",
+        "--symbology qr --links",
+    ),
+)
+
+
+# a driver, the height of labels on its roll, a button that helps, and the words of label-print
+OF_PRINTERS = (
+    ("edged", 40, "Keep labels away from the edge", "--edge 4.3,4.3,4.3,4.3"),
+    ("general", 40, "Keep labels away from the edge", "--edge 6.4,12.7,6.4,12.7"),
+    ("general", 40, "Print on this paper", "--paper-as-given"),
+)
+
+
+class Mnemonics(unittest.TestCase):
+    """Alt and a letter lead to one control of the window, or of a dialog, in each language."""
+
+    MORE = {  # what code sets there
+        "printing": ("_All: {count} label", "_Trial: one label"),
+        "LabelsWindow": ("Onl_y what is new or changed since {date}",),
+    }
+    INSTEAD = ("Sto_p",)  # while labels go out nothing is printed
+
+    def test_each_letter_is_of_one_control(self) -> None:
+        tree = ElementTree.parse(support.TOOLS / "labeltools/window/window.ui").getroot()
+        for language in ("en", *test_german.LANGUAGES):
+            place = support.speaking(language, folder.name).get("LABELS_LOCALE")
+            words = gettext.translation("label-tools", place, [language], fallback=True)
+            for part in tree:
+                name = str(part.get("id") or part.get("class"))
+                labels = [
+                    one.text or "" for one in part.iter("property") if one.get("name") == "label"
+                ]
+                shown = [*labels, *self.MORE.get(name, ())]
+                said = [words.gettext(one) for one in shown if one not in ("", *self.INSTEAD)]
+                letters = [one[one.index("_") + 1].lower() for one in said if "_" in one]
+                self.assertEqual(sorted(letters), sorted({*letters}), (language, name, said))
+
+
+class Sentences(unittest.TestCase):
+    """No sentence of the window names an option, but for those that somebody has typed there."""
+
+    def said_of(self, make: Callable[[Any], Any], words: Any) -> str:
+        """What the window says of words that do not go together."""
+        try:
+            make(words)
+        except ToolError as error:
+            return str(questions.said(error.what, error.hint))
+        return ""
+
+    def test_what_controls_and_buttons_give_together(self) -> None:
+        """Each choice of them with each other one."""
+        flags = ("fill-zeros", "without-check-digit", "price-text")
+        said = set()
+        for kind, pattern, price, *given in product(
+            NAMES, ("", "0,00 €"), ("", "3"), *((False, True) for _ in flags)
+        ):
+            chosen = {"code": "1", "symbology": kind, "price": price, "price-as": pattern}
+            words = words_of({**chosen, **dict(zip(flags, given))})
+            said.add(self.said_of(understood, [*words, "a.csv"]))
+        self.assertEqual(len(said), 4)
+        papers: list[dict[str, str]] = [{"paper": "60x40"}, {"paper": "5x5"}, {}]
+        papers += [{"stock": "Avery L7160"}, {"stock": "-x"}]
+        for form, dpi, first, edge, paper in product(
+            FORMS, (72, 203, 600, 4800), (1, 9999), ("", "20,20,20,20"), papers
+        ):
+            words = words_of({"to": form, "dpi": dpi, "first": first, "edge": edge, **paper})
+            said.add(self.said_of(lambda one: planned(print_options(one)), words))
+        self.assertGreater(len(said), 8)
+        self.assertEqual([one for one in said if "--" in one], [])
+
+    def test_texts_that_name_options_are_not_said(self) -> None:
+        """Each needs an option that the window never gives, or words without a code."""
+        own = {*window.CONTROLS, "paper", "new-since", *test_german.remedies(True)} - {"after"}
+        for needs, text in test_german.in_words():
+            self.assertEqual(own.intersection(needs.split(", ")), set(), text)
+
+
+class Remedies(Keeper):
+    """What helps is a button: it gives what the command gives with the option."""
+
+    def test_each_is_pressed(self) -> None:
+        for table, before, button, words in PRESSED:
+            with self.subTest(button):
+                self.closed()
+                self.open(table)
+                for name, value in before.items():
+                    self.change(**{name: value})
+                self.check_sentences()
+                self.assertIn(button, self.answers())
+                self.remade(self.answers()[button].clicked)
+                self.until(lambda: self.window.has_labels)
+                asked = shlex.split(words)
+                if "--header-row" not in asked:
+                    asked += ["--header-row", "1"]
+                if "--code" not in asked:
+                    asked += ["--code", "1", "--title", "2", "--price", "3"]
+                lines = support.run_here("label-table", *asked, "--", self.table).stdout
+                self.assertEqual(self.window.made.lines.output.decode(), lines.decode())
+
+    def test_what_a_printer_needs_is_pressed(self) -> None:
+        """What is printed is what label-print makes with the option."""
+        self.open()
+        for number, (driver, size, button, words) in enumerate(OF_PRINTERS):
+            with self.subTest(button, driver=driver):
+                scheduler.add(f"queue-{number}", driver)
+                self.chosen(f"queue-{number}")
+                self.change(roll=True, width=60, height=size, for_print="")
+                self.until(lambda: self.window.has_labels)
+                GLib.timeout_add(BEAT, self.confirm, "", "")
+                self.window.print_button.clicked()
+                self.until(self.answers)
+                self.check_sentences()
+                self.remade(self.answers()[button].clicked)
+                self.until(lambda: self.window.has_labels)
+                self.assertEqual(self.window.choices()["for-print"], words)
+                self.assertIn("sent to", self.confirmed())
+                paper = ("--paper", f"60x{size}", "--dpi", "300")
+                edge = words.replace("--paper-as-given", "").split()  # a file has no paper
+                self.assertEqual(self.saved("a.pdf"), self.by_commands(*paper, *edge))
+
+    def test_each_of_the_code_is_pressed(self) -> None:
+        """But for whether row 1 has names, which a window always says."""
+        pressed = [(button, words) for *_, button, words in (*PRESSED, *OF_PRINTERS)]
+        pressed += [
+            ("Choose the encoding", "--encoding"),
+            ("203 dpi", "--dpi"),
+            ("Go on with label 3", "--after"),
+        ]  # by tests of their own
+        for option, text in test_german.says():
+            if option not in ("header", "no-header"):
+                words = re.escape(text).replace(r"\{\}", ".+")
+                found = [one for button, one in pressed if re.fullmatch(words, button)]
+                self.assertTrue(found, text)
+        for row in (0, 1, 2):
+            chosen = {**self.window.choices(), "code": "1", "header-row": row}
+            self.assertTrue({"--no-header", "--header-row"} & {*shop.table_words(chosen)})
+
+
 class WindowTest(Keeper):
     def test_saves_what_the_commands_print(self) -> None:
         self.open()
@@ -326,10 +592,10 @@ class WindowTest(Keeper):
         """A printer that takes PDF gets the file as it is."""
         scheduler.add("pdf", "pdf")
         self.open()
-        self.assertRegex(self.answered("pdf"), "^sent to pdf, at 600 dpi: job [0-9]+")
+        self.assertEqual(self.answered("pdf"), "sent to pdf.")
         page = ("--stock", "Avery L7160", "--dpi", "600")
         self.assertEqual(scheduler.printed("pdf"), self.by_commands(*page))
-        self.until(lambda: self.said() == "6 labels: printed on pdf")
+        self.until(lambda: self.said() == "6 labels are printed on pdf.")
         self.assertEqual(len(self.printed()), 3)
 
     def test_a_trial_does_not_count_and_chosen_rows_do(self) -> None:
@@ -344,8 +610,8 @@ class WindowTest(Keeper):
         ):
             with self.subTest(kind):
                 said = self.answered("some", kind, which)
-                self.assertRegex(said, f"^({labels} labels )?sent to some, at 600 dpi: job [0-9]+")
-                self.assertEqual("it was a trial" in said, kind == "trial")
+                self.assertIn(f"{labels} labels are sent to some.", said)
+                self.assertEqual("It was a trial" in said, kind == "trial")
                 self.until(lambda: "printed on some" in self.said())
                 self.assertEqual(len(self.printed()), printed)
 
@@ -378,9 +644,9 @@ class WindowTest(Keeper):
                 self.assertEqual(cups.getJobAttributes(job.number)["InputSlot"], "Manual")
             found.clear()
             self.until(lambda: "printed on trays" in self.said())
-        number = re.search("job ([0-9]+)", self.answered("trays", "trial"))
+        self.answered("trays", "trial")
         with sending_cups.refusals("trays") as cups:
-            job = cups.getJobAttributes(int(number[1]) if number else 0)
+            job = cups.getJobAttributes(self.window.events.event.about.number)
             self.assertNotEqual(job.get("InputSlot"), "Manual")
 
     def test_labels_count_as_printed_once_their_job_is_over(self) -> None:
@@ -389,7 +655,7 @@ class WindowTest(Keeper):
         subprocess.run(["cupsdisable", "later"], check=True)
         self.open()
         self.assertIn("sent to later", self.answered("later"))
-        self.until(lambda: "waiting in the queue" in self.said())
+        self.until(lambda: "waiting. later: it is paused." in self.said())
         self.assertEqual(self.window.bar.get_message_type(), Gtk.MessageType.WARNING)
         self.assertEqual([*self.answers()], ["Show the queue"])
         self.window.bar.response(Gtk.ResponseType.CLOSE)
@@ -399,8 +665,7 @@ class WindowTest(Keeper):
         first = min(job.number for job in self.waiting())
         subprocess.run(["cancel", str(first)], check=True)
         self.again()
-        self.until(lambda: "waiting in the queue" in self.said())
-        self.assertIn("which was sent before", self.happened()[1])
+        self.until(lambda: "waiting. later: it is paused." in self.said())
         self.assertEqual((self.printed(), len(self.waiting())), ([], 1))
         with mock.patch.object(ways, "WATCH", BEAT):
             subprocess.run(["cupsenable", "later"], check=True)
@@ -429,7 +694,7 @@ class WindowTest(Keeper):
             if printed and not number:
                 self.assertEqual(self.printed(), [])
             self.again()
-            self.until(lambda: "CUPS does not know whether it was printed" in self.said())
+            self.until(lambda: "Nobody knows whether job" in self.said())
             self.pressed("Was it printed?", not number)
             self.assertEqual((len(self.printed()), self.waiting()), (printed, {}))
             self.assertEqual(self.problem(), "")
@@ -449,7 +714,7 @@ class WindowTest(Keeper):
         taken = len(printer.labels)
         self.assertNotIn("--after", self.problem())
         self.pressed(f"Go on with label {taken + 1}", False)
-        self.until(lambda: f"printed by {printer.name}" in self.said())
+        self.until(lambda: f"printed on {printer.name}" in self.said())
         printer.wait(40)
         plain = self.by_columns("--paper", "60x40", "--to", "zpl", "--dpi", "203")
         self.assertEqual(b"".join(printer.labels), plain)
@@ -461,7 +726,7 @@ class WindowTest(Keeper):
         printer = Printer(answers=(READY, STATUS % (1, 0, 2, 0))).start()
         self.addCleanup(printer.off)
         self.window.ways.send_to(printer.name, self.window.made.labels)
-        self.until(lambda: "it has no paper: put some in" in self.said())
+        self.until(lambda: "It has no paper: put some in" in self.said())
         self.assertEqual(self.window.events.event.kind, "warning")
 
     def test_a_label_in_doubt_is_asked_for(self) -> None:
@@ -477,7 +742,7 @@ class WindowTest(Keeper):
                 self.window.ways.send_to(printer.name, self.window.made.labels)
                 self.until(self.problem)
                 self.pressed("Go on with label 3", is_there)
-                self.until(lambda: f"printed by {printer.name}" in self.said())
+                self.until(lambda: f"printed on {printer.name}" in self.said())
                 printer.wait(len(printed))
                 plain = self.by_columns("--paper", "60x40", "--to", "zpl", "--dpi", "600")
                 wanted = re.findall(rb"\^XA.*?\^XZ\n", plain, re.DOTALL)
@@ -547,7 +812,11 @@ class WindowTest(Keeper):
         row, cell, why = self.rows()[0]
         self.assertEqual((row, cell), ("4", "4006381333932"))
         self.assertIn("a digit is wrong", why)
-        self.assertIn("6 labels from 3 rows", self.counted())
+        said = self.counted().replace("\u00a0", " ")
+        self.assertEqual(said, "6 labels from 3 rows, with prices from 0,80 € to 2,95 €.")
+        self.open(NOT_YET.format("36000291452"))
+        said = "36000291452 has 11 digits, EAN-8 has 8, UPC-A has 12, EAN-13 has 13."
+        self.assertEqual(self.rows()[0][2], said)
 
     def look(self, kind: Any, number: int = 1) -> Any:
         """Looks at a page, or at a label."""
@@ -625,6 +894,14 @@ class WindowTest(Keeper):
         self.window.open_button.clicked()
         self.until(lambda: self.window.has_labels)
 
+    def test_the_dialog_shows_tables_of_old_systems(self) -> None:
+        """Their names are in capitals; of an .xls the window says what to do."""
+        info = Gtk.FileFilterInfo()
+        info.contains = Gtk.FileFilterFlags.DISPLAY_NAME
+        for name, is_shown in (("A.CSV", 1), ("a.xlsx", 1), ("B.Xls", 1), ("a.pdf", 0), ("csv", 0)):
+            info.display_name = name
+            self.assertEqual(self.window.tables.filter(info), bool(is_shown), name)
+
     def test_a_table_is_dropped(self) -> None:
         data = mock.Mock()
         data.get_uris.return_value = [Gio.File.new_for_path(str(self.table)).get_uri()]
@@ -667,9 +944,9 @@ class WindowTest(Keeper):
             self.remade(lambda: self.pressed("Labels (ZPL)"))
         self.window.of_printers.know(printer.name, {"name": "Zebra", "to": "zpl", "dpi": "203"})
         wanted = self.by_commands("--paper", "60x40", "--to", "zpl", "--dpi", "203")
-        self.assertEqual(self.answered(printer.name), f"printed by {printer.name}")
+        self.assertEqual(self.answered(printer.name), "printed on Zebra.")
         self.assertEqual(b"".join(printer.labels), wanted)
-        self.assertEqual(self.answered(str(device)), f"sent to {device}")
+        self.assertEqual(self.answered(str(device)), "sent to lp0.")
         self.assertEqual(device.read_bytes(), wanted)
         self.assertIn("sent to roll", self.answered("roll"))
         other.wait(3)
@@ -712,11 +989,15 @@ class WindowTest(Keeper):
         with mock.patch.object(ways, "queue_of", return_value=Queue("zebra", 203, {})):
             said = self.confirmed()
         self.assertIn("prints at 203 dpi", said)
+        self.remade(self.answers()["203 dpi"].clicked)
+        self.assertEqual(self.window.choices()["dpi"], "203")
+        page = ("--paper", "60x40", "--to", "zpl", "--dpi", "203")
+        self.assertEqual(self.saved("a.zpl"), self.by_commands(*page))
 
     def test_no_printer(self) -> None:
         """Then a file is saved; a printer in the network needs no CUPS."""
         self.open()
-        self.until(lambda: self.window.print_button.get_label() == "_Save…")
+        self.until(lambda: self.window.print_button.get_label() == "Sa_ve…")
         keys = [row[3] for row in self.window.printers]
         self.assertEqual(keys, ["add", "file"])
         with mock.patch.object(sending, "connection", side_effect=ToolError(NOTHING)):
@@ -766,7 +1047,7 @@ class WindowTest(Keeper):
         self.assertEqual(self.problem(), "Which column has the price?")
         self.assertFalse(self.window.lookup_action("save").get_enabled())
         self.change(price="4")
-        self.assertIn("price 0,80", self.counted())
+        self.assertIn("with the price 0,80.", self.counted())
         for prices in ("0,80;1,20", "1,20;0,80"):
             self.window.has_labels = False
             self.open(f"96385074;Gum, red;{prices}\n")
@@ -798,7 +1079,7 @@ class WindowTest(Keeper):
         """
         self.open()
         self.change(roll=True, to="zpl", dpi="203", width=30, height=20)
-        self.assertIn("1 row skipped; can be printed: 1 label", self.counted())
+        self.assertEqual(self.counted(), "1 label from 1 row.")
         self.saved("small.zpl")
         self.assertEqual(self.printed(), [b"96385074"])
         self.change(width=60, height=40, for_print="--only 3")
@@ -809,7 +1090,7 @@ class WindowTest(Keeper):
         self.open()
         self.change(new_only=True)
         self.assertEqual(self.window.made.lines.count, 1)
-        self.assertIn("0,80", self.window.made.lines.summary)
+        self.assertIn("0,80", self.window.made.lines.totals.lowest[1])
 
     def printed(self) -> Any:
         """The codes that went out, as they are kept."""
@@ -925,7 +1206,7 @@ class WindowTest(Keeper):
         self.assertIn("name prints at 360 dpi: the labels are drawn for it", said)
         self.until(lambda: self.window.has_labels)
         self.assertEqual(self.window.made.labels.job.plan.dpi, 360)
-        self.assertIn("sent to name, at 360 dpi", self.answered("name"))
+        self.assertEqual(self.answered("name"), "sent to name.")
         self.assertEqual(raster_of(scheduler.printed("name"))[0], (720, 360))
 
     def test_a_roll_takes_the_dots_that_its_queue_has_by_itself(self) -> None:
@@ -943,7 +1224,7 @@ class WindowTest(Keeper):
         self.open()
         with mock.patch.object(ways, "WATCH", BEAT):
             said = self.answered("paused")
-            self.assertRegex(said, "^sent to paused, at 600 dpi: job [0-9]+")
+            self.assertEqual(said, "sent to paused.")
             self.until(lambda: "paused: it is paused" in self.said())
             self.answered("paused")
             self.until(lambda: str(self.happened()).count("it is paused") == 2)
@@ -958,7 +1239,7 @@ class WindowTest(Keeper):
         state = JobState(Text("The printer is not responding."), "", True)
         future: Any = mock.Mock(exception=lambda: None, result=lambda: state)
         self.window.ways.show_state(SentJob("any", 7), 6, future)
-        self.assertEqual(self.said(), "6 labels: not printed: The printer is not responding.")
+        self.assertEqual(self.said(), "6 labels are not printed: The printer is not responding.")
 
     def test_the_window_speaks_the_language(self) -> None:
         """Its controls, and what it tells."""
@@ -979,13 +1260,14 @@ class WindowTest(Keeper):
     def test_a_driverless_printer(self) -> None:
         scheduler.add_driverless("home")
         self.open()
-        self.assertRegex(self.answered("home"), "^sent to home, at 600 dpi: job [0-9]+")
+        self.assertEqual(self.answered("home"), "sent to home.")
         self.assertEqual(raster_of(scheduler.printed("home"))[0], (600, 600))
 
     def test_a_file_is_read_next_week_as_this_week(self) -> None:
         """Its encoding is kept for its name: without it the names cannot be read."""
-        self.open("EAN;Name\n96385074;Füller, blau\n".encode("cp1252"))
-        self.change(for_table="--encoding cp1252")
+        self.open("EAN;Name\n96385074;Crème\n".encode("cp1252"))
+        self.pressed("Crème")  # not Crčme
+        self.until(lambda: self.window.has_labels)
         self.saved("labels.pdf")
         self.closed()
         self.open()
@@ -1045,49 +1327,41 @@ class WindowTest(Keeper):
         self.remade(self.window.first.grab_focus)  # which leaves it
         self.assertEqual(len(self.window.made.labels.job.plan.places), 21)
 
+    def test_what_is_just_typed_counts(self) -> None:
+        """Also where nobody left its field: no label of another sheet is printed, or elsewhere."""
+        scheduler.add("typed", "both")
+        self.open()
+        self.chosen("typed")
+        self.window.stock.grab_focus()
+        self.until(self.window.stock.has_focus)
+        self.window.stock.set_text("Herma no such")
+        self.window.lookup_action("print").activate(None)
+        self.until(self.problem)
+        self.assertIn("Herma no such: no such sheet", self.problem())
+        self.assertFalse(self.window.printing.get_visible())
+        self.remade(lambda: self.window.stock.set_text("Avery L7160"))
+        self.until(lambda: self.window.has_labels)
+        self.window.events.hide()
+        self.window.stock.set_text("avery l7163")
+        self.window.first.set_text("3")
+        self.assertEqual(self.confirmed(), "sent to typed.")
+        page = ("--stock", "Avery L7163", "--first", "3", "--dpi", "600")
+        self.assertEqual(self.saved("typed.pdf"), self.by_commands(*page))
+
     def test_sheets_that_begin_with_what_is_typed_come_first(self) -> None:
         self.window.stock.set_text("Herma 44")
         begin = [row[0].startswith("Herma 44") for row in self.window.sheets]
         self.assertEqual(begin, sorted(begin, reverse=True))
         self.assertEqual(len(set(begin)), 2)
 
-    def test_what_helps_is_a_button(self) -> None:
-        """What it gives is what the command gives with the option; no option is named."""
-        gum = "EAN;Name;Price\n96385074;Gum;1,00\n"
-        for text, button, words in (
-            (gum + "36000291452;Tea;2,00\n", "Put lost zeros back in front", "--fill-zeros"),
-            (gum + "4006350000000;Tea;2,00\n", "Codes may end with zeros", "--allow-zeros"),
-            (gum + "3;Tea;3,00\n", "The codes are Code 128", ""),
-            (gum + "4006381333931;Tea;soon\n", "Prices may be any text", "--price-text"),
-            (gum + "4006381333931;Tea;2,0000\n", "Print two decimals", "--price-as 0,00"),
-            ("EAN;N\n4006381333930;Gum\n036000291450;Tea\n", "The codes are Code 128", ""),
-        ):
-            with self.subTest(button):
-                self.closed()
-                self.open(text)
-                self.assertNotIn("--", self.problem() + "".join(row[2] for row in self.rows()))
-                left_out = self.window.made.left_out if self.window.has_labels else 2
-                self.remade(lambda: self.pressed(button))
-                self.until(lambda: self.window.has_labels)
-                self.assertEqual(self.window.choices()["for-table"], words)
-                self.assertLessEqual(
-                    self.window.made.left_out, left_out - (words[:8] != "--price-")
-                )
-
-    def pressed(self, button: str, answer: bool | None = None) -> None:
-        """Presses the button that has a text, and answers what is asked in a dialog then."""
-        how = {} if answer is None else {"return_value": answer}
-        with mock.patch.object(self.window, "asked_in_dialog", create=True, **how):
-            self.answers()[button].clicked()
-
     def test_prices_of_a_spreadsheet_get_a_currency(self) -> None:
         """It is reported that they have none, and chosen from what the column has."""
         self.open(TABLE.replace(" €", ""))
-        self.assertIn("3 prices without a currency", self.counted())
+        self.assertIn("3 prices have no currency.", self.counted())
         shown = [row[0] for row in self.window.price_as.get_model()]
         self.assertEqual(shown[:3], ["as in the table  –  0,80", "0,80 €", "€0.80"])
         self.change(price_as="€0.00")
-        self.assertNotIn("without", self.counted())
+        self.assertNotIn("currency", self.counted())
         self.assertEqual(self.window.made.labels.labels[0].label.record.label.price, "€0.80")
         self.saved("labels.pdf")
         self.open()  # it is kept
@@ -1096,6 +1370,32 @@ class WindowTest(Keeper):
         self.assertEqual(self.window.choices()["price-as"], "")
         self.open(TABLE.replace("€", "CHF"))
         self.assertNotIn("0,80 €", [row[0] for row in self.window.price_as.get_model()])
+
+    def test_what_is_guessed_beside_the_columns_is_taken(self) -> None:
+        """Variants, lost zeros and prices as programs write them are read as label-table proposes,
+        and remembered like other choices.
+        """
+        names = "Handle;Title;UPC;Price;Currency"
+        rows = (
+            *("a;Tea, green;72651101016;0.8;EUR", "a;;72651101023;49.9;EUR"),
+            "b;Gum, red;72651101030;34.000000;EUR",
+        )
+        self.open("\n".join([names, *rows, ""]))
+        labels = [one.label.record.label for one in self.window.made.labels.labels]
+        self.assertEqual(
+            [(one.title, one.price) for one in labels],
+            [("Tea, green", "0.80 EUR"), ("Tea, green", "49.90 EUR"), ("Gum, red", "34.00 EUR")],
+        )
+        words = "--variants-of Handle --currency Currency --fill-zeros"
+        self.assertEqual(self.window.choices()["for-table"], words)
+        self.assertEqual(self.window.choices()["price-as"], "0.00 ¤")
+        self.assertIn("Row 3 has the title of row 2", "".join(row[2] for row in self.rows()))
+        self.change(price_as="0,00 €", for_table="--currency Currency --fill-zeros")
+        self.assertEqual(self.window.made.labels.labels[0].label.record.label.price, "0,80 €")
+        self.saved("labels.pdf")
+        self.open()  # what was chosen is kept
+        self.assertEqual(self.window.choices()["for-table"], "--currency Currency --fill-zeros")
+        self.assertEqual(self.window.choices()["price-as"], "0,00 €")
 
     def test_what_the_sign_of_prices_means_is_asked_for(self) -> None:
         """In words, and not by an option, since only the keeper knows."""
@@ -1275,13 +1575,20 @@ class WindowTest(Keeper):
         name_of.assert_called_once_with(f"{self.table.stem}-labels.pdf")
 
     def test_offers_sheets_and_encodings(self) -> None:
-        self.open("EAN;Name\n96385074;Füller, blau\n".encode("cp1252"))
-        self.assertIn("choose what reads well", self.problem())
+        """One that is sure is taken, which is said, and can be chosen all the same."""
+        self.open("EAN;Artikel\n96385074;Füller, blau\n".encode("cp1252"))
+        self.assertEqual(self.window.choices()["for-table"], "--encoding cp1252")
+        said = 'The table is read as cp1252, with words such as "Füller".\nCheck the letters.'
+        self.assertIn(said, [row[2] for row in self.rows()])
+        self.pressed("Choose the encoding")
+        self.until(self.problem)
+        self.assertIn("Choose what reads well", self.problem())
         self.assertEqual([*self.answers()], ["Füller"])
         self.pressed("Füller")
         self.until(lambda: self.window.has_labels)
         self.assertEqual(self.problem(), "")
         self.assertEqual(self.window.choices()["for-table"], "--encoding cp1252")
+        self.assertNotIn(said, [row[2] for row in self.rows()])
 
     def test_keeps_how_a_table_is_read(self) -> None:
         self.open()
@@ -1292,7 +1599,7 @@ class WindowTest(Keeper):
         self.open(path=later)
         self.until(lambda: self.window.has_labels)
         self.assertEqual(self.window.choices()["for-table"], "--where Name=Soap")
-        self.assertIn("2 labels from 1 row:", self.counted())
+        self.assertIn("2 labels from 1 row, ", self.counted())
 
     def test_a_file_that_is_no_table_is_said(self) -> None:
         for name, data in (
@@ -1323,11 +1630,11 @@ class WindowTest(Keeper):
         self.change(for_table="--no-such-option")
         self.assertIn("--no-such-option", self.problem())
         self.change(for_table="--where Name=Soap")
-        self.assertIn("2 labels from 1 row:", self.counted())
+        self.assertIn("2 labels from 1 row", self.counted())
         self.change(for_table="")
-        self.assertIn("6 labels from 3 rows:", self.counted())
+        self.assertIn("6 labels from 3 rows", self.counted())
         self.change(for_table="--where Name=Soap")
-        self.until(lambda: "2 labels from 1 row:" in self.counted())
+        self.until(lambda: "2 labels from 1 row" in self.counted())
         self.assertEqual(self.window.choices()["price"], "")
         with redirect_stdout(StringIO()):
             self.window.take({"for-table": "--help"})
@@ -1345,7 +1652,7 @@ class WindowTest(Keeper):
         prints = [bad if item is first else item for item in made.prints]
         self.window.made = replace(self.window.made, labels=replace(made, prints=prints))
         path = self.folder / "wrong.pdf"
-        self.assertIn("row 2", self.said_after(self.window.ways.save, path))
+        self.assertIn("Row 2", self.said_after(self.window.ways.save, path))
         self.assertFalse(path.exists())
 
     def test_long_work_leaves_the_window_alone_and_stops(self) -> None:
@@ -1379,6 +1686,9 @@ class WindowTest(Keeper):
         self.change(roll=True, to="zpl", dpi="203")
         printer = Printer(stuck=2).start()
         self.addCleanup(printer.off)
+        self.assertEqual(
+            work.progress_text(mock.Mock(total=0, printer="Shelf")), "waiting for Shelf…"
+        )
         self.window.ways.send_to(printer.name, self.window.made.labels)
         self.until(lambda: len(printer.labels) > 1)
         self.assertFalse(self.window.stack.is_sensitive())
@@ -1420,6 +1730,12 @@ class WindowTest(Keeper):
         self.assertIn("Save a file…", aloud)
         ids = {str(value) for value in self.window.choices().values() if value not in ("", None)}
         self.assertEqual([one for one in aloud if one in ids], [])  # nobody should hear these
+        self.window.offer(
+            self.window.helps, [("Prices may be any text, however long it is", bool)] * 3
+        )
+        self.window.helps.show()
+        self.window.fold.set_active(True)
+        settle(0.1)
         width, _ = self.window.get_preferred_width()
         height, _ = self.window.get_preferred_height()
         self.assertLessEqual((width <= 800, height <= 560), (True, True))

@@ -1,9 +1,9 @@
 #!/usr/bin/python3
 """Draws pictures of the window in its states, on a screen of its own (Xvfb).
 
-It writes STATE.png into a folder: ordinary, more, doubt, file, printers, dialog, adding, rows, sheets, printing,
-printed, waiting, failed, roll, happened; and window.png and window-steps.png for the pages. The
-tables, labels and pages are real; printers and what happens to labels are made up.
+It writes STATE.png into a folder for each state that a keeper may see, from `empty` to `happened`,
+and window.png and window-steps.png for the pages. The tables, labels and pages are real; printers
+and what happens to labels are made up.
 
     window_pictures.py FOLDER [--language de] [--size 1024x600] [--dark] [--large]
 """
@@ -22,9 +22,17 @@ from unittest import mock
 import cairo
 
 import support
+from printers import Printer as TestPrinter
 
 NAMES = ("Pencil, red", "Pencil, blue", "Soap", "Gum", "Atlas of the sea", "Tea 100 g", "Candle")
 SHOP = "EAN;Name;Price;Labels\n"
+WRONG = """4,00638E+12;Rounded;1,20 €;1
+A-17;No number;2,00 €;1
+96385074;Gum;soon;1
+4006381333931;Pencil;1E3;1
+036000291452;Soap;2,95 €;many
+;Nothing;1,00 €;1
+"""
 TWO_PRICES = "EAN;Name;Preis A;Preis B\n"
 NUMBERED = (  # the widgets at the steps of the page, and where beside them the number is
     ("recent_button", 1.6, 0.5),
@@ -60,6 +68,7 @@ class Camera:
         from labeltools.window import gtk, printers, window
 
         self.folder, self.size = folder, size
+        self.zebra: Any = None
         self.gtk, self.printers = gtk, printers
         gtk.Gtk.init([])
         gtk.add_style()
@@ -97,12 +106,16 @@ class Camera:
         path = Path(tempfile.mkdtemp(dir=os.environ["XDG_CONFIG_HOME"]), name)
         path.write_bytes(text.encode() if isinstance(text, str) else text)
         self.window.open(path)
-        self.until(lambda: self.window.has_labels or self.is_asking())
+        self.until(lambda: self.window.has_labels or self.is_asking() or self.has_failed())
         self.settle(0.5)
 
     def is_asking(self) -> bool:
         """Whether the window asks something in place of the page."""
         return bool(self.window.stack.get_visible_child_name() == "asking")
+
+    def has_failed(self) -> bool:
+        """Whether the window says that it cannot read a file."""
+        return self.window.path is not None and bool(self.window.bar.get_visible())
 
     def pixels(self) -> Any:
         """What the screen shows."""
@@ -114,18 +127,25 @@ class Camera:
         """Writes a picture of the screen."""
         self.pixels().savev(str(self.folder / f"{name}.png"), "png", [], [])
 
-    def while_shown(self, name: str, dialog: Any, show: Callable[[], object]) -> None:
-        """Writes a picture of a dialog, and closes that."""
+    def while_asked(self, name: str, show: Callable[[], object]) -> None:
+        """Writes a picture of the dialog that something shows, and closes that."""
 
         def look() -> bool:
-            if dialog.get_visible():
+            shown = [one for one in self.gtk.Gtk.Window.list_toplevels() if one.get_visible()]
+            dialogs = [one for one in shown if isinstance(one, self.gtk.Gtk.Dialog)]
+            if dialogs:
                 self.shot(name)
-                dialog.response(self.gtk.Gtk.ResponseType.CANCEL)
-                return False
-            return True
+                dialogs[0].response(self.gtk.Gtk.ResponseType.CANCEL)
+            return not dialogs
 
         self.gtk.GLib.timeout_add(300, look)
         show()
+
+    def while_popped(self, name: str, button: Any) -> None:
+        """Writes a picture of what a button of the head shows, and closes that."""
+        button.set_active(True)
+        self.shot(name)
+        button.set_active(False)
 
     def numbered(self, name: str) -> None:
         """Writes a picture with the numbers of the steps of the page."""
@@ -166,24 +186,31 @@ def draw_number(canvas: Any, text: str, x: float, y: float) -> None:
     canvas.show_text(text)
 
 
-def made_up() -> Iterator[Any]:
-    """Yields printers that nobody has."""
+def made_up(address: str) -> Iterator[Any]:
+    """Yields printers that nobody has, and one of the tests."""
     from labeltools.sending.cups import REASONS
     from labeltools.sending.printers import NETWORK, NOT_TRIED, Printer, QUEUE, READY, USB
     from labeltools.common.text import Text
 
     yield Printer("laser", "HP LaserJet 400", QUEUE, READY, True, "pdf")
     yield Printer("office", "Kyocera Büro", QUEUE, REASONS["media-empty"].what, False, "pdf")
-    address = "192.168.1.40"
-    yield Printer(f"tcp://{address}", "Zebra ZD421", NETWORK, Text("{}", address), True, "zpl", 203)
+    state = Text("{}", "192.168.1.40")
+    yield Printer(address, "Zebra ZD421", NETWORK, state, True, "zpl", 203)
     yield Printer("/dev/usb/lp0", "lp0", USB, NOT_TRIED)
 
 
 def show_tables(camera: Camera) -> None:
     """Pictures of tables, and of questions about them."""
     window = camera.window
+    camera.shot("empty")
+    camera.open(b"\xd0\xcf\x11\xe0", "Old list.xls")
+    camera.shot("no-table")
     camera.open(shop_table())
     camera.shot("ordinary")
+    camera.while_popped("menu", window.menu_button)
+    window.fold.set_active(True)
+    camera.shot("errors")
+    window.fold.set_active(False)
     window.first.set_value(3)
     camera.until(lambda: window.has_labels)
     camera.shot("window")
@@ -193,11 +220,27 @@ def show_tables(camera: Camera) -> None:
     camera.shot("more")
     window.more_of_table.set_expanded(False)
     window.more_of_paper.set_expanded(False)
+    show_questions(camera)
+
+
+def show_questions(camera: Camera) -> None:
+    """Pictures of what the window asks about tables, and of many errors."""
+    window = camera.window
     camera.open(TWO_PRICES + "96385074;Gum, red;1,20;0,80\n4006381333931;Pencil;2,00;1,20\n")
     camera.shot("doubt")
     camera.open("EAN;Name\n96385074;Füller, blau\n".encode("cp1252"))
     camera.shot("file")
+    camera.open(shop_table() + WRONG)
+    window.fold.set_active(True)
+    camera.shot("many-errors")
     camera.open(shop_table())
+    window.table.keep_printed(window.made, window.made.labels)
+    camera.open(shop_table().replace("Soap", "Soap, blue"))
+    window.new_only.set_active(True)
+    camera.until(lambda: window.has_labels)
+    camera.shot("new-only")
+    window.new_only.set_active(False)
+    camera.until(lambda: window.has_labels)
 
 
 def show_printers(camera: Camera) -> None:
@@ -214,13 +257,15 @@ def show_printers(camera: Camera) -> None:
     }
     printer, labels = window.of_printers.all["laser"], window.made.labels
     ask = window.ways.printing.ask
-    camera.while_shown("dialog", window.printing, lambda: ask(printer, labels, options))
-    camera.while_shown("adding", window.adding, window.of_printers.add)
+    camera.while_asked("dialog", lambda: ask(printer, labels, options))
+    camera.while_asked("adding", window.of_printers.add)
     rows = window.ways.printing.rows
-    camera.while_shown("rows", window.choosing, lambda: rows.choose(labels, "2-4, 9"))
+    camera.while_asked("rows", lambda: rows.choose(labels, "2-4, 9"))
+    camera.while_asked("naming", window.presets.ask)
     window.stock.grab_focus()
     window.stock.set_text("Avery L71")
     window.completion.complete()
+    camera.settle(2)
     camera.shot("sheets")
     window.stock.set_text("Avery L7160")
     window.print_button.grab_focus()
@@ -230,32 +275,51 @@ def show_printers(camera: Camera) -> None:
 def show_events(camera: Camera) -> None:
     """Pictures of what happens to labels."""
     from labeltools.common.text import Text
-    from labeltools.sending.cups import JobState, REASONS, SentJob
-    from labeltools.sending.sender import Unfinished
+    from labeltools.sending.cups import JobState, REASONS, SentJob, trouble_of
     from labeltools.window.ways import event_of
 
     window = camera.window
-    job = SentJob("HP LaserJet 400", 12)
-    trouble = Text("{}: {}", job.queue, REASONS["media-empty"].what)
+    job = SentJob("laser", 12)
     for name, state in (
         ("printed", JobState(Text(""), "", True, True)),
-        ("waiting", JobState(trouble, "", False, is_waiting=True)),
+        ("no-paper", waiting_for(job, REASONS["media-empty"])),
+        ("offline", waiting_for(job, REASONS["offline"])),
+        ("paused", waiting_for(job, trouble_of("laser", {"printer-state-reasons": ["paused"]}))),
+        ("cancelled", JobState(Text("job {} was cancelled", 12), "", True)),
+        ("given-up", JobState(Text("the printer gave up job {}", 12), "", True)),
     ):
-        event = event_of(job, 49, state)
-        if event is not None:
-            window.events.show(event)
+        window.events.hide()
+        window.events.show(event_of(job, 49, state, "HP LaserJet 400"))
         camera.shot(name)
-    window.of_printers.choose("tcp://192.168.1.40")
+    zebra = camera.zebra
+    window.of_printers.choose(zebra.name)
     camera.until(lambda: window.has_labels)
     camera.shot("roll")
+    labels = window.made.labels
+    camera.while_asked("roll-dialog", lambda: window.ways.ask_direct(window.of_printers.chosen))
     show_progress(camera)
-    broken = Unfinished(Text("{}: the printer broke off", "Zebra ZD421"))
-    broken.printer, broken.done = "tcp://192.168.1.40", 46
-    window.ways.sending = window.made.labels, True
-    window.show_problem(broken)
+    window.ways.send_to("tcp://127.0.0.1:9", labels)  # nobody listens there
+    camera.until(lambda: window.bar.get_visible())
+    camera.shot("silent")
+    window.events.hide()
+    window.ways.send_to(zebra.name, labels)
+    camera.until(lambda: window.bar.get_visible())
     camera.shot("failed")
-    window.history_button.set_active(True)
-    camera.shot("happened")
+    camera.while_asked("in-doubt", window.events.act)
+    design = support.TOP / "designs/shelf-60x40.svg"
+    window.take({"design": str(design)})
+    camera.until(lambda: window.has_labels)
+    camera.shot("own-design")
+    camera.while_popped("happened", window.history_button)
+
+
+def waiting_for(job: Any, trouble: Any) -> Any:
+    """The state of a job whose queue is in trouble."""
+    from labeltools.common.text import Text
+    from labeltools.sending.cups import JobState
+
+    what = Text("{}: {}", job.queue, trouble.what)
+    return JobState(what, "", False, is_waiting=True, cure=trouble.cure)
 
 
 def show_progress(camera: Camera) -> None:
@@ -277,12 +341,15 @@ def draw(options: argparse.Namespace) -> None:
     """Draws all, where there is a screen."""
     sys.path.insert(0, str(support.TOOLS))
     width, _, height = options.size.partition("x")
-    found = mock.patch("labeltools.window.printers.found_printers", lambda: ([*made_up()], "laser"))
+    zebra = TestPrinter(within=17).start()  # which breaks off once
+    shown = [*made_up(zebra.name)], "laser"
+    found = mock.patch("labeltools.window.printers.found_printers", return_value=shown)
     from labeltools.sending.cups import Queue
 
     queue = mock.patch("labeltools.window.printers.queue_of", lambda name: Queue(name, 600, {}))
     with found, queue:
         camera = Camera(Path(options.folder), (int(width), int(height)), options.large)
+        camera.zebra = zebra
         camera.until(lambda: camera.window.of_printers.wanted)
         for show in (show_tables, show_printers, show_events):
             show(camera)
@@ -315,6 +382,7 @@ def main() -> None:
             "DISPLAY": f":{number}",
             "GDK_BACKEND": "x11",
             "NO_AT_BRIDGE": "1",
+            "GSETTINGS_BACKEND": "memory",
             "XDG_CONFIG_HOME": home,
             "XDG_DATA_HOME": home,
             "DBUS_SESSION_BUS_ADDRESS": "disabled:",

@@ -6,8 +6,8 @@ import re
 import struct
 import zlib
 from binascii import Error, unhexlify
+from functools import lru_cache
 
-from labeltools.common.cache import Kept
 from labeltools.common.text import Text
 from labeltools.paper.picture import Picture, rows_reader
 
@@ -37,6 +37,7 @@ LINES_AND_CUT = b"\x1bd\x03\x1dV\x42\x00"
 RESET = b"\x1b@"
 PNG_HEAD = b"\x89PNG\r\n\x1a\n"
 INVERTED = bytes(range(255, -1, -1))
+KNOWN = 256  # fields that are kept: many labels have the same price
 Printed = tuple[Picture, int]  # a page in dots, and how often it is printed
 
 
@@ -125,7 +126,7 @@ def dots_of_zpl(data: bytes, _: int) -> Printed:
     while field := ZPL_FIELD.match(data, at):
         left, top, length, again, size = map(int, field.groups())
         end = data.index(FIELD_END[0], field.end())
-        dots = FIELDS.get((data[field.end() : end], size), rows_of_field)
+        dots = rows_of_field(data[field.end() : end], size)
         left, rest = divmod(left, 8)
         right, bottom = left + size, top + length // size
         if rest or right > stride or bottom > height:
@@ -165,14 +166,14 @@ def put(page: bytearray, place: slice, dots: bytes, size: int, is_beside: bool) 
     page[start : start + len(rows)] = rows
 
 
-def rows_of_field(field: tuple[bytes, int]) -> bytes:
+@lru_cache(KNOWN)
+def rows_of_field(text: bytes, size: int) -> bytes:
     """Returns the rows of a graphic field, of some bytes each, one behind another; raises
     `NotDecoded`.
 
-    >>> rows_of_field((b"FM0:12345678", 4)).hex(" ", 4)
+    >>> rows_of_field(b"FM0:12345678", 4).hex(" ", 4)
     'f0000000 f0000000 12345678'
     """
-    text, size = field
     parts = AGAIN.split(text)
     digits = parts[::2]
     try:
@@ -207,7 +208,6 @@ def of_length(data: bytes, length: int) -> bytes:
     return data
 
 
-FIELDS: Kept[tuple[bytes, int], bytes] = Kept(1024)
 DECODERS = {
     "pbm": dots_of_pbm,
     "png": dots_of_png,

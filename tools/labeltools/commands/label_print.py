@@ -42,7 +42,8 @@ USAGE = """label-print --stock NAME [OPTIONS] [LINES]
        label-print --columns N --rows N --cell WxH [OPTIONS] [LINES]
        label-print --list-stock [WORD]"""
 ABOUT = """Prints the lines of label-table, or of labels(1), on sheets of labels, on label
-printers and on receipt printers. Lengths are in millimetres."""
+printers and on receipt printers. Lengths are in millimetres. Defaults are in
+parentheses."""
 EXAMPLES = """examples:
   label-print --stock 'Avery L7160' articles.lines > sheet.pdf
   label-print --paper 60x40 --dpi 203 --to zpl --print tcp://HOST articles.lines
@@ -165,7 +166,7 @@ def add_size_options(group: Any) -> None:
     one = group.add_mutually_exclusive_group()
     flag(one, "--turn", "turn", "turn labels a quarter to the right (default: if more fit)")
     flag(one, "--no-turn", "turn", "never turn labels", False)
-    module = "the narrowest bar, or a square of QR (what fits best)"
+    module = "the width of the narrowest bar, or of a square of QR (what fits best)"
     value(group, "--module", "MM", reads("38.1", 0.0001), module)
     value(group, "--note", "TEXT", str, "a line of text for all labels, such as a date")
     value(group, "--font", "NAME", str, "the font of titles, texts and prices (DejaVu Sans)")
@@ -176,8 +177,8 @@ def add_choice_options(group: Any) -> None:
     value(group, "--first", "N", COUNT, "begin at this cell of the first page (1)")
     only = "print only these rows of the table, such as 2,7-9, or 7- for all from 7 on"
     value(group, "--only", "ROWS", rows, only, dest="rows_only")
-    code = "print the label with this code, or those of @FILE, a code on each line; with --only, "
-    code += "what either names"
+    code = "print the label with this code, or with a code of @FILE, which has one on each line; "
+    code += "with --only, all labels that either of the two names"
     value(group, "--only-code", "CODE", not_empty, code, action="append", dest="codes", default=[])
     after = reads("9", 0, int, 7)  # as many as one run takes
     value(group, "--after", "N", after, "skip this many labels, which are on paper already (0)")

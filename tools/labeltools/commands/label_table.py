@@ -22,23 +22,26 @@ from labeltools.common.messages import (
 )
 from labeltools.common.process import CommandTalk, read_input, standard_output
 from labeltools.common.report import listed
-from labeltools.common.text import joined, NOTHING, remedies_of, Text
+from labeltools.common.text import either, joined, NOTHING, remedies_of, Remedy, Text
 from labeltools.lines.file import LinesFile, read_lines
 from labeltools.lines.symbologies import EAN13, SYMBOLOGIES
 from labeltools.sheets.file_options import FileOptions
 from labeltools.sheets.number_format import date_section
-from labeltools.tables.codes import AUTO, CodeRules, NAMES
+from labeltools.tables.codes import AUTO, CodeRules, HAS_DIGIT, kind_remedy, NAMES, NO_ZEROS
 from labeltools.tables.columns import column_word
 from labeltools.tables.guess import Guess, guess_of
+from labeltools.tables.old_encoding import old_encoding
 from labeltools.tables.prices import PricePattern
+from labeltools.tables.summary import summary
 from labeltools.tables.table import lines_of_table
 from labeltools.tables.table_options import Columns, PriceRules, TableOptions
 
 TOOL = "label-table"
 USAGE = "label-table --code COLUMN [OPTIONS] [TABLE]"
-ABOUT = """Writes the lines of labels(1), and what belongs to each label, from a table:
-CSV, .xlsx or .ods. A row that cannot become the right line is skipped, with a
-message and status 1. A COLUMN is its name, or its number from 1."""
+ABOUT = """Reads a table: CSV, .xlsx or .ods. Writes a line for each label, with its title
+and price; labels(1) can draw these lines. A row whose label would be wrong is
+skipped, with a message and status 1. For COLUMN give its name, or its number
+from 1."""
 EXAMPLES = """examples:
   label-table --code EAN --title Name --price Price articles.xlsx > articles.lines
   label-table --code Place --symbology code128 racks.csv > racks.lines
@@ -52,6 +55,16 @@ MOST_PROPOSED = 3  # commands
 MOST_NAMED = 8  # columns of which one is meant
 OF_KINDS = {"code": Text("the code"), "title": Text("the title"), "price": Text("the price")}
 MOST_ALIKE = 50  # messages about rows that differ in their cells alone
+AS_IN_TABLE = Remedy("price-as", says=Text("As in the table"), is_less=True)
+NOT_TOGETHER = Text(
+    "--fill-zeros, --without-check-digit and --symbology code128 or qr do not go together"
+).in_window(Text("lost zeros, codes without a check digit, and Code 128 or QR do not go together"))
+AS_TEXT_AND_PATTERN = Text("--price-text and --price-as do not go together").in_window(
+    Text("prices that may be any text cannot be given another look")
+)
+NO_PRICES = Text("--price-as needs --price, --unit-price or --old-price").in_window(
+    Text("there are no prices to be given another look")
+)
 Read = TypeVar("Read")
 
 
@@ -88,8 +101,8 @@ def table_parser() -> Parser:
     parser = Parser(TOOL, USAGE, ABOUT, EXAMPLES)
     table = "the table; standard input if it is not given, or is -"
     parser.add_argument("table", metavar="TABLE", nargs="?", help=table)
-    summary = "report at the end how many labels there are, and which prices"
-    flag(parser, "--summary", "is_summed", summary)
+    counts = "report at the end how many labels there are, and which prices"
+    flag(parser, "--summary", "is_summed", counts)
     add_column_options(parser.add_argument_group("columns"))
     add_row_options(parser.add_argument_group("rows"))
     add_code_options(parser.add_argument_group("codes"))
@@ -113,7 +126,7 @@ def add_column_options(group: Any) -> None:
     value(group, "--currency", "COLUMN", str, "the column of the currency of the prices")
     copies = "the column of the number of labels, 0 to 9999"
     value(group, "--copies", "COLUMN", str, copies)
-    variants = "rows with the same value there have the title of the first one"
+    variants = "rows with the same value in it get the title of the first of them"
     value(group, "--variants-of", "COLUMN", str, variants)
 
 
@@ -121,7 +134,7 @@ def add_row_options(group: Any) -> None:
     """Adds the options of which rows become lines."""
     where = "use only rows that have this value; may be repeated"
     value(group, "--where", "COLUMN=VALUE", condition, where, action="append", default=[])
-    since = "use only what is new or has changed since these lines"
+    since = "use only what is new or has changed since this file of lines was made"
     value(group, "--new-since", "LINES", str, since)
     flag(group, "--hidden", "hidden", "use hidden rows too")
 
@@ -138,7 +151,7 @@ def add_code_options(group: Any) -> None:
     flag(group, "--without-check-digit", "without_check_digit", without)
     zeros = "accept numbers that end in many zeros, which look rounded"
     flag(group, "--allow-zeros", "allow_zeros", zeros)
-    flag(group, "--links", "links", "draw the address of the link in the cell of a code")
+    flag(group, "--links", "links", "if the cell of a code is a link, draw its address")
 
 
 def add_price_options(group: Any) -> None:
@@ -156,9 +169,9 @@ def add_file_options(group: Any) -> None:
     """Adds the options of how the file is read."""
     sheet = "the sheet of .xlsx or .ods [default: the visible one with data]"
     value(group, "--sheet", "NAME", str, sheet)
-    between = "the character between cells of CSV, tab, or none for one column"
+    between = "the character between cells of CSV; or the word tab, or none for a single column"
     value(group, "--delimiter", "C", delimiter, between)
-    encoding = "the encoding of CSV [default: UTF-8, or by its mark]"
+    encoding = "the encoding of CSV [default: UTF-8, or as its byte order mark says]"
     value(group, "--encoding", "NAME", str, encoding)
     one = group.add_mutually_exclusive_group()
     flag(one, "--header", "has_header", "row 1 has the names of the columns")
@@ -268,25 +281,33 @@ def check(parser: Parser, arguments: argparse.Namespace) -> None:
     """Raises `BadArguments` for arguments that are wrong, or do not go together."""
     rules = made(CodeRules, arguments)
     is_free = rules.is_free and arguments.symbology_column is None
-    if rules.fill_zeros + rules.without_check_digit + is_free > 1:
-        parser.error(
-            Text(
-                "--fill-zeros, --without-check-digit and --symbology code128 or qr do not go"
-                " together"
-            )
+    given = [
+        remedy
+        for is_given, remedy in (
+            (rules.fill_zeros, NO_ZEROS),
+            (rules.without_check_digit, HAS_DIGIT),
+            (is_free, replace(kind_remedy(AUTO), value=rules.symbology, is_less=True)),
         )
+        if is_given
+    ]
+    refuse_together(len(given) > 1, NOT_TOGETHER, given)
     if arguments.variants_of and not arguments.title:
         parser.error(Text("--variants-of needs --title"))
-    if arguments.price_text and arguments.price_as:
-        parser.error(Text("--price-text and --price-as do not go together"))
+    given = [Remedy("price-text", says=Text("Every price is a number"), is_less=True), AS_IN_TABLE]
+    refuse_together(arguments.price_text and arguments.price_as, AS_TEXT_AND_PATTERN, given)
     is_priced = arguments.price or arguments.unit_price or arguments.old_price
-    if arguments.price_as and not is_priced:
-        parser.error(Text("--price-as needs --price, --unit-price or --old-price"))
+    refuse_together(arguments.price_as and not is_priced, NO_PRICES, [AS_IN_TABLE])
     if arguments.symbology_column is None:
         one = SYMBOLOGIES[EAN13.name if rules.symbology == AUTO else rules.symbology]
         wrong = TableOptions(settings=arguments.settings or "").wrong_setting(one.name)
         if wrong:
             parser.error(Text("{} has no setting {}", one.title, wrong))
+
+
+def refuse_together(is_wrong: object, what: Text, given: Sequence[Remedy]) -> None:
+    """Raises `BadArguments` where arguments do not go together: one of those given may go."""
+    if is_wrong:
+        raise BadArguments(what, Text("leave out {}", either(given)).in_window(NOTHING))
 
 
 def proposed(words: Sequence[str], arguments: argparse.Namespace) -> Text:
@@ -297,6 +318,11 @@ def proposed(words: Sequence[str], arguments: argparse.Namespace) -> Text:
         return NOTHING
     name, data = read_input(arguments.table)
     options = TableOptions(file=made(FileOptions, arguments))
+    old = None if arguments.encoding else old_encoding(data, name, options)
+    if old:
+        write_message(TOOL, sentence(old.text, old.hint))
+        words = ["--encoding", old.name, *words]
+        options = replace(options, file=replace(options.file, encoding=old.name))
     sheet, guess = guess_of_sheets(data, name, options)
     if sheet:
         words = ["--sheet", sheet, *words]
@@ -313,7 +339,11 @@ def proposed(words: Sequence[str], arguments: argparse.Namespace) -> Text:
             name = column_word(guess.names, at)
             said.append(Text("most codes in {} are not EAN or UPC: {}", name, ways.problem))
     for kind, places in guess.doubts.items():
-        if len(places) > 1 or kind != "code":
+        if (
+            len(places) > 1
+            or kind != "code"
+            or not any(one.problem for one in guess.codes.values())
+        ):
             said.append(Text("--{} may be {}", kind, words_for(guess, places)))
     tried = Text("try {}", joined(", ", commands[:MOST_PROPOSED]))
     return joined("; ", [*said, tried]) if commands else NOTHING
@@ -366,6 +396,8 @@ def command_for(
         for option in ("code", "title", "price", "copies")
         if option in columns and not getattr(arguments, option)
     }
+    if "title" in options and "title" in guess.beside:
+        options["title"] = [options["title"], column_word(guess.names, guess.beside["title"])]
     options |= more_options(guess, arguments)
     options["symbology"] = rules.symbology if rules.is_free else ""
     options["fill-zeros"] = rules.fill_zeros
@@ -414,6 +446,6 @@ def run() -> int:
     lines = lines_of_table(data, name, options, talk)
     talk.finish()
     if arguments.is_summed or sys.stderr.isatty():
-        talk.say(lines.summary)
+        talk.say(summary(lines.totals))
     output.write(lines.output)
     return 1 if lines.left_out else 0

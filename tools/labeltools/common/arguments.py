@@ -58,15 +58,24 @@ def wrong_argument(what: Text) -> argparse.ArgumentTypeError:
 
 def words_of(options: Mapping[str, Any]) -> list[str]:
     """Returns the words of a command for options by their names; those without a value are left
-    out.
+    out, one with several is repeated.
 
-    >>> words_of({"code": "2", "title": "", "header-row": 3.0, "hidden": True})
-    ['--code', '2', '--header-row', '3', '--hidden']
+    >>> words_of({"code": "2", "text": "", "header-row": 3.0, "hidden": True, "sheet": "-1"})
+    ['--code', '2', '--header-row', '3', '--hidden', '--sheet=-1']
+    >>> words_of({"title": ["A", "B"]})
+    ['--title', 'A', '--title', 'B']
     """
     found = []
     for name, value in options.items():
         if value is True:
             found.append(f"--{name}")
+        elif isinstance(value, list):
+            found += [word for one in value for word in (f"--{name}", one)]
         elif value:
-            found += [f"--{name}", value if isinstance(value, str) else f"{value:g}"]
+            found += option_of(name, value if isinstance(value, str) else f"{value:g}")
     return found
+
+
+def option_of(name: str, value: str) -> list[str]:
+    """Returns the words of an option with its value, which may begin like another option."""
+    return [f"--{name}={value}"] if value.startswith("-") else [f"--{name}", value]

@@ -5,7 +5,7 @@ writes a message.
 import sys
 import unicodedata
 from contextlib import suppress
-from typing import NamedTuple, Protocol
+from typing import NamedTuple
 
 from labeltools.common.text import joined, NOTHING, Text, translated
 
@@ -14,6 +14,10 @@ FAULT = Text("this is a fault of label-print: nothing of it was sent; report it"
 MOST_LETTERS = 40  # of a cell that a message quotes
 # the classes of characters in Unicode that change what a terminal shows, or that cut a message
 UNSEEN = ("Cc", "Cf", "Cs", "Zl", "Zp")
+OF_SYSTEM = {
+    FileNotFoundError: Text("is its name right?"),
+    PermissionError: Text("may you read and write there?"),
+}
 NAMES = {
     " ": Text("a space"),
     "\t": Text("a tab"),
@@ -77,7 +81,7 @@ class Origin(NamedTuple):
         return Text("row {}", self.number) if self.unit == "row" else Text("line {}", self.number)
 
 
-class Talk(Protocol):
+class Talk:
     """Who is told while work goes on. A command writes what it is told on standard error, a window
     shows it.
     """
@@ -96,17 +100,8 @@ class Talk(Protocol):
         """
 
 
-class Silence:
+class Silence(Talk):
     """A talk to nobody."""
-
-    def note(self, origin: Origin, cell: str, reason: Text, hint: Text) -> None:
-        """Does nothing."""
-
-    def say(self, text: Text, hint: Text = NOTHING) -> None:
-        """Does nothing."""
-
-    def go_on(self, done: int, total: int) -> None:
-        """Does nothing."""
 
 
 def write_message(tool: str, message: Text) -> None:
@@ -119,9 +114,8 @@ def write_message(tool: str, message: Text) -> None:
 
 def of_system(error: OSError) -> ToolError:
     """Returns what the system says as an error of a tool."""
-    return ToolError(
-        Text("{}: {}", error.filename or Text("standard output"), error.strerror or error)
-    )
+    what = Text("{}: {}", error.filename or Text("standard output"), error.strerror or error)
+    return ToolError(what, OF_SYSTEM.get(type(error), NOTHING))
 
 
 def sentence(what: Text, hint: Text) -> Text:

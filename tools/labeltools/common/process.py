@@ -15,6 +15,7 @@ from labeltools.common.messages import (
     of_system,
     Origin,
     sentence,
+    Talk,
     ToolError,
     visible,
     write_message,
@@ -29,7 +30,7 @@ ENDING = (signal.SIGHUP, signal.SIGINT, signal.SIGTERM)
 HELD: list[list[int]] = []  # the signals that came while they are held back, where they are
 
 
-class CommandTalk:
+class CommandTalk(Talk):
     """The talk of a command: what it is told is written on standard error."""
 
     def __init__(self, tool: str) -> None:
@@ -71,7 +72,9 @@ def read_input(path: str | None) -> tuple[str, bytes]:
     name = Text("standard input") if is_standard else str(path)
     data = sys.stdin.buffer.read() if is_standard else Path(str(path)).read_bytes()
     if not data:
-        raise ToolError(Text("{} is empty: nothing is printed", name))
+        hint = Text("did the command that wrote it report an error?")
+        hint = hint.in_window(Text("is it the right file?"))
+        raise ToolError(Text("{} is empty: nothing is printed", name), hint)
     return name, data
 
 

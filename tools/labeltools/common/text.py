@@ -3,6 +3,7 @@
 xgettext finds them: `--keyword=Text --keyword=counted:1,2`.
 """
 
+import re
 import shlex
 from dataclasses import dataclass
 from typing import Iterable, Iterator
@@ -89,11 +90,14 @@ class Remedy:
 
     @property
     def words(self) -> tuple[str, ...]:
-        """The words of a command."""
+        """The words of a command; a value like `-2` would be another option, but for a sign."""
+        if self.value.startswith("-"):
+            return (f"--{self.option}={self.value}",)
         return (f"--{self.option}", self.value) if self.value else (f"--{self.option}",)
 
     def __str__(self) -> str:
-        return f"--{self.option} {self:value}" if self.value else f"--{self.option}"
+        sign = "=" if self.value.startswith("-") else " "
+        return f"--{self.option}{sign}{self:value}" if self.value else f"--{self.option}"
 
     def __format__(self, form: str) -> str:
         if form != "value":
@@ -174,6 +178,30 @@ def translated(text: object) -> str:
     else:
         template = one_text(text.template)
     return template.format(*map(shown_field, text.fields))
+
+
+def whole(text: Text) -> str:
+    """Returns a text in the language of the user as a sentence of its own: it begins with a
+    capital, unless a name or a number is there, and has an end.
+
+    >>> whole(Text("row {} has no price", 2)), whole(Text("{}: {}", "a.csv", Text("is it one?")))
+    ('Row 2 has no price.', 'a.csv: is it one?')
+    """
+    shown = translated(text)
+    if begins_with_word(text):
+        shown = shown[:1].upper() + shown[1:]
+    return shown if shown[-1:] in (*".?!", "") else f"{shown}."
+
+
+def begins_with_word(text: object) -> bool:
+    """Returns whether a text begins with a word of its own in the language of the user."""
+    if not isinstance(text, Text) or not text:
+        return False
+    first = re.match(
+        r"\{([0-9]*)",
+        ngettext(text.template, text.many, 2) if text.many else one_text(text.template),
+    )
+    return begins_with_word(text.fields[int(first[1] or 0)]) if first else True
 
 
 def shown_field(field: object) -> object:

@@ -2,17 +2,30 @@
 
 from pathlib import Path
 
+Lists = dict[str, list[str]]
 
-def lists_of(path: Path) -> dict[str, list[str]]:
-    """Returns the lists of a file by their names. A line is `name: word word ..`, and goes on in
-    lines that begin with a space; one that is empty, or begins with `#`, is a remark.
+
+def lists_of(path: Path) -> Lists:
+    """Returns the lists of a file by their names, those of all sections together."""
+    found: Lists = {}
+    for one in lists_by_section(path).values():
+        for name, words in one.items():
+            found.setdefault(name, []).extend(words)
+    return found
+
+
+def lists_by_section(path: Path) -> dict[str, Lists]:
+    """Returns the lists of a file by their sections and names. A line is `name: word word ..`, and
+    goes on in lines that begin with a space; `[section]` begins a section; a line that is empty, or
+    begins with `#`, is a remark.
     """
-    found: dict[str, list[str]] = {}
-    name = ""
+    found: dict[str, Lists] = {}
+    section, name = "", ""
     for line in path.read_text(encoding="utf-8").splitlines():
-        if not line or line.startswith("#"):
-            continue
-        if not line.startswith(" "):
-            name, _, line = line.partition(": ")
-        found.setdefault(name, []).extend(line.split())
+        if line.startswith("["):
+            section = line.strip("[]")
+        elif line and not line.startswith("#"):
+            if not line.startswith(" "):
+                name, _, line = line.partition(": ")
+            found.setdefault(section, {}).setdefault(name, []).extend(line.split())
     return found

@@ -6,6 +6,7 @@ from typing import Any
 
 import cairo
 
+from labeltools.designs.design import Below
 from labeltools.designs.places import Place
 from labeltools.designs.svg_design import lightness, SvgDesign
 from labeltools.designs.svg_layout import svg_layout
@@ -16,7 +17,7 @@ from labeltools.paper.plan import Dots, MILLIMETRES, POINTS
 UPRIGHT = cairo.Matrix()
 
 
-class Background:
+class Background(Below):
     """The drawing of a design on a medium."""
 
     def __init__(self, design: SvgDesign, medium: Medium) -> None:

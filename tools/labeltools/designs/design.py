@@ -42,14 +42,15 @@ class Setting(NamedTuple):
     empty: frozenset[str] = frozenset()
 
 
-class Below(Protocol):
-    """What is below the symbols and texts of labels on a medium."""
+class Below:
+    """What is below the symbols and texts of labels on a medium: nothing, or a drawing."""
 
     def draw(self, canvas: Any, page: Page) -> None:
         """Draws it for the labels of a page."""
 
     def is_tinted(self, place: Place) -> bool:
         """Returns whether dots of a tint are drawn in a place."""
+        return False
 
 
 class Design(Protocol):
@@ -69,7 +70,7 @@ class Design(Protocol):
         """Returns the symbols of a label, which has the whole of an area."""
 
     def texts(self, item: LaidOut, fitter: Fitter, below: Below) -> Iterator[Placed]:
-        """Yields the texts of a label, each of which is drawn before the next one is fitted."""
+        """Yields the texts of a label as they fit their boxes."""
 
     def cut_texts(self, item: LaidOut, fitter: Fitter) -> Iterator[tuple[str, Style, int, int]]:
         """Yields the texts of a label that may be cut, with their room."""

@@ -10,7 +10,6 @@ from functools import cache
 from statistics import median_high
 from typing import NamedTuple
 
-from labeltools.common.cache import Found
 from labeltools.common.messages import quoted, ToolError
 from labeltools.common.text import Text
 from labeltools.designs.places import Place
@@ -68,7 +67,7 @@ class Room:
         self.wide, self.high = place.as_read(box)
         self.sign = cache(self.new_sign)
         self.largest = cache(self.new_largest)
-        self.texts: Found[str, PlacedText] = Found(self.new_text)
+        self.text = cache(self.new_text)
         signs = [self.sign(line) for line in {one for text in counts for one in text.split("\n")}]
         if max(sign.bottom - sign.top for sign in signs) < LOW:
             signs.append(self.sign(LETTER))

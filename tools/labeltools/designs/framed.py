@@ -2,30 +2,18 @@
 
 import math
 from functools import cache
-from typing import Any, Iterator, Mapping, Sequence
+from typing import Iterator, Mapping, Sequence
 
 from labeltools.common.messages import Talk
 from labeltools.designs.design import Below, CODE, NO_BOX, PlacedSymbol, Setting
-from labeltools.designs.places import Place
 from labeltools.layout.fitting import Fitter, LEFT, MIDDLE, Placed, RIGHT, Style
 from labeltools.layout.frame import LINE
-from labeltools.layout.layout import LaidOut, LaidOutFile, lay_out, Layout, Page, PrintLabel
+from labeltools.layout.layout import LaidOut, LaidOutFile, lay_out, Layout, PrintLabel
 from labeltools.layout.medium import Medium
 from labeltools.paper.box import Box
 
 BETWEEN = "   "  # old price and unit price on one line
 WITHOUT_END = 1 << 20  # dots: the height of a text of which all lines are wanted
-
-
-class Nothing:
-    """Nothing is below the labels of a built-in design."""
-
-    def draw(self, canvas: Any, page: Page) -> None:
-        """Draws nothing."""
-
-    def is_tinted(self, place: Place) -> bool:
-        """Returns that it is not."""
-        return False
 
 
 class FramedDesign:
@@ -41,7 +29,7 @@ class FramedDesign:
 
     def below(self, medium: Medium) -> Below:
         """Returns that nothing is below."""
-        return Nothing()
+        return Below()
 
     def symbols(self, item: LaidOut, area: Box = NO_BOX) -> Sequence[PlacedSymbol]:
         """Returns the one symbol of a label, in its whole area."""
@@ -50,7 +38,7 @@ class FramedDesign:
         return [PlacedSymbol(CODE, area, *how)]
 
     def texts(self, item: LaidOut, fitter: Fitter, below: Below) -> Iterator[Placed]:
-        """Yields the texts of a label, each of which is drawn before the next one is fitted."""
+        """Yields the texts of a label as they fit their boxes."""
         label = item.label
         layout = item.layout
         boxes = layout.boxes

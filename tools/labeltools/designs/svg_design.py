@@ -234,7 +234,8 @@ def marked_places(page: SvgPage) -> list[Place]:
             rect.set("id", f"place-{len(found)}")
             found.append(place)
     if len(found) > MOST_PLACES:
-        raise ToolError(Text("{} has more than {} places", page.file, MOST_PLACES))
+        hint = Text("remove the names of rectangles that are no places")
+        raise ToolError(Text("{} has more than {} places", page.file, MOST_PLACES), hint)
     if not any(place.part == "code" for place in found):
         hint = Text("name a rectangle code: in Inkscape by its label, which plain SVG loses")
         raise ToolError(Text("{} has no rectangle for the code", page.file), hint)

@@ -45,15 +45,15 @@ class SvgLabels:
         return svg_layout(item).symbols
 
     def texts(self, item: LaidOut, fitter: Fitter, below: Below) -> Iterator[Placed]:
-        """Yields the texts of a label, each of which is drawn before the next one is fitted."""
+        """Yields the texts of a label as they fit their boxes."""
         layout = svg_layout(item)
         colours = self.colours(layout.absent) if layout.absent else {}
         for place, text, box, style in layout.texts:
             colour = colours.get(place, place.colour) or BLACK
             is_black = colour == BLACK
             is_edged = is_black and below.is_tinted(place)
-            fit = fitter.by_pango if is_edged else fitter.found
-            fitted = fit(text, style, *place.as_read(box))
+            how = text, style, *place.as_read(box)
+            fitted = fitter.by_pango(*how) if is_edged else fitter.found(*how)
             shown = None if is_black else off_white(colour)
             yield Placed(fitted, style, box, place.quarters, shown, is_edged)
 

@@ -9,7 +9,6 @@ from functools import cache, lru_cache
 from itertools import combinations, compress, repeat
 from typing import Iterator, Mapping, NamedTuple, Sequence
 
-from labeltools.common.cache import Found
 from labeltools.common.messages import sentence, Talk, ToolError
 from labeltools.common.text import Remedy, Text
 from labeltools.designs.design import PlacedSymbol
@@ -22,6 +21,7 @@ from labeltools.layout.layout import ASKED, LaidOut, LaidOutFile, Layout, PrintL
 from labeltools.layout.letters import Letters
 from labeltools.lines.engine import drawn, Modules
 from labeltools.lines.file import symbology_and_data
+from labeltools.lines.reasons import hint_of
 from labeltools.lines.symbologies import SYMBOLOGIES, Symbology
 from labeltools.paper.box import Box
 from labeltools.paper.plan import TINY
@@ -169,12 +169,11 @@ class SvgLayouts:
     def rooms(self, rows: Sequence[Sequence[str]]) -> dict[Place, Room]:
         """Returns the rooms of texts."""
         rooms = {}
-        letters = Found(Letters)
-        letters[""] = self.letters
+        letters = cache(lambda font: Letters(font) if font else self.letters)
         for place, texts in zip(self.places, zip(*rows)):
             counts: Counter[str] = Counter(map(short, filter(None, texts)))
             if counts and not place.is_symbol:
-                how = (self.boxes[place], letters[place.font], self.area.dot)
+                how = (self.boxes[place], letters(place.font), self.area.dot)
                 rooms[place] = Room(place, *how, counts)
         return rooms
 
@@ -208,13 +207,13 @@ class SvgLayouts:
             if place in unread:
                 raise NoRoom(mixed_text(self.design.page.file, place.title))
             if place in rooms:
-                texts.append(rooms[place].texts[short(text)])
+                texts.append(rooms[place].text(short(text)))
                 continue
             symbology, modules, data = label.symbology, label.modules, label.record.data
             if place.symbology:
                 second = made[place, text]
                 if isinstance(second, Text):
-                    raise NoRoom(Text("place {}: {}", place.title, second))
+                    raise NoRoom(Text("place {}: {}", place.title, second), hint_of(second))
                 symbology, (modules, data) = SYMBOLOGIES[place.symbology], second
             module, boxes = self.boxes_of(place, symbology.name, modules.width, modules.height)
             how = (data, modules, symbology, module, boxes)

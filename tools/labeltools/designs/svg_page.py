@@ -20,8 +20,8 @@ from typing import Any
 from xml.etree import ElementTree
 from xml.etree.ElementTree import Element
 
-from labeltools.common.messages import ToolError
-from labeltools.common.text import Remedy, Text
+from labeltools.common.messages import OF_SYSTEM, ToolError
+from labeltools.common.text import NOTHING, Remedy, Text
 from labeltools.layout.pango import gi_library
 from labeltools.paper.stock import Size
 
@@ -53,6 +53,7 @@ ELEMENTS = frozenset(
 HOLDERS = ("clipPath", "defs", "marker", "mask", "pattern", "symbol")
 PLAIN = Text("export it as a picture, or with texts as paths")
 SMALLER = Text("make its pictures smaller")
+SAVE_AGAIN = Text("save it as SVG once more")
 
 
 @dataclass(frozen=True, eq=False)
@@ -85,7 +86,7 @@ def read_page(file: str) -> SvgPage:
     try:
         root = ElementTree.fromstring(data)
     except (ElementTree.ParseError, LookupError, ValueError) as error:
-        raise ToolError(Text("{} is not SVG: {}", file, error)) from error
+        raise ToolError(Text("{} is not SVG: {}", file, error), SAVE_AGAIN) from error
     if root.tag != f"{SPACE}svg":
         raise ToolError(Text("{} is not SVG", file), Text("it begins with {}", BEGIN))
     check_elements(file, root)
@@ -103,9 +104,10 @@ def data_of(file: str) -> bytes:
             data = zlib.decompressobj(zlib.MAX_WBITS + 16).decompress(data, MOST_BYTES + 1)
     except OSError as error:
         what = Text("{}: {}", Remedy("design", file), error.strerror)
-        raise ToolError(what.in_window(Text("{}: {}", file, error.strerror))) from error
+        what = what.in_window(Text("{}: {}", file, error.strerror))
+        raise ToolError(what, OF_SYSTEM.get(type(error), NOTHING)) from error
     except zlib.error as error:
-        raise ToolError(Text("{} is not SVG: {}", file, error)) from error
+        raise ToolError(Text("{} is not SVG: {}", file, error), SAVE_AGAIN) from error
     if len(data) > MOST_BYTES:
         raise ToolError(Text("{} has more than {} MB", file, MOST_BYTES // 1_000_000), SMALLER)
     return data
@@ -219,5 +221,5 @@ def handle_of(file: str, data: bytes, sheet: str = "") -> Any:
         handle.set_dpi(DPI)
         handle.set_stylesheet(sheet.encode())
     except gi_library("GLib", "2.0").Error as error:
-        raise ToolError(Text("{} is not SVG: {}", file, error.message)) from error
+        raise ToolError(Text("{} is not SVG: {}", file, error.message), SAVE_AGAIN) from error
     return handle

@@ -34,14 +34,15 @@ def drawn_page(size: Dots, pen: Pen, page: Page, turn: int = 0) -> Picture:
 def drawn_surface(size: Dots, pen: Pen, page: Page, turn: int = 0) -> cairo.ImageSurface:
     """Returns a page of labels as a surface with a bit for each dot; raises as `drawn_page`."""
     width, height = size
+    hint = Text("give a smaller page, or a lower {}", Remedy("dpi"))
+    hint = hint.in_window(Text("choose a smaller page, or fewer dots an inch"))
     if max(size) > MOST_DOTS or width * height > MOST_OF_PAGE:
-        hint = Text("give a smaller page, or a lower {}", Remedy("dpi"))
-        hint = hint.in_window(Text("choose a smaller page, or fewer dots an inch"))
         raise ToolError(Text("{} by {} dots are too many for a page", width, height), hint)
     try:
         surface = cairo.ImageSurface(cairo.FORMAT_A1, width, height)
     except (cairo.Error, MemoryError) as error:
-        raise ToolError(Text("{} by {} dots cannot be drawn: {}", width, height, error)) from error
+        what = Text("{} by {} dots cannot be drawn: {}", width, height, error)
+        raise ToolError(what, hint) from error
     canvas = cairo.Context(surface)
     canvas.set_antialias(cairo.Antialias.NONE)
     pen.draw(canvas, page, turn)

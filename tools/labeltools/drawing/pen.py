@@ -13,10 +13,11 @@ from labeltools.common.text import Text
 from labeltools.designs.design import Design, PlacedSymbol
 from labeltools.designs.svg_design import is_light
 from labeltools.layout.fitting import Fitted, Fitter, MIDDLE, Placed, Style
+from labeltools.layout.glyphs import LINE_END
 from labeltools.layout.layout import LaidOut, Page
 from labeltools.layout.letters import DIGITS_FONT, Letters
-from labeltools.layout.medium import font_options, Medium
-from labeltools.layout.pango import PangoCairo, plain_options
+from labeltools.layout.medium import Medium
+from labeltools.layout.pango import font_options, PangoCairo
 from labeltools.lines.engine import bytes_a_row, LABELS_FAILED, Modules
 from labeltools.lines.symbologies import Span, SYMBOLOGIES, Symbology
 from labeltools.paper.box import Box
@@ -35,7 +36,6 @@ LARGE = 1000  # dots: the size in which digits are measured
 DIGITS = "0123456789"
 EDGE = 4.0  # dots: white around letters on a tint, of which letters cover half
 KNOWN = 1024  # boxes that are kept
-KNOWN_PAGES = 16  # of which the white is kept
 Codes = Sequence[tuple[PlacedSymbol, Dots]]  # symbols, with those of the areas of their labels
 Whites = Sequence[tuple[Sequence[Box], Dots]]  # boxes of labels, with those of their areas
 
@@ -53,17 +53,17 @@ class Pen:
         self.letters = letters
         self.design = design
         self.below = design.below(medium)
-        self.options = font_options(medium)
-        self.fitter = Fitter(letters, self.options, medium.is_dots)
+        self.options = font_options(medium.is_dots)
+        self.fitter = Fitter(letters, medium.is_dots)
         # Cairo keeps a face as it was first used: a name of its own for each medium
         self.digits_face = cairo.ToyFontFace(DIGITS_FONT + " " * medium.is_dots)
-        large = self.digits_font(plain_options(), LARGE)
+        large = self.digits_font(font_options(False), LARGE)
         extents = large.text_extents("0")
         self.digit_width = extents.x_advance / LARGE
         self.digit_height = -extents.y_bearing / LARGE
         self.digits_of_size = cache(self.new_digits)
         self.digit_places = cache(self.new_digit_places)
-        self.recorded_white = lru_cache(KNOWN_PAGES)(self.new_recorded_white)
+        self.recorded_white = cache(self.new_recorded_white)  # Cairo empties one that is let go
 
     def digits_font(self, options: cairo.FontOptions, size: int) -> Any:
         """Returns the font of digits in a size."""
@@ -106,20 +106,20 @@ class Pen:
         canvas.set_matrix(whole)
 
     def texts(self, item: LaidOut) -> Iterator[Placed]:
-        """Yields the texts of a label, each of which is drawn before the next one is fitted."""
+        """Yields the texts of a label as they fit their boxes."""
         return self.design.texts(item, self.fitter, self.below)
 
     def is_shortened(self, item: LaidOut) -> bool:
         """Returns whether a text of a label ends in an ellipsis."""
-        return item.label.is_cut or any(
-            self.fitter.is_cut(*text) for text in self.design.cut_texts(item, self.fitter)
-        )
+        texts = self.design.cut_texts(item, self.fitter)
+        return item.label.is_cut or any(self.fitter.shown(*text) != text[0] for text in texts)
 
     def shown_texts(self, item: LaidOut) -> tuple[str, ...]:
         """Returns the texts of a label that may be cut as they are seen: up to the ellipsis, where
         they have one.
         """
-        return tuple(self.fitter.shown(*text) for text in self.design.cut_texts(item, self.fitter))
+        texts = self.design.cut_texts(item, self.fitter)
+        return tuple(self.fitter.shown(*text).replace(LINE_END, " ") for text in texts)
 
     def draw_digits(self, canvas: Any, symbol: PlacedSymbol, place: Dots, runs: GlyphRuns) -> None:
         """Draws what is below the bars of a symbol of a label whose area begins at a place; digits

@@ -2,12 +2,11 @@
 
 import re
 from binascii import hexlify
-from functools import reduce
+from functools import lru_cache, reduce
 from itertools import repeat
 from operator import ne, or_
 from typing import Iterator, NamedTuple
 
-from labeltools.common.cache import Kept
 from labeltools.paper.picture import Picture, rows_reader
 
 MOST_BYTES = 99_999  # of a graphic field
@@ -26,7 +25,7 @@ RUNS += [(b"F" * count, letter + b"f") for count, letter in DARK.items()]
 COUNTED = bytes.maketrans(b"of", b"0F")
 OFTEN = b"0" * 6, b"F" * 6
 RARELY = 20  # digits to one of these: where there are more, counts save too little
-BLOCKS: Kept[tuple[bytes, int], bytes] = Kept(1024)
+KNOWN = 256  # blocks that are kept: many labels have the same price
 
 
 class Block(NamedTuple):
@@ -59,7 +58,7 @@ def graphic_fields(picture: Picture) -> Iterator[bytes]:
         size = block.right - block.left
         high = MOST_BYTES // size
         for top in range(block.top, block.bottom, high):
-            part = block._replace(top=top, bottom=min(block.bottom, top + high))
+            part = Block(block.left, top, block.right, min(block.bottom, top + high))
             dots = b"".join(block_rows(picture, part))
             head = (8 * block.left, top, len(dots), len(dots), size)
             yield b"^FO%d,%d^GFA,%d,%d,%d,%b^FS\n" % (*head, run_lengths(dots, size))
@@ -89,7 +88,7 @@ def blocks(picture: Picture, block: Block, is_narrow: bool) -> Iterator[Block]:
         if is_split:
             parts = [*INKED_OF_MANY.finditer(inked)]
         for first, last in map(re.Match.span, parts):
-            found = band._replace(left=band.left + first, right=band.left + last)
+            found = Block(band.left + first, band.top, band.left + last, band.bottom)
             if len(parts) == 1:
                 yield found
             else:
@@ -101,9 +100,10 @@ def bands_of(picture: Picture, block: Block) -> Iterator[Block]:
     blank = bytes(block.right - block.left)
     inked = bytes(map(ne, block_rows(picture, block), repeat(blank)))
     for first, last in map(re.Match.span, INKED_ROWS.finditer(inked)):
-        yield block._replace(top=block.top + first, bottom=block.top + last)
+        yield Block(block.left, block.top + first, block.right, block.top + last)
 
 
+@lru_cache(KNOWN)
 def run_lengths(dots: bytes, size: int) -> bytes:
     """Returns rows of some bytes in hexadecimal: `:` for the row above once more, and counts before
     digits that come often.
@@ -111,12 +111,7 @@ def run_lengths(dots: bytes, size: int) -> bytes:
     >>> run_lengths(bytes.fromhex("FF0000 FF0000 000000"), 3)
     b'FFJ0:L0'
     """
-    return BLOCKS.get((dots, size), new_run_lengths)
-
-
-def new_run_lengths(block: tuple[bytes, int]) -> bytes:
-    """Writes rows in run lengths."""
-    rows = hexlify(block[0], b"\n", block[1]).upper().split(b"\n")
+    rows = hexlify(dots, b"\n", size).upper().split(b"\n")
     again = [b":" if row == above else row for above, row in zip([b"", *rows], rows)]
     text = b"\n".join(again)  # no run goes on from a row to the next
     if sum(map(text.count, OFTEN)) * RARELY >= len(text):

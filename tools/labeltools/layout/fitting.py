@@ -1,17 +1,16 @@
 """Fits texts into boxes by Pango, for all designs. Lengths are in dots."""
 
 import re
-from functools import cache
+from functools import cache, lru_cache
 from math import ceil, floor
-from typing import Any, Hashable, Iterator, NamedTuple, Sequence
+from typing import Any, Iterator, NamedTuple, Sequence
 
 import cairo
 
-from labeltools.common.cache import Kept
 from labeltools.layout.frame import LINE
 from labeltools.layout.glyphs import BY_PAIRS, GlyphRow, Glyphs, LINE_END
 from labeltools.layout.letters import Letters
-from labeltools.layout.pango import Pango, pango_context, UNIT
+from labeltools.layout.pango import font_options, new_layout, Pango, pango_context, UNIT
 from labeltools.paper.box import Box
 
 NOT_LATIN = re.compile("[^\0-\u024f]")  # letters that may leave their line
@@ -91,22 +90,19 @@ class Placed(NamedTuple):
 class Fitter:
     """Fits texts."""
 
-    def __init__(self, letters: Letters, options: cairo.FontOptions, is_dots: bool) -> None:
+    def __init__(self, letters: Letters, is_dots: bool) -> None:
         self.letters = letters
         self.is_dots = is_dots
-        self.options = options
-        self.context = pango_context(options, is_dots)
+        self.context = pango_context(is_dots)
         self.blank = cache(self.new_blank)
         self.glyphs = cache(self.new_glyphs)
         self.font = cache(self.new_font)
-        self.kept: Kept[Hashable, Fitted] = Kept(KEPT)
+        self.found = lru_cache(KEPT)(self.new_found)
 
-    def found(self, text: str, style: Style, width: int, height: int) -> Fitted:
-        """Returns a text as it fits a box: smaller where its ink would leave it. A text that comes
-        again is kept as it is fitted.
-        """
-        key = text, style, width, height
-        return self.kept.get(key, lambda _: self.by_glyphs(*key) or self.by_pango(*key), copied)
+    def new_found(self, text: str, style: Style, width: int, height: int) -> Fitted:
+        """Returns a text as it fits a box: smaller where its ink would leave it."""
+        how = text, style, width, height
+        return self.by_glyphs(*how) or self.by_pango(*how)
 
     def by_glyphs(self, text: str, style: Style, width: int, height: int) -> Fitted | None:
         """Returns a text of plain letters; None where Pango has to say it, or another size."""
@@ -165,27 +161,19 @@ class Fitter:
         x, y = corner_of(style._replace(size=size), extents, ink, width, height)
         return Fitted(size, x, y, high, layout)
 
-    def is_cut(self, text: str, style: Style, width: int, height: int) -> bool:
-        """Returns whether a text ends in an ellipsis as it fits a box."""
-        glyphs = self.glyphs(style) if style.lines else None
-        if not style.lines or glyphs and self.rows(glyphs, text, style, width):
-            return False
-        return bool(self.by_pango(text, style, width, height).layout.is_ellipsized())
-
     def shown(self, text: str, style: Style, width: int, height: int) -> str:
         """Returns a text as it is seen in a box: up to the ellipsis, where it has one."""
-        is_cut = self.is_cut(text, style, width, height)
-        seen = seen_in(self.by_pango(text, style, width, height).layout) if is_cut else text
-        return seen.replace(LINE_END, " ")
+        glyphs = self.glyphs(style) if style.lines else None
+        if not style.lines or glyphs and self.rows(glyphs, text, style, width):
+            return text
+        layout = self.by_pango(text, style, width, height).layout
+        return seen_in(layout) if layout.is_ellipsized() else text
 
     def new_blank(self, style: Style, width: int, size: int) -> Any:
         """Returns a layout of Pango without a text, its letters of a size in dots; it has one line
         for a width of less than 0.
         """
-        layout = Pango.Layout.new(self.context)
-        font = Pango.FontDescription(f"{style.family}, {'Bold' * style.is_bold}")
-        font.set_absolute_size(size * UNIT)
-        layout.set_font_description(font)
+        layout = new_layout(self.context, style.family, style.is_bold, size)
         if style.lines and width >= 0:
             layout.set_width((width - size // SIDE * 2) * UNIT)
             layout.set_wrap(Pango.WrapMode.WORD_CHAR)
@@ -207,21 +195,16 @@ class Fitter:
         # Cairo keeps a face as it was first used: in dots these have a name that no other one has
         face = cairo.ToyFontFace(family + "  " * self.is_dots, cairo.FONT_SLANT_NORMAL, weight)
         scale = cairo.Matrix(size, 0, 0, size)
-        font = cairo.ScaledFont(face, scale, cairo.Matrix(), self.options)
+        font = cairo.ScaledFont(face, scale, cairo.Matrix(), font_options(self.is_dots))
         style = Style(family, is_bold, size, int(has_lines), LEFT, 0.0, 0)
         return Glyphs(face, font, self.new_blank(style, -1, size))
 
     def laid_out(self, text: str, style: Style, width: int, size: int) -> Any:
-        """Returns a text in a style and size, until another one is laid out so."""
+        """Returns a text in a style and size."""
         plain = style if style.base is None else style._replace(base=0)
-        layout = self.blank(plain, width if style.lines else 0, size)
+        layout = self.blank(plain, width if style.lines else 0, size).copy()
         layout.set_text(text, -1)
         return layout
-
-
-def copied(text: Fitted) -> Fitted:
-    """Returns a text with a layout of its own, which no other text is laid out by."""
-    return text if text.layout is None else text._replace(layout=text.layout.copy())
 
 
 def corner_of(

@@ -32,8 +32,6 @@ MOST_LETTERS = 1000  # of a line of a text: no paper takes more
 # so many labels have the same need
 ROUNDED = 8
 ROUNDED_PRICE = 32
-LOW_PART = 0.5  # of their width: bars below it may not serve a till that reads in all directions
-ALMOST = 0.97  # bars are a whole number of modules high, so they may be a bit lower
 MOST_HEIGHT = 150  # millimetres: the highest label that a message proposes
 ASKED = 256  # labels between two calls of `go_on`
 NUMBERS = [name for name in Need._fields if name not in ("symbology", "title")]
@@ -91,10 +89,6 @@ class Layout:
         """What differs between layouts."""
         boxes = tuple(self.boxes.items())
         return id(self.frame), self.symbology.name, self.module, self.is_small_price, boxes
-
-    def has_low_bars(self, modules: int) -> bool:
-        """Returns whether bars of so many modules are lower than half their width."""
-        return self.boxes["bars"].height < LOW_PART * modules * self.module * ALMOST
 
 
 @dataclass(frozen=True, slots=True)

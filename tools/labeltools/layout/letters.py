@@ -2,19 +2,19 @@
 
 import re
 import unicodedata
-from functools import lru_cache, partial
-from typing import Any, Iterable, Mapping, NamedTuple, Sequence
+from functools import cache, lru_cache
+from itertools import repeat
+from typing import Iterable, Mapping, NamedTuple, Sequence
 
-import cairo
-
-from labeltools.common.cache import Found
 from labeltools.common.messages import ToolError
 from labeltools.common.text import Text
 from labeltools.layout.frame import Extent
 from labeltools.layout.glyphs import OTHERS
-from labeltools.layout.pango import MEASURED, Pango, pango_context, PangoCairo, plain_options
+from labeltools.layout.pango import new_layout, Pango, pango_context, PangoCairo, UNIT
 
 KEPT = 2048  # words of which the extent is kept
+MEASURED = 200  # dots: the size of letters in which they are measured
+SCALE = MEASURED * UNIT
 MOST_NAMED = 9  # letters that a message names
 SPACED = re.compile("[^ ]+ *| +")
 FONT = "DejaVu Sans"  # of titles, texts and prices
@@ -60,7 +60,7 @@ def extent_of(sign: Sign) -> Extent:
 
 def font_for(family: str) -> str:
     """Returns the font that is there for a wanted one: itself, or what is taken in its place."""
-    context = pango_context(plain_options(), False)
+    context = pango_context(False)
     wanted = Pango.FontDescription(f"{family}, 9")
     found = PangoCairo.FontMap.get_default().load_font(context, wanted)
     return str(found.describe().get_family() or "") if found else ""
@@ -82,45 +82,27 @@ class Letters:
         require_fonts(family, DIGITS_FONT)
         self.family = family
         self.extent = lru_cache(KEPT)(self.new_extent)
-        self.missing_letters = Found(self.is_missing)
-        self.context = pango_context(plain_options(), False)
-        self.layouts = [self.layout(family, is_bold) for is_bold in (False, True)]
-        self.signs = tuple(
-            Found(partial(self.whole_sign, is_bold=is_bold)) for is_bold in (False, True)
-        )
-        self.words = tuple(Found(partial(self.word, is_bold)) for is_bold in (False, True))
-        self.wrapped = self.layout(family, False)
+        self.is_missing = cache(self.is_in_no_font)
+        how = pango_context(False), family
+        self.layouts = [new_layout(*how, is_bold, MEASURED) for is_bold in (False, True)]
+        self.sign = cache(self.whole_sign)
+        self.word = lru_cache(KEPT)(self.new_word)
+        self.wrapped = new_layout(*how, False, MEASURED)
         self.wrapped.set_width(1)  # so that each part of a line is a line
-        blanks = [self.extents(" ", is_bold)[1] for is_bold in (False, True)]
-        self.spaces = [blank.width for blank in blanks]
-        self.heights = [blank.height for blank in blanks]  # of lines
-
-    def layout(self, family: str, is_bold: bool) -> Any:
-        """Returns what lays texts out in the size that is measured."""
-        layout = Pango.Layout.new(self.context)
-        font = Pango.FontDescription(f"{family}, {'Bold' * is_bold}")
-        font.set_absolute_size(MEASURED * Pango.SCALE)
-        layout.set_font_description(font)
-        return layout
+        self.spaces = [self.sign(" ", is_bold).advance for is_bold in (False, True)]
 
     def new_extent(self, text: str, is_bold: bool) -> Extent:
         """Returns the extent of a line of text; zeros for one without ink."""
         if not text:
             return NOTHING
-        line = self.line(text, is_bold)
-        return extent_of(line) if line else self.whole(text, is_bold)
+        return extent_of(self.line(text, is_bold) or self.whole_sign(text, is_bold))
 
     def line(self, text: str, is_bold: bool) -> Sign | None:
         """Returns what a line of text takes, letter by letter; None where letters change beside
         others.
         """
-        words = self.words[is_bold]
-        if len(words) >= KEPT:
-            words.clear()
-        if " " not in text:
-            return words[text]
         parts = text.split(" ")
-        found = [sign for sign in map(words.__getitem__, parts) if sign]
+        found = [sign for sign in map(self.word, parts, repeat(is_bold)) if sign]
         if len(found) < len(parts):
             return None
         return together(found, (len(found) - 1) * self.spaces[is_bold])
@@ -137,30 +119,20 @@ class Letters:
         ends = [found.start_index + found.length for found in lines]
         return [written[start:end].decode() for start, end in zip([0, *ends], ends)]
 
-    def word(self, is_bold: bool, word: str) -> Sign | None:
+    def new_word(self, word: str, is_bold: bool) -> Sign | None:
         """Measures a word, letter by letter; None where letters change beside others."""
         if OTHERS.search(word):
             return None
-        return together([*map(self.signs[is_bold].__getitem__, word)]) if word else BLANK
-
-    def whole(self, text: str, is_bold: bool) -> Extent:
-        """Returns the extent of a line of text as Pango lays it out."""
-        ink, _ = self.extents(text, is_bold)
-        return Extent(ink.width, ink.height) if ink.width > 0 else NOTHING
+        return together([*map(self.sign, word, repeat(is_bold))]) if word else BLANK
 
     def whole_sign(self, text: str, is_bold: bool) -> Sign:
         """Returns what a line of text takes as Pango lays it out."""
-        ink, logical = self.extents(text, is_bold)
-        right = logical.width - ink.x - ink.width
-        top = ink.y - self.layouts[is_bold].get_baseline() / (MEASURED * Pango.SCALE)
-        return Sign(logical.width, ink.x, right, top, top + ink.height)
-
-    def extents(self, text: str, is_bold: bool) -> tuple[cairo.Rectangle, cairo.Rectangle]:
-        """Returns the rectangles of the ink of a text and of its line."""
         layout = self.layouts[is_bold]
         layout.set_text(text, -1)
         ink, logical = layout.get_extents()
-        return rectangle(ink), rectangle(logical)
+        left, wide, advance = ink.x / SCALE, ink.width / SCALE, logical.width / SCALE
+        top = ink.y / SCALE - layout.get_baseline() / SCALE
+        return Sign(advance, left, advance - left - wide, top, top + ink.height / SCALE)
 
     def missing(self, texts: Mapping[int, Sequence[str]]) -> dict[int, Text]:
         """Returns why some labels cannot be drawn, of which the texts are given by the numbers of
@@ -169,25 +141,18 @@ class Letters:
         used: set[str] = set()
         for several in texts.values():
             used.update(*several)
-        absent = sorted(filter(self.missing_letters.__getitem__, used))
+        absent = sorted(filter(self.is_missing, used))
         if not absent:
             return {}
         reasons = reasons_of(absent)
         found = {number: first_reason(several, reasons) for number, several in texts.items()}
         return {number: reason for number, reason in found.items() if reason}
 
-    def is_missing(self, letter: str) -> bool:
+    def is_in_no_font(self, letter: str) -> bool:
         """Returns whether no font has a letter."""
         layout = self.layouts[True]
         layout.set_text(letter, -1)
         return bool(layout.get_unknown_glyphs_count())
-
-
-def rectangle(found: Any) -> cairo.Rectangle:
-    """Returns a rectangle of Pango in sizes of the letters that are measured."""
-    scale = MEASURED * Pango.SCALE
-    sides = (found.x / scale, found.y / scale, found.width / scale, found.height / scale)
-    return cairo.Rectangle(*sides)
 
 
 def reasons_of(letters: Iterable[str]) -> dict[str, Text]:

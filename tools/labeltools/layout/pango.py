@@ -6,8 +6,6 @@ from typing import Any
 import cairo
 import gi
 
-MEASURED = 200  # dots: the size of letters in which they are measured
-
 
 def gi_library(name: str, version: str) -> Any:
     """Returns a library; raises `ImportError` and `ValueError` where it is not there."""
@@ -20,18 +18,27 @@ PangoCairo = gi_library("PangoCairo", "1.0")
 UNIT: int = Pango.SCALE
 
 
-def pango_context(options: cairo.FontOptions, is_rounded: bool) -> Any:
-    """Returns what lays texts out; glyphs are at whole dots where `is_rounded`."""
+def font_options(is_dots: bool) -> cairo.FontOptions:
+    """Returns how letters are drawn: in shapes that any size has, or in whole dots."""
+    options = cairo.FontOptions()
+    options.set_hint_metrics(cairo.HintMetrics.ON if is_dots else cairo.HintMetrics.OFF)
+    options.set_hint_style(cairo.HintStyle.FULL if is_dots else cairo.HintStyle.NONE)
+    options.set_antialias(cairo.Antialias.NONE if is_dots else cairo.Antialias.GRAY)
+    return options
+
+
+def pango_context(is_dots: bool) -> Any:
+    """Returns what lays texts out; glyphs are at whole dots where letters are made of these."""
     context = PangoCairo.FontMap.get_default().create_context()
-    context.set_round_glyph_positions(is_rounded)
-    PangoCairo.context_set_font_options(context, options)
+    context.set_round_glyph_positions(is_dots)
+    PangoCairo.context_set_font_options(context, font_options(is_dots))
     return context
 
 
-def plain_options() -> cairo.FontOptions:
-    """Returns the options of letters that keep their shapes in any size."""
-    options = cairo.FontOptions()
-    options.set_hint_metrics(cairo.HintMetrics.OFF)
-    options.set_hint_style(cairo.HintStyle.NONE)
-    options.set_antialias(cairo.Antialias.GRAY)
-    return options
+def new_layout(context: Any, family: str, is_bold: bool, size: int) -> Any:
+    """Returns what lays texts out in letters of a size in dots."""
+    layout = Pango.Layout.new(context)
+    font = Pango.FontDescription(f"{family}, {'Bold' * is_bold}")
+    font.set_absolute_size(size * UNIT)
+    layout.set_font_description(font)
+    return layout

@@ -54,6 +54,7 @@ KEYS: dict[str, Any] = {
     "empty": [str],
 }
 ONE_LINE = ("price", "unit", "was")
+MAKE_AGAIN = Text("make it again")
 # what Pango cuts a text at or takes for a line end: controls (but LF), separators of lines and
 # paragraphs; surrogates
 UNPRINTABLE = re.compile("[\x00-\x09\x0b-\x1f\x7f-\x9f\u2028\u2029\ud800-\udfff]")
@@ -282,7 +283,7 @@ def object_of(line: bytes, name: str, number: int) -> dict[str, Any]:
         where = Text("{}: line {}", name, number)
         raise ToolError(
             Text("{}: the remark is not a JSON object: the file is cut off or changed", where),
-            Text("make it again"),
+            MAKE_AGAIN,
         ) from error
     wrong = [key for key, value in found.items() if key not in KEYS or not is_of(value, KEYS[key])]
     wrong += [key for key in ONE_LINE if "\n" in str(found.get(key, ""))]
@@ -291,11 +292,10 @@ def object_of(line: bytes, name: str, number: int) -> dict[str, Any]:
         return found
     where = Text("{}: line {}", name, number)
     if not is_known:
-        raise ToolError(
-            Text("{}: the file is of another version of label-table", where), Text("make it again")
-        )
+        what = Text("{}: the file is of another version of label-table", where)
+        raise ToolError(what, MAKE_AGAIN)
     listed = ", ".join(map(quoted, wrong)) or quoted(line.decode("utf-8", "replace"))
-    raise ToolError(Text("{}: not understood: {}", where, listed))
+    raise ToolError(Text("{}: not understood: {}", where, listed), MAKE_AGAIN)
 
 
 def is_of(value: object, kind: Any) -> bool:

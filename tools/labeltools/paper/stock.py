@@ -11,7 +11,7 @@ from typing import Iterator
 from xml.etree.ElementTree import Element, parse
 
 from labeltools.common.messages import BAD_ARGUMENTS, ToolError
-from labeltools.common.text import Remedy, Text
+from labeltools.common.text import NOTHING, Remedy, Text
 
 Size = tuple[float, float]
 PartName = tuple[str, str]  # the maker and the name of a part
@@ -22,6 +22,7 @@ UNITS = {"mm": 1.0, "cm": 10.0, "in": 25.4, "pt": 25.4 / 72, "pc": 25.4 / 6, "":
 LENGTH = re.compile(r"\s*(-?[0-9.]+(?:[eE][+-]?[0-9]+)?)\s*(mm|cm|in|pt|pc|)\s*")
 MOST_BEYOND = 1.0  # by which cells may leave their page: makers round sizes
 MOST_CELLS = 10_000  # on one page
+ANOTHER_SHEET = Text("choose another sheet")
 SIZE_WORD = re.compile(r"([0-9]{1,4}(?:\.[0-9]{1,3})?)x([0-9]{1,4}(?:\.[0-9]{1,3})?)")
 NEAR = 0.75  # by which a size that is searched for may differ
 
@@ -76,7 +77,8 @@ def grid_sheet(grid: Grid) -> Sheet:
         message = Text(
             "a page of {} by {} cells: the maximum is {:,}", grid.columns, grid.rows, MOST_CELLS
         )
-        raise ToolError(message, status=BAD_ARGUMENTS)
+        hint = Text("give fewer {} and {}", Remedy("columns"), Remedy("rows"))
+        raise ToolError(message, hint.in_window(NOTHING), BAD_ARGUMENTS)
     across = grid.cell[0] + grid.gap[0]
     down = grid.cell[1] + grid.gap[1]
     middle = (
@@ -92,7 +94,8 @@ def grid_sheet(grid: Grid) -> Sheet:
     sheet = Sheet(grid.page, grid.cell, tuple(places))
     if sheet.beyond() > MOST_BEYOND:
         message = Text("{}: the cells extend {:.2f} mm beyond the page", sheet, sheet.beyond())
-        raise ToolError(message, status=BAD_ARGUMENTS)
+        hint = Text("measure the sheet again, with its margin and gaps")
+        raise ToolError(message, hint, BAD_ARGUMENTS)
     return sheet
 
 
@@ -220,15 +223,14 @@ def glabels_sheet(key: PartName) -> Sheet:
     cell = next(child for child in part if "Label-" in child.tag)
     if not cell.tag.endswith("Label-rectangle"):
         kind = cell.tag.rpartition("Label-")[2]
-        raise ToolError(
-            Text("{}: its labels are not rectangles ({})", head, kind), status=BAD_ARGUMENTS
-        )
+        what = Text("{}: its labels are not rectangles ({})", head, kind)
+        raise ToolError(what, ANOTHER_SHEET, BAD_ARGUMENTS)
     places = sorted(places_of(cell), key=lambda at: at[::-1])
     page = papers().get(part.get("size", "")) or lengths_of(part)
     sheet = Sheet(page, lengths_of(cell), tuple(places))
     if not places or not min(sheet.cell) or sheet.beyond() > MOST_BEYOND:
         hint = Text("give {}, {}, {}", *map(Remedy, ("columns", "rows", "cell")))
-        hint = hint.in_window(Text("choose another sheet"))
+        hint = hint.in_window(ANOTHER_SHEET)
         raise ToolError(
             Text("{}: by the list of glabels its labels are larger than its page", head),
             hint,

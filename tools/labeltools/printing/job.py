@@ -147,7 +147,9 @@ def planned(options: PrintOptions) -> Job:
     wide = (plan.page[0], dots)
     too_wide = Text("a label is {} dots wide, and the printer has {} ({})", *wide, Remedy("dots"))
     too_wide = too_wide.in_window(Text("a label is {} dots wide, and the printer has {}", *wide))
-    refuse(form == ESCPOS and plan.page[0] > dots, too_wide)
+    narrower = Text("take narrower labels, or a lower {}", Remedy("dpi"))
+    narrower = narrower.in_window(Text("take narrower labels"))
+    refuse(form == ESCPOS and plan.page[0] > dots, too_wide, narrower)
     return Job(options, plan, area, form, design)
 
 
@@ -187,14 +189,22 @@ def check_together(options: PrintOptions, form: Form) -> None:
     chosen = options.only or options.after
     all_lines = Text("leave out --only and --after")
     refuse(options.is_stream and chosen, Text("--stream prints each line"), all_lines)
-    hint = Text("the dots an inch of the printer, such as 203 or 300")
-    is_known = form.is_drawn or options.dpi
-    refuse(not is_known, Text("--to {} needs --dpi", form.name), hint)
-    dpi = options.dpi or 0
-    refuse(dpi > MOST_DPI, Text("--dpi {}: the maximum is {}", dpi, MOST_DPI))
+    check_dots_of(options, form)
     for name in ("note", "font", "stock"):
         text = getattr(options, name) or ""
-        refuse(UNPRINTABLE.search(text), no_text(name))
+        refuse(UNPRINTABLE.search(text), no_text(name), Text("type it again"))
+
+
+def check_dots_of(options: PrintOptions, form: Form) -> None:
+    """Raises `ToolError` where the dots an inch are not known, or are too many."""
+    hint = Text("the dots an inch of the printer, such as 203 or 300")
+    is_known = form.is_drawn or options.dpi
+    needs = Text("{} needs {}", Remedy("to", form.name), Remedy("dpi"))
+    refuse(not is_known, needs.in_window(Text("choose the resolution of the printer")), hint)
+    dpi = options.dpi or 0
+    most = Text("{}: the maximum is {}", Remedy("dpi", str(dpi)), MOST_DPI)
+    most = most.in_window(Text("{} dpi: the maximum is {}", dpi, MOST_DPI))
+    refuse(dpi > MOST_DPI, most, hint)
 
 
 def no_text(name: str) -> Text:

@@ -10,7 +10,7 @@ from labeltools.checking.compare import Comparison, Document
 from labeltools.common.files import temporary
 from labeltools.common.messages import Talk, ToolError
 from labeltools.common.report import LeftOut, places_text
-from labeltools.common.text import Remedy, Text
+from labeltools.common.text import NOTHING, Remedy, Text
 from labeltools.designs.design import Design, Setting
 from labeltools.drawing.dots import drawn_page, pbm, png
 from labeltools.drawing.escpos import escpos
@@ -194,7 +194,8 @@ def repeated(items: Sequence[LaidOut], job: Job) -> Sequence[LaidOut]:
 def check_count(job: Job, prints: Sequence[LaidOut]) -> None:
     """Raises `ToolError` if there are no labels, or more than one file takes."""
     if not prints:
-        raise ToolError(Text("there is no label to print"))
+        hint = Text("the messages above say why, or all copies are 0").in_window(NOTHING)
+        raise ToolError(Text("there is no label to print"), hint)
     if job.form.is_one_page and not job.is_each and job.pages_of(len(prints)) > 1:
         what = Text("{} writes only one page", Remedy("to", job.form.name))
         what = what.in_window(Text("{} has only one page", job.form.name))

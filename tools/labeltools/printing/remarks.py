@@ -12,6 +12,8 @@ from labeltools.layout.layout import LaidOut, LaidOutFile
 from labeltools.printing.selection import Selection
 
 DENSE = 0.33  # millimetres: modules of QR below it are reported
+LOW_PART = 0.5  # of their width: bars below it may not serve a till that reads in all directions
+ALMOST = 0.97  # bars are a whole number of modules high, so they may be a bit lower
 SHORTENED = Text("a text is too long, so it ends in “…”: shorten it, or choose a larger label")
 
 
@@ -82,9 +84,9 @@ def alike(items: Sequence[LaidOut], pen: Pen) -> Iterator[tuple[Sequence[LaidOut
 
 def has_low_bars(item: LaidOut) -> bool:
     """Returns whether a label is for a till and its bars are lower than half their width."""
-    symbology = item.layout.symbology
-    modules = item.label.modules.width - sum(symbology.quiet)
-    return symbology.is_number and item.layout.has_low_bars(modules)
+    layout = item.layout
+    wide = (item.label.modules.width - sum(layout.symbology.quiet)) * layout.module
+    return layout.symbology.is_number and layout.boxes["bars"].height < LOW_PART * wide * ALMOST
 
 
 def is_dense(item: LaidOut, dot: float) -> bool:

@@ -586,7 +586,8 @@ def refusals(queue: str) -> Iterator[Any]:
     try:
         yield connection()
     except cups_library().IPPError as error:
-        raise ToolError(Text("CUPS refuses {}: {}", queue, error.args[1])) from error
+        hint = Text("look at it in the settings of printers")
+        raise ToolError(Text("CUPS refuses {}: {}", queue, error.args[1]), hint) from error
 
 
 def connection() -> Any:

@@ -16,7 +16,7 @@ from pathlib import Path
 from typing import Any, IO
 
 from labeltools.common.files import save, temporary, Unwritten, write_whole
-from labeltools.common.messages import ToolError
+from labeltools.common.messages import Silence, ToolError
 from labeltools.common.process import hold_signals, standard_output
 from labeltools.common.text import NOTHING, Text
 from labeltools.sending.answers import Query, Reply
@@ -46,10 +46,6 @@ class Broken(ToolError):
     """A way out that took a part of a label, or all of it without saying so."""
 
 
-def no_word(_what: Text, _hint: Text = NOTHING) -> None:
-    """Says nothing."""
-
-
 class Outlet:
     """Where labels go. `is_direct` is whether each is there for certain once it was sent, whatever
     comes after it; `is_kept` is whether what was sent is in a file on a disk. `open` is called
@@ -61,7 +57,7 @@ class Outlet:
     is_direct = False
     is_kept = False
     came: Sized = ()
-    say: Callable[[Text, Text], object] = staticmethod(no_word)
+    say: Callable[[Text, Text], object] = Silence().say
 
     def open(self) -> Any:
         """Returns the way out, which is another one once it was made again after a good end; raises

@@ -238,6 +238,17 @@ class Sender:
         return Text("{} sent to {}", labels, self.outlet.name)
 
     @property
+    def is_printed(self) -> bool:
+        """Whether a printer says that it has printed the labels."""
+        answer = self.watch.answer if self.watch else None
+        return answer is not None and answer.is_empty
+
+    @property
+    def troubles(self) -> Sequence[Text]:
+        """What a printer says that it has left, and what keeps it from printing."""
+        return self.watch.troubles if self.watch else ()
+
+    @property
     def is_stuck(self) -> bool:
         """Whether a printer says that it does not print the labels that it has taken."""
         return self.watch is not None and self.watch.is_stuck

@@ -1,6 +1,7 @@
 """Asks a printer how it is, before labels are sent to it, and then until they are printed."""
 
 import time
+from collections.abc import Sequence
 from contextlib import suppress
 
 from labeltools.common.messages import sentence, Talk
@@ -85,12 +86,14 @@ class Watch:
         answer, name = self.answer, self.outlet.name
         if answer is not None and answer.is_empty:
             return Text("{} printed by {}", labels, name)
-        text = Text("{} sent to {}", labels, name)
-        if answer is None:
-            return text
+        return joined("; ", (Text("{} sent to {}", labels, name), *self.troubles))
+
+    @property
+    def troubles(self) -> Sequence[Text]:
+        """What the printer has left, and what keeps it from printing."""
+        answer = self.answer or Reply()
         left = left_text(answer.left) if answer.left else NOTHING
-        troubles = [sentence(*trouble) for trouble in answer.troubles]
-        return joined("; ", filter(None, (text, left, *troubles)))
+        return [*filter(None, (left, *(sentence(*trouble) for trouble in answer.troubles)))]
 
 
 def left_text(count: int) -> Text:

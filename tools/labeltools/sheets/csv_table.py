@@ -183,7 +183,7 @@ def delimiter_of(text: str, begin: int, given: str | None, options: CsvOptions) 
     is_cut = fits[best].is_cut
     if given:
         if is_cut and given != ONE_COLUMN and not fits[given].is_cut:
-            what = Text("row 1 has no {} between cells, but {}", named(given), named(best))
+            what = Text("row 1 has {} between cells, and not {}", named(best), named(given))
             remedy = Remedy("delimiter", says=Text("Find what is between cells"), is_less=True)
             hint = Text("leave out {}", remedy).in_window(NOTHING)
             raise ToolError(what, hint, BAD_ARGUMENTS)

@@ -28,6 +28,7 @@ MOST_WORDS = 500
 LONGEST_WORD = 40
 TOLERANCE = 0.25  # a reading with a larger part of odd words than the best one is not shown
 OTHER_LINE = re.compile(rb"[^\n]*[\x80-\xff][^\n]*\n?")
+OTHER_BYTES = re.compile(rb'[^\s;,|"]*[\x80-\xff][^\s;,|"]*')
 OTHER_WORD = re.compile(r'[^\s;,|"]*[^\x00-\x7f\s][^\s;,|"]*')
 CURRENCY = "€£¥₤₺"
 IN_WORDS = "’‘´`‐–・ー〜"  # signs that words have between letters
@@ -87,11 +88,9 @@ def refuse_other(known: str, codec: str, encoding: str | None, name: str) -> Non
 
 def unknown_encoding(encoding: str) -> ToolError:
     """Returns the error of an encoding that is none."""
-    return ToolError(
-        Text("--encoding {} is unknown", quoted(encoding)),
-        Text("give one as cp1252"),
-        BAD_ARGUMENTS,
-    )
+    in_window = Text("the encoding {} is unknown", quoted(encoding))
+    what = Text("--encoding {} is unknown", quoted(encoding)).in_window(in_window)
+    return ToolError(what, Text("give one as cp1252"), BAD_ARGUMENTS)
 
 
 def wrong_encoding(data: bytes, name: str, codec: str, start: int) -> ToolError:
@@ -137,6 +136,25 @@ def readings(data: bytes, without: str) -> dict[str, str]:
     good = (codec for codec in sorted(odd, key=odd.__getitem__) if odd[codec] <= best)
     shown = list(islice((codec for codec in good if text_by(data, codec)), MOST_READINGS))
     return {codec: word_of(words[codec], [words[one] for one in shown]) for codec in shown}
+
+
+def other_words(data: bytes, codecs: Iterable[str]) -> dict[tuple[str, ...], list[str]]:
+    """Returns how encodings of single bytes read the words of a text that is surely in none of
+    Unicode, each word with other letters than ASCII once, in their order; those that read all alike
+    are together.
+
+    >>> other_words("Käse Käse für".encode("cp1252"), ["cp1252", "cp850", "cp1250"])
+    {('Käse', 'für'): ['cp1252', 'cp1250'], ('Kõse', 'f³r'): ['cp850']}
+    """
+    if known_encoding(data) or data.isascii() or b"\0" in data:
+        return {}
+    sample = b" ".join(dict.fromkeys(OTHER_BYTES.findall(data)))
+    found: dict[tuple[str, ...], list[str]] = {}
+    for codec in codecs:
+        words = tuple(dict.fromkeys(OTHER_WORD.findall(text_by(sample, codec))))
+        if words:
+            found.setdefault(words, []).append(codec)
+    return found
 
 
 def text_by(data: bytes, codec: str) -> str:

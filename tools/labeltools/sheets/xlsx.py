@@ -59,9 +59,11 @@ ROWS = "sheetData"  # a sheet has its rows in it
 # rows and strings as most programs write them
 ASCII = "[ -%'-;=?-~]"
 WHITE = "[ \t\r\n]*"
+LETTER = "[^<>&\r\x00-\x08\x0b\x0c\x0e-\x1f\xef]"  # U+FFFE, which is none, begins with EF
+TEXT = '<t(?: xml:space="preserve")?>'
 PLAIN_CELL = re.compile(
-    '<c r="([A-Z]{1,3})[0-9]{1,7}"(?: s="([0-9]{1,9})")?(?: t="(s|n|b|e|str)")?'
-    f"(?:/>|>(?:<f>({ASCII}+)</f>)?(?:<v>({ASCII}+)</v>)?</c>)"
+    '<c r="([A-Z]{1,3})[0-9]{1,7}"(?: s="([0-9]{1,9})")?(?: t="(s|n|b|e|str|inlineStr)")?'
+    f"(?:/>|>(?:<f>({ASCII}+)</f>)?(?:<v>({ASCII}+)</v>|<is>{TEXT}({LETTER}*)</t></is>)?</c>)"
 )
 ATTRIBUTE = re.compile(f' ([A-Za-z0-9:]+)="({ASCII.replace(" -", " !#-")}*)"')
 WITHOUT_GROUPS = re.compile(r"\((?!\?)")
@@ -69,8 +71,7 @@ PLAIN_ROW = re.compile(
     rf"{WHITE}<row((?:{WITHOUT_GROUPS.sub('(?:', ATTRIBUTE.pattern)})*)"
     rf"(?:/>|>((?:{WITHOUT_GROUPS.sub('(?:', PLAIN_CELL.pattern)})*)</row>)"
 )
-LETTER = "[^<>&\r\x00-\x08\x0b\x0c\x0e-\x1f\xef]"  # U+FFFE, which is none, begins with EF
-PLAIN_STRINGS = re.compile(rf'(?:{WHITE}<si><t(?: xml:space="preserve")?>{LETTER}*</t></si>)+')
+PLAIN_STRINGS = re.compile(rf"(?:{WHITE}<si>{TEXT}{LETTER}*</t></si>)+")
 PLAIN_STRING = re.compile("<t[^>]*>([^<]*)</t>")
 MOST_NUMBERS = 1 << 12  # that are kept
 FALSE = ("0", "false")
@@ -137,7 +138,7 @@ class SharedStrings(Strings[str | XlsxRuns]):
 
     def take(self, found: re.Match[str]) -> None:
         """Takes strings that are plain."""
-        texts = PLAIN_STRING.findall(found[0].encode("latin-1").decode("utf-8"))
+        texts = PLAIN_STRING.findall(of_bytes(found[0]))
         self.letters += len(found[0])
         if self.letters > LARGEST_TEXTS:
             raise ToolError(TOO_LARGE, SAVE_AGAIN)
@@ -440,8 +441,9 @@ class SheetReader(Strings[Row]):
     def take(self, found: re.Match[str]) -> None:
         """Takes a row that is plain."""
         self.begin_row(dict(ATTRIBUTE.findall(found[1])))
-        for letters, style, kind, formula, value in PLAIN_CELL.findall(found[2] or ""):
+        for letters, style, kind, formula, value, text in PLAIN_CELL.findall(found[2] or ""):
             self.value, self.formula = value or None, formula or None
+            self.runs = [(without_escapes(of_bytes(text)), None)] if text else []
             self.add_cell(column_index(letters), kind or "n", style or "0")
         self.end_row()
 
@@ -559,6 +561,11 @@ def is_unseen(row: Mapping[str, str]) -> bool:
 def out_of_order(number: int) -> ToolError:
     """Returns the error of a row, or a cell of it, that is not behind the one before."""
     return ToolError(Text("has row {} or a cell of it out of order", number), SAVE_AGAIN)
+
+
+def of_bytes(text: str) -> str:
+    """Returns the text of UTF-8 whose bytes are letters."""
+    return text if text.isascii() else text.encode("latin-1").decode("utf-8")
 
 
 def without_escapes(text: str) -> str:

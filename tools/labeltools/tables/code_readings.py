@@ -9,9 +9,11 @@ from functools import partial
 from labeltools.common.messages import RowError
 from labeltools.common.text import NOTHING, Text
 from labeltools.lines.symbologies import CODE128, QR
-from labeltools.tables.codes import code_of, CodeRules, has_length
+from labeltools.tables.codes import check_isbn, code_of, CodeRules, has_length
 
 NO_BARS = re.compile(".*://.*|.{31,}")
+# numbers of a library or a shop: with letters, or longer than any EAN; but none as 4.01E+12
+OWN_NUMBER = re.compile(r"(?=.*[^\W\d_])[\w./-]+|[1-9][0-9]{13,}")
 LEAST = 0.5  # the part of the cells of a column that are of its kind
 MOST_CHANCE = 3  # numbers whose check digits agree by chance, all of them, in one case of 1000
 WITH_ZEROS = CodeRules(fill_zeros=True)
@@ -42,7 +44,8 @@ def reading_of(texts: Sequence[str], is_named: bool) -> CodeReading:
         return CodeReading([WITH_ZEROS])
     if passing_share(texts, is_code) >= LEAST:
         return CodeReading()
-    if is_named or passing_share(texts, has_length) >= LEAST:
+    is_own = passing_share(texts, OWN_NUMBER.fullmatch) >= LEAST
+    if not is_own and (is_named or passing_share(texts, has_length) >= LEAST):
         ways = ((one, partial(code_of, rules=one)) for one in OTHER_WAYS)
         rules = [one for one, read in ways if passing_share(texts, read) >= LEAST]
         return CodeReading(rules or [CodeRules()], problem_of(texts))
@@ -86,3 +89,12 @@ def passing_share(texts: Sequence[str], test: Callable[[str], object]) -> float:
 def is_code(text: str) -> bool:
     """Returns whether a text is surely an EAN or UPC; raises `RowError`."""
     return bool(code_of(text, CodeRules()))
+
+
+def is_isbn_10(text: str) -> bool:
+    """Returns whether a text is an ISBN of ten digits, of which the book has an EAN, too."""
+    try:
+        check_isbn(text)
+    except RowError:
+        return True
+    return False

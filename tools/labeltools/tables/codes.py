@@ -1,7 +1,7 @@
 """What a code is: it is taken only where it is sure."""
 
 import re
-from dataclasses import dataclass
+from dataclasses import dataclass, replace
 from functools import cached_property
 from typing import NamedTuple, Sequence
 
@@ -68,11 +68,10 @@ def kind_remedy(name: str) -> Remedy:
 OTHER_CODES = Text(
     "a code that is not an EAN or UPC needs {} (bars) or {:value}", *map(kind_remedy, FREE)
 ).in_window(NOTHING)
-ONLY_WITHOUT = Text(
-    "give {} only if no number has one",
-    Remedy("without-check-digit", says=Text("The codes have a check digit"), is_less=True),
-).in_window(NOTHING)
+HAS_DIGIT = replace(WITHOUT_DIGIT, says=Text("The codes have a check digit"), is_less=True)
+ONLY_WITHOUT = Text("give {} only if no number has one", HAS_DIGIT).in_window(NOTHING)
 FILL_ZEROS = Remedy("fill-zeros", says=Text("Put lost zeros back in front"))
+NO_ZEROS = replace(FILL_ZEROS, says=Text("Put no zeros in front"), is_less=True)
 LOST_ZEROS = Text("give {} if leading zeros are lost", FILL_ZEROS).in_window(NOTHING)
 AUTO_OR_LOST_ZEROS = Text(
     "give {}, or {} if leading zeros are lost", kind_remedy(AUTO), FILL_ZEROS
@@ -259,7 +258,7 @@ def wrong_length(digits: str, asked: Sequence[str], rules: CodeRules) -> RowErro
     """Returns the error of a number with other digits than its symbology has, and what to do."""
     count = len(digits)
     missing = rules.without_check_digit
-    lengths = joined(", ", (Text("{} has {}", one, LENGTHS[one] - missing) for one in asked))
+    lengths = joined(", ", (code_length(one, missing) for one in asked))
     what = counted("{1} has {0} digit, {2}", "{1} has {0} digits, {2}", count, digits[:20], lengths)
     is_auto = rules.symbology == AUTO
     may_miss = count + 1 in NUMBERS and not missing
@@ -277,6 +276,13 @@ def wrong_length(digits: str, asked: Sequence[str], rules: CodeRules) -> RowErro
     )
     hint = next((hint for is_so, hint in hints if is_so), OTHER_CODES)
     return OtherCode(what, hint) if hint is OTHER_CODES else RowError(what, hint)
+
+
+def code_length(name: str, missing: bool) -> Text:
+    """Returns how many digits codes of a symbology have; a window says its title."""
+    count = LENGTHS[name] - missing
+    in_window = Text("{} has {}", SYMBOLOGIES[name].title, count)
+    return Text("{} has {}", name, count).in_window(in_window)
 
 
 def wrong_check_digit(filled: str, count: int, rules: CodeRules) -> WrongDigit:

@@ -9,6 +9,7 @@ from decimal import Decimal
 from labeltools.common.text import counted, joined, Text
 from labeltools.lines.symbologies import SYMBOLOGIES
 
+NO_BREAK = "\u00a0"
 NUMBER = "0123456789.,'’- \u00a0\u202f–"  # what a price without a currency has
 
 
@@ -55,8 +56,7 @@ def summary(totals: Totals) -> Text:
     rows = totals.symbologies.total()
     found = totals.symbologies.most_common()
     counts = ", ".join(f"{count} {SYMBOLOGIES[name].title}" for name, count in found)
-    labels = counted("{} label from {}", "{} labels from {}", totals.labels, rows_text(rows))
-    parts: list[Text] = [Text("{}: {}", labels, counts or Text("none"))]
+    parts: list[Text] = [Text("{}: {}", labels_from(totals.labels, rows), counts or Text("none"))]
     if totals.lowest and totals.highest:
         parts.append(said_of_prices(totals.lowest[1], totals.highest[1], totals.prices, rows))
     if totals.bare:
@@ -67,6 +67,30 @@ def summary(totals: Totals) -> Text:
     if totals.left_out:
         parts.append(counted("{} row skipped", "{} rows skipped", totals.left_out))
     return joined("; ", parts)
+
+
+def sentences(totals: Totals) -> Text:
+    """Returns what a window says in place of the summary: it lists beside it what is left out.
+
+    >>> totals = Totals(bare=2, lowest=(Decimal("0.8"), "0,80"), highest=(Decimal(12), "12,00"))
+    >>> totals.add("ean13", 4)
+    >>> sentences(totals)
+    '4 labels from 1 row, with prices from 0,80 to 12,00. 2 prices have no currency.'
+    """
+    text = labels_from(totals.labels, totals.symbologies.total())
+    if totals.lowest and totals.highest:
+        ends = totals.lowest[1], totals.highest[1]
+        lowest, highest = (one.replace(" ", NO_BREAK) for one in ends)
+        is_one = lowest == highest
+        prices = Text("{}, with prices from {} to {}", text, lowest, highest)
+        text = Text("{}, with the price {}", text, lowest) if is_one else prices
+    bare = counted("{} price has no currency.", "{} prices have no currency.", totals.bare)
+    return joined(" ", [Text("{}.", text), bare] if totals.bare else [Text("{}.", text)])
+
+
+def labels_from(labels: int, rows: int) -> Text:
+    """Returns how many labels come from how many rows."""
+    return counted("{} label from {}", "{} labels from {}", labels, rows_text(rows))
 
 
 def said_of_prices(lowest: str, highest: str, count: int, rows: int) -> Text:

@@ -32,7 +32,7 @@ from labeltools.tables.line_writer import LineWriter, shown_by
 from labeltools.tables.money import WORDS
 from labeltools.tables.once import Once
 from labeltools.tables.prices import CENTS, measure_of
-from labeltools.tables.summary import summary
+from labeltools.tables.summary import Totals
 from labeltools.tables.table_options import Columns, TableOptions
 
 ZIP = (b"PK\x03\x04", b"PK\x05\x06")
@@ -51,15 +51,15 @@ BETWEEN = 256  # rows between two calls of `go_on`
 
 @dataclass(frozen=True)
 class Lines:
-    """The lines of a table, in `output`, a file for label-print; which rows are left out, and a
-    summary.
+    """The lines of a table, in `output`, a file for label-print; which rows are left out, and what
+    was counted.
     """
 
     output: bytes
     count: int
     left_out: tuple[int, ...]
     hidden: int
-    summary: Text
+    totals: Totals
 
 
 class Start(NamedTuple):
@@ -92,7 +92,7 @@ def lines_of_table(data: bytes, name: str, options: TableOptions, talk: Talk) ->
     output = writer.finish()
     work.say_all()
     left_out = tuple(writer.left_out)
-    return Lines(output, writer.count, left_out, work.hidden, summary(writer.totals))
+    return Lines(output, writer.count, left_out, work.hidden, writer.totals)
 
 
 def head_of(data: bytes, name: str, options: TableOptions, talk: Talk) -> Start:

@@ -2,7 +2,7 @@
 
 import time
 from collections.abc import Callable
-from dataclasses import dataclass
+from dataclasses import dataclass, replace
 from typing import Any
 
 from labeltools.window.gtk import Gtk
@@ -44,6 +44,7 @@ class Bar:
         """Shows an event. One that is bad stays until it is closed or work begins: what is good
         about something else is only listed.
         """
+        event = replace(event, sentence=self.window.of_printers.named(event.sentence))
         self.list(event)
         shown = self.event if self.window.bar.get_visible() else None
         is_other = shown is not None and shown.about not in (None, event.about)

@@ -39,6 +39,7 @@ STYLE = b"""
 infobar label, infobar image { color: @theme_fg_color; text-shadow: none; }
 .ask { background: mix(@theme_bg_color, @warning_color, .22); padding: 8px;
   border: 1px solid @warning_color; border-radius: 4px; }
+.working progressbar { color: @theme_fg_color; font-size: inherit; }
 .working { padding: 8px; background: mix(@theme_bg_color, @theme_selected_bg_color, .12); }
 button.fold:checked { background: none; border-color: transparent; box-shadow: none; }
 combobox { -GtkComboBox-appears-as-list: 1; }

@@ -11,7 +11,7 @@ from labeltools.commands.label_print import print_options
 from labeltools.common.language import _
 from labeltools.common.messages import ToolError
 from labeltools.common.text import translated
-from labeltools.printing.job import planned
+from labeltools.printing.job import is_direct, planned
 from labeltools.printing.press import labels_of
 from labeltools.sending.cups import Queue, queue_of
 from labeltools.sending.network import address_of, SCHEME
@@ -89,6 +89,16 @@ class Printers:
         """The printer that is chosen; None for a file."""
         return self.all.get(self.wanted)
 
+    def name_of(self, key: str) -> str:
+        """Returns the name of a printer, as the list shows it."""
+        return self.all[key].name if key in self.all else key
+
+    def named(self, text: str) -> str:
+        """Returns a text with the names of printers in the place of their addresses."""
+        for key in sorted(filter(is_direct, self.all), key=len, reverse=True):
+            text = text.replace(key, self.all[key].name)
+        return text
+
     def recall(self, choices: Choices) -> None:
         """Takes the printer of choices by which labels went out before. Older ones have no more
         than the address of one in the network, if they have that.
@@ -113,7 +123,7 @@ class Printers:
     def show_button(self) -> None:
         """Names the button after what it does."""
         is_file = self.wanted == FILE
-        self.window.print_button.set_label(_("_Save…") if is_file else _("_Print…"))
+        self.window.print_button.set_label(_("Sa_ve…") if is_file else _("_Print…"))
 
     def choose(self, key: str) -> None:
         """Chooses a printer: it decides the language, the dots, and sheets or a roll."""

@@ -10,6 +10,7 @@ from urllib.parse import quote
 
 from labeltools.common.language import _, ngettext
 from labeltools.common.report import Ranges
+from labeltools.common.text import whole
 from labeltools.layout.layout import LaidOut
 from labeltools.printing.press import Prepared
 from labeltools.printing.selection import ranges_in
@@ -17,6 +18,7 @@ from labeltools.sending.printers import MEDIA, Printer, TRAY
 from labeltools.window.gtk import Gio, GLib, Gtk
 from labeltools.window.memory import PRINTERS
 from labeltools.window.rows import Rows
+from labeltools.window.shop import skipped
 
 PAGE = "http://localhost:631/printers/"  # of a queue, in the pages of CUPS
 # the programs of desktops that have the settings of printers, with their words
@@ -64,6 +66,7 @@ class Printing:
         window.print_rows.set_text("")
         window.print_what.set_active_id("rows")
         window.print_what.set_visible(not is_roll)
+        window.print_some.set_label(_("_Only rows") if is_roll else _("_Only"))
         self.fill(options)
         self.show_what()
         window.print_yes.grab_focus()  # Enter prints
@@ -104,7 +107,7 @@ class Printing:
         prints, job = wanted.labels.prints, wanted.labels.job
         self.window.printing.set_response_sensitive(Gtk.ResponseType.OK, bool(prints))
         count = job.pages_of(len(prints))
-        stock = self.window.stock.get_text() if job.options.stock else ""
+        stock = job.options.stock or ""
         text = ngettext(
             "Put {count} sheet {stock} into the tray.",
             "Put {count} sheets {stock} into the tray.",
@@ -114,8 +117,9 @@ class Printing:
             text = _("Put plain paper into the tray.")
         is_sheet = not (job.form.is_roll or job.plan.sheet.is_single)
         put = text.format(count=count, stock=stock).replace("  ", " ") if is_sheet else ""
-        left_out = self.window.made.left_out and self.window.left_out.get_text()
-        self.window.print_put.set_text("\n".join(filter(None, (put, left_out or ""))))
+        count = self.window.made.left_out
+        left_out = whole(skipped(count)) if count else ""
+        self.window.print_put.set_text("\n".join(filter(None, (put, left_out))))
 
     def wanted(self) -> Printout:
         """Returns what is chosen."""

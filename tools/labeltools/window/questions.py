@@ -5,7 +5,7 @@ in place of the page where the file cannot be read without it. Nothing is printe
 from collections.abc import Sequence
 from typing import Any
 
-from labeltools.common.text import NOTHING, Text, translated, windowed
+from labeltools.common.text import NOTHING, Text, translated, whole, windowed
 from labeltools.window.bar import Answer
 from labeltools.window.gtk import Gtk
 
@@ -74,7 +74,8 @@ class Questions:
     def focus(self) -> None:
         """Puts the focus on the first answer, or on Print where nothing is asked."""
         first = next((self.box(name) for name in BELOW if self.box(name).get_visible()), None)
-        (first.answers.get_children()[0] if first else self.window.print_button).grab_focus()
+        answers = first.answers.get_children() if first else []
+        (answers[0] if answers else self.window.print_button).grab_focus()
 
 
 def asked_at(option: str) -> str:
@@ -89,4 +90,4 @@ def which(kind: str) -> str:
 
 def said(what: Text, hint: Text = NOTHING) -> str:
     """Returns what a window says: a reason, and below it what to do."""
-    return "\n".join(filter(None, (translated(windowed(text)) for text in (what, hint))))
+    return "\n".join(filter(None, (whole(windowed(text)) for text in (what, hint))))

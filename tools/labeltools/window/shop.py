@@ -5,27 +5,31 @@ of them, and what was chosen the last time.
 import hashlib
 import shlex
 import time
-from collections.abc import Iterator, Mapping, Sequence
+from collections.abc import Iterable, Iterator, Mapping, Sequence
 from contextlib import suppress
 from dataclasses import dataclass
+from functools import reduce
 from pathlib import Path
 from typing import Any
 
 from labeltools.commands import label_print as print_command, label_table as table_command
 from labeltools.common.arguments import words_of
-from labeltools.common.messages import Cancelled, Origin, ToolError
+from labeltools.common.messages import Cancelled, Origin, Talk, ToolError
 from labeltools.common.process import read_input
 from labeltools.common.report import LeftOut
-from labeltools.common.text import NOTHING, Remedy, Text
+from labeltools.common.text import counted, NOTHING, Remedy, Text
 from labeltools.lines.file import first_remark, label_lines, last_remark, LineRecord, read_lines
 from labeltools.printing.job import planned
 from labeltools.printing.press import labels_of, Prepared
 from labeltools.sending.cups import job_of, SentJob
-from labeltools.sending.sender import labels_text
+from labeltools.tables.columns import column_word
 from labeltools.tables.guess import guess_of
 from labeltools.tables.money import NotMoney, parse
-from labeltools.tables.prices import PricePattern
+from labeltools.tables.old_encoding import old_encoding
+from labeltools.tables.prices import PricePattern, PROGRAM_DECIMALS
+from labeltools.tables.summary import labels_from, sentences
 from labeltools.tables.table import Lines, lines_of_table
+from labeltools.tables.table_options import TableOptions
 from labeltools.window import memory
 from labeltools.window.memory import FILES, TABLES
 
@@ -36,7 +40,7 @@ PATTERNS = ("0,00 €", "€0.00", "£0.00", "$0.00", "CHF 0.00", "0,00 kr", "0,
 Choices = Mapping[str, Any]  # by the names of the options
 
 
-class WindowTalk:
+class WindowTalk(Talk):
     """The talk of work beside the window: what it is told is kept. Work that is stopped ends the
     next time that it talks; a printer that takes labels one by one gets no more of them.
     """
@@ -84,11 +88,11 @@ class MadeLabels:
 
     @property
     def summary(self) -> Text:
-        """What label-table counts, and how many labels of it can be printed if not all."""
-        if len(self.labels.labels) == self.lines.count:
-            return self.lines.summary
-        can = labels_text(len(self.labels.prints))
-        return Text("{}; can be printed: {}", self.lines.summary, can)
+        """What the keeper is told of those that can be printed; of their prices only if all can."""
+        count = len(self.labels.labels)
+        if count == self.lines.count:
+            return sentences(self.lines.totals)
+        return Text("{}.", labels_from(len(self.labels.prints), count))
 
 
 class Table:
@@ -97,6 +101,9 @@ class Table:
     lines: Lines  # those that were made last, by the words of label-table
     said: Sequence[LeftOut]  # about them
     words: Sequence[str] = ()
+    text: str  # the words by which it is read
+    kept: Choices  # for tables with the same names
+    of_file: Sequence[LeftOut] = ()  # what is said of how it is read
 
     def __init__(self, path: Path, text: str | None, header: int | None, talk: WindowTalk) -> None:
         """Reads a table by further words of label-table, None for those that are kept; its names
@@ -108,13 +115,19 @@ class Table:
         try:
             self.read(before or text or "", header, talk)
         except ToolError:
-            if not before:
+            old = old_encoding(self.data, path.name, TableOptions()) if text is None else None
+            if not before and old is None:
                 raise
-            self.read("", header, talk)  # it has another encoding now, or other sheets
+            # it has another encoding now, or other sheets
+            self.read(shlex.join(words_of({"encoding": old and old.name})), header, talk)
+            self.of_file = [LeftOut(None, "", old.text, old.hint)] if old else ()
         kept = self.kept.get("for-table", "")
         if text is None and kept and kept != self.text and isinstance(kept, str):
             with suppress(ToolError):
                 self.read(kept, header, talk)
+                self.of_file = ()
+        if (text is None or header is not None) and not self.kept:
+            self.text = self.with_guessed()
         last: Choices = next(reversed(TABLES.all().values()), {})
         self.paper = {name: value for name, value in last.items() if name in PAPER}
         self.settle()
@@ -123,13 +136,44 @@ class Table:
         """Guesses the columns of the table as words read it, and finds what is kept for these."""
         head = words_of({"header-row": header, "no-header": header == 0})
         arguments = table_command.understood(
-            ["--code", "1", "--price", "1", *head, *option_words(text)]
+            ["--code", "1", "--title", "1", "--price", "1", *head, *option_words(text)]
         )
         options = table_command.table_options(arguments)
         self.guess = guess_of(self.data, self.path.name, options, talk)
         self.text = text
         self.key = "\n".join(self.guess.names) if any(self.guess.names) else ""
         self.kept = TABLES.all().get(self.key, {}) if self.key else {}
+
+    def with_guessed(self) -> str:
+        """Returns the words by which the table is read, with what is guessed and has no control."""
+        nothing = table_command.table_parser().parse_args([])
+        more = table_command.more_options(self.guess, nothing)
+        found = [Remedy(name, value) for name, value in more.items() if name != "price-as"]
+        if "code" in self.guess.columns and self.guess.rules.fill_zeros:
+            found.append(Remedy("fill-zeros"))
+        if "title" in self.guess.beside:
+            second = column_word(self.guess.names, self.guess.beside["title"])
+            found.append(Remedy("title", second))
+        return reduce(typed_with, found, self.text)
+
+    def guessed_pattern(self, price: str) -> str:
+        """Returns how the prices of a column are to be printed if that is guessed; else nothing."""
+        is_guessed = price == str(self.guess.columns.get("price", -1) + 1)
+        return self.guess.price_as if is_guessed else ""
+
+    def price_patterns(
+        self, price: str, patterns: Iterable[str] = PATTERNS
+    ) -> Iterator[tuple[str, str]]:
+        """Yields how the prices of a column may be printed: the first one as it would be, and the
+        pattern; the one that is guessed in front.
+        """
+        example = self.guess.examples[int(price) - 1]
+        at = self.guess.beside.get("currency")
+        currency = "" if at is None else self.guess.examples[at]
+        for pattern in filter(None, (self.guessed_pattern(price), *patterns)):
+            with suppress(NotMoney):
+                money = parse(example, most_decimals=PROGRAM_DECIMALS)
+                yield PricePattern.of(pattern).write(money, currency), pattern
 
     def made(self, choices: Choices, talk: WindowTalk) -> MadeLabels:
         """Returns what is made by choices; raises `ToolError` and `OSError`."""
@@ -149,7 +193,7 @@ class Table:
         more = [one for one in found.left_out if one.origin and one.origin.number not in rows]
         commands = ["label-table", *to_read], ["label-print", *to_print]
         command = " | ".join(map(shlex.join, commands)) + f" > labels.{job.form.name}"
-        notes = sorted((*self.said, *more, *found.remarks), key=row_of_note)
+        notes = sorted((*self.of_file, *self.said, *more, *found.remarks), key=row_of_note)
         return MadeLabels(self.lines, found, notes, len(rows) + len(more), command)
 
     @property
@@ -236,16 +280,14 @@ class Table:
         FILES.keep(self.path.name, choices["for-table"] or None)
 
 
+def skipped(count: int) -> Text:
+    """Returns how many rows are skipped."""
+    return counted("{} row is skipped", "{} rows are skipped", count)
+
+
 def row_of_note(note: LeftOut) -> int:
     """Returns the number of the row that something is said of; 0 for the whole table."""
     return note.origin.number if note.origin else 0
-
-
-def price_patterns(example: str) -> Iterator[tuple[str, str]]:
-    """Yields how prices like one may be printed: that one as it would be, and the pattern."""
-    for pattern in PATTERNS:
-        with suppress(NotMoney):
-            yield PricePattern.of(pattern).write(parse(example)), pattern
 
 
 def file_of(records: Sequence[LineRecord]) -> bytes:
@@ -272,11 +314,10 @@ def print_words(choices: Choices) -> list[str]:
 
 
 def is_of_table(remedy: Remedy) -> bool:
-    """Returns whether a remedy is an option of label-table, not of label-print."""
-    with suppress(ToolError):
-        table_command.understood(["--code", "1", "--price", "1", *remedy.words])
-        return True
-    return False
+    """Returns whether a remedy is an option of label-table, not of label-print; it may have no
+    value here.
+    """
+    return f"--{remedy.option}" in table_command.table_parser().format_help().split()
 
 
 def typed_with(typed: str, remedy: Remedy) -> str:
@@ -284,16 +325,15 @@ def typed_with(typed: str, remedy: Remedy) -> str:
 
     >>> typed_with("--hidden --decimal point", Remedy("decimal", "comma"))
     '--hidden --decimal comma'
-    >>> typed_with("--hidden --delimiter tab", Remedy("delimiter", is_less=True))
+    >>> typed_with("--hidden --delimiter=tab", Remedy("delimiter", is_less=True))
     '--hidden'
     """
     words = [*option_words(typed)]
-    name, *values = remedy.words
-    while name in words:
-        at = words.index(name)
-        has_value = at + 1 < len(words) and not words[at + 1].startswith("--")
-        del words[at : at + 1 + has_value]
-    return shlex.join([*words, *([] if remedy.is_less else (name, *values))])
+    name = f"--{remedy.option}"
+    while at := next((at for at, word in enumerate(words, 1) if word.split("=")[0] == name), 0):
+        has_value = at < len(words) and words[at - 1] == name and not words[at].startswith("--")
+        del words[at - 1 : at + has_value]
+    return shlex.join([*words, *([] if remedy.is_less else remedy.words)])
 
 
 def option_words(argument: str) -> tuple[str, ...]:

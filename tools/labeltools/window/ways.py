@@ -11,11 +11,11 @@ from typing import Any, NamedTuple
 
 from labeltools.common.language import _
 from labeltools.common.messages import ToolError
-from labeltools.common.text import Text, translated
+from labeltools.common.text import counted, joined, Text, translated, whole, windowed
 from labeltools.printing.press import Prepared
 from labeltools.sending.cups import JobState, Queue, queue_of, SentJob
 from labeltools.sending.printers import choices_of, Printer, QUEUE
-from labeltools.sending.sender import labels_text, print_on, save_to, send_to, Unfinished
+from labeltools.sending.sender import print_on, save_to, send_to, Sender, Unfinished
 from labeltools.window.bar import Answer, ERROR, Event, INFO, SUCCESS, WARNING
 from labeltools.window.gtk import GLib, Gtk
 from labeltools.window.memory import PRINTERS
@@ -65,7 +65,7 @@ class WaysOut:
         job, text, count, kind = sent
         labels, counts = self.sending
         if not counts:
-            text = Text("{}; it was a trial, so these labels do not count as printed", text)
+            text = Text("{} It was a trial, so these labels do not count as printed.", text)
         elif job is None:
             table.keep_printed(made, labels)
         else:
@@ -88,13 +88,10 @@ class WaysOut:
     def look_again(self, job: SentJob, future: "Future[JobState]") -> None:
         """Looks at a job that was sent before, or asks the keeper what became of it."""
         if future.exception() is None:
-            self.report(
-                INFO, Text("job {} of {}, which was sent before", job.number, job.queue), job
-            )
             self.show_state(job, 0, future)
         elif self.window.get_visible():
-            sent = Text("job {} of {}, which was sent before", job.number, job.queue)
-            what = Text("{}: CUPS does not know whether it was printed", sent)
+            name = self.window.of_printers.name_of(job.queue)
+            what = Text("Nobody knows whether job {} was printed on {}.", job.number, name)
             ask = partial(self.ask_of_job, job, translated(what))
             self.report(WARNING, what, job, (_("Was it printed?"), ask))
 
@@ -115,7 +112,7 @@ class WaysOut:
         self, kind: str, text: Text, job: SentJob | None = None, answer: Answer | None = None
     ) -> None:
         """Says what happened to labels."""
-        self.window.events.show(Event(kind, translated(text), answer, job))
+        self.window.events.show(Event(kind, whole(text), answer, job))
 
     def watch(self, job: SentJob, count: int) -> None:
         """Looks at a job."""
@@ -129,7 +126,7 @@ class WaysOut:
         if future.exception() is not None or not self.window.get_visible():
             return
         state = future.result()
-        event = event_of(job, count, state)
+        event = event_of(job, count, state, self.window.of_printers.name_of(job.queue))
         if event is not None and self.told.get(job) != event.sentence:
             self.told[job] = event.sentence
             self.window.events.show(event)
@@ -143,7 +140,8 @@ class WaysOut:
         chooser = self.window.saver
         path = self.window.table.path
         chooser.set_current_folder(str(path.absolute().parent))
-        chooser.set_current_name(f"{path.stem}-labels.{self.window.made.labels.job.form.name}")
+        kind, form = _("labels"), self.window.made.labels.job.form.name
+        chooser.set_current_name(f"{path.stem}-{kind}.{form}")
         if chooser.run() == Gtk.ResponseType.ACCEPT:
             self.save(Path(chooser.get_filename()))
 
@@ -153,7 +151,9 @@ class WaysOut:
         def way(labels: Prepared, talk: WindowTalk) -> Sent:
             save_to(labels, path, talk)
             count = len(labels.prints)
-            return Sent(None, Text("{} saved as {}", labels_text(count), path.name), count)
+            name = path.name
+            text = counted("{} label is saved as {}.", "{} labels are saved as {}.", count, name)
+            return Sent(None, text, count)
 
         self.send(way, self.window.made.labels)
 
@@ -192,10 +192,13 @@ class WaysOut:
 
     def print_on(self, queue: Queue, wanted: Printout) -> None:
         """Prints labels on a queue as label-print does."""
+        name = self.window.of_printers.name_of(queue.name)
 
         def way(labels: Prepared, talk: WindowTalk) -> Sent:
-            sent, text = print_on(labels, queue, talk, wanted.options)
-            return Sent(sent, text, len(labels.prints))
+            sent, _text = print_on(labels, queue, talk, wanted.options)
+            count = len(labels.prints)
+            parts = whole(sent_to(count, name)), whole(windowed(queue.doubt(labels.job)))
+            return Sent(sent, joined(" ", filter(None, parts)), count)
 
         self.send(way, wanted.labels, not wanted.is_trial)
 
@@ -213,14 +216,16 @@ class WaysOut:
         on paper is asked where that is in doubt.
         """
         done = problem.done
+        labels, counts = self.sending
         if problem.is_doubtful:
-            text = _("Is label {number} on paper?").format(number=done + 1)
+            label = labels.prints[done - labels.job.options.after].label.record.label
+            text = _("Is label {number} on paper: {title} {price}?")
+            text = text.format(number=done + 1, title=label.title, price=label.price)
             yes = _("Yes, go on with {number}").format(number=done + 2)
             is_there = self.window.asked_in_dialog(text, {True: yes, False: _("No, print it")})
             if is_there is None:
                 return
             done += is_there
-        labels, counts = self.sending
         if done - labels.job.options.after < len(labels.prints):
             self.go_on(problem.printer, done)
         elif counts:
@@ -238,14 +243,12 @@ class WaysOut:
         self, printer: str, labels: Prepared, counts: bool = True, is_rest: bool = False
     ) -> None:
         """Sends to a printer in the network or on USB what label-print sends."""
-        known = self.window.of_printers.all.get(printer)
-        name = known.name if known else printer
+        name = self.window.of_printers.name_of(printer)
 
         def way(labels: Prepared, talk: WindowTalk) -> Sent:
             talk.printer = name
             sender = send_to(labels, printer, talk, talk.stops)
-            kind = WARNING if sender.is_stuck else INFO
-            return Sent(None, sender.result(), len(labels.prints), kind)
+            return direct_sent(sender, name, len(labels.prints))
 
         self.send(way, labels, counts, is_rest)
 
@@ -258,21 +261,48 @@ def confirmed(dialog: Any) -> bool:
     return bool(answer == Gtk.ResponseType.OK)
 
 
-def event_of(job: SentJob, count: int, state: JobState) -> Event | None:
-    """Returns what there is to say of a job of some labels (0: not known) in a state; nothing while
-    it goes on.
+def sent_to(count: int, printer: str) -> Text:
+    """Returns that labels are sent to a printer."""
+    return counted("{} label is sent to {}.", "{} labels are sent to {}.", count, printer)
+
+
+def printed_on(count: int, printer: str) -> Text:
+    """Returns that labels are printed."""
+    return counted("{} label is printed on {}.", "{} labels are printed on {}.", count, printer)
+
+
+def direct_sent(sender: Sender, name: str, count: int) -> Sent:
+    """Returns what there is to say of labels that a printer took one by one, and says itself."""
+    if sender.is_printed:
+        return Sent(None, printed_on(count, name), count, SUCCESS)
+    parts = sent_to(count, name), *map(whole, sender.troubles)
+    return Sent(None, joined(" ", parts), count, WARNING if sender.is_stuck else INFO)
+
+
+def event_of(job: SentJob, count: int, state: JobState, name: str) -> Event | None:
+    """Returns what there is to say of a job of some labels (0: not known) in a state, on a printer
+    of this name; nothing while it goes on.
     """
-    labels = labels_text(count) if count else Text("job {}", job.number)
     if state.is_printed:
-        return Event(SUCCESS, translated(Text("{}: printed on {}", labels, job.queue)), None, job)
+        text = Text("Job {} is printed on {}.", job.number, name)
+        return Event(SUCCESS, whole(printed_on(count, name) if count else text), None, job)
     if state.is_over:
-        text = Text("{}: not printed: {}", labels, state.trouble)
-        return Event(ERROR, translated(text), None, job)
+        why = state.trouble
+        text = Text("Job {} is not printed: {}", job.number, why)
+        if count:
+            text = counted(
+                "{} label is not printed: {}", "{} labels are not printed: {}", count, why
+            )
+        return Event(ERROR, whole(text), None, job)
     if state.is_waiting or state.trouble:
-        reason = state.trouble or Text("{}: {}", job.queue, state.said)
+        text = Text("Job {} is waiting.", job.number)
+        if count:
+            text = counted("{} label is waiting.", "{} labels are waiting.", count)
+        _queue, reason = state.trouble.fields if state.trouble else ("", state.said)
+        parts = text, Text("{}: {}", name, reason), windowed(state.cure)
         show = partial(open_settings, job.queue)
-        text = Text("{}: waiting in the queue: {}", labels, reason)
-        return Event(WARNING, translated(text), (_("Show the queue"), show), job)
+        answer = _("Show the queue"), show
+        return Event(WARNING, " ".join(filter(None, map(whole, parts))), answer, job)
     return None
 
 

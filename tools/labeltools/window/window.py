@@ -2,8 +2,9 @@
 printed, and the rows that are skipped. Its widgets are those of window.ui.
 """
 
-from collections.abc import Iterable, Iterator, Mapping, Sequence
+from collections.abc import Callable, Iterable, Iterator, Mapping, Sequence
 from contextlib import contextmanager, suppress
+from dataclasses import replace
 from functools import partial
 from pathlib import Path
 from typing import Any
@@ -11,7 +12,6 @@ from typing import Any
 from labeltools.common.language import _
 from labeltools.common.messages import ToolError
 from labeltools.common.text import (
-    counted,
     NOTHING,
     remedies_of,
     Remedy,
@@ -20,11 +20,22 @@ from labeltools.common.text import (
 )
 from labeltools.designs.svg_design import is_file
 from labeltools.layout.area import ARTICLE
+from labeltools.lines.symbologies import SYMBOLOGIES
 from labeltools.printing.press import check_count
 from labeltools.sending.sender import Unfinished
+from labeltools.tables.codes import AUTO
 from labeltools.window import sheets
 from labeltools.window.bar import Bar, ERROR, Event, INFO
-from labeltools.window.gtk import add_actions, Caption, Gdk, Gio, GLib, Gtk, leave_wheel
+from labeltools.window.gtk import (
+    add_actions,
+    Caption,
+    Gdk,
+    Gio,
+    GLib,
+    Gtk,
+    leave_wheel,
+    within,
+)
 from labeltools.window.presets import Presets
 from labeltools.window.preview import Preview
 from labeltools.window.printers import Printers
@@ -34,7 +45,7 @@ from labeltools.window.shop import (
     COLUMNS,
     is_of_table,
     MadeLabels,
-    price_patterns,
+    skipped,
     Table,
     typed_with,
 )
@@ -50,12 +61,16 @@ CONTROLS = {
     **dict.fromkeys(("sheet", "roll", "new-only"), "active"),
 }
 RANGES = {"header-row": (0, 1000), "first": (1, 10_000), "width": (5, 500), "height": (5, 500)}
+# those that a remedy chooses by; `sheet` is a worksheet there, and here a sheet of labels
+CHOSEN = ("symbology", "price-as", "header-row", "dpi", "to", "first")
+UNCHOSEN = {"symbology": AUTO}  # what a control has that says nothing; others have an empty text
 HEADERS = {"no-header": ("header-row", "0"), "header": ("header-row", "1")}
 A_FILE = "file"  # the choice of a design in a file
 MOST_NOTES = 2000
 MOST_HELPS = 3  # buttons above the notes
 LOW = 700  # pixels of a window in which the list of notes is closed at first
 USUAL_DPI = {"zpl": "203", "escpos": "203"}  # of the printers of these languages
+LISTED = 400  # milliseconds after a letter in which GTK shows the list of what fits
 LEAST_WRAP = 150  # pixels in which reasons are wrapped
 WRAP_MARGIN = 20  # pixels of the list beside the reasons
 
@@ -93,8 +108,8 @@ class Window(Gtk.ApplicationWindow):
             self,
             {
                 "open": self.ask_table,
-                "save": self.ways.ask_file,
-                "print": self.ways.ask,
+                "save": partial(self.when_made, self.ways.ask_file),
+                "print": partial(self.when_made, self.ways.ask),
                 "command": self.line.popup,
             },
         )
@@ -153,6 +168,7 @@ class Window(Gtk.ApplicationWindow):
     def offer_sheets(self, entry: Any) -> None:
         """Offers the sheets that label-print lists for what is typed, first those that begin so."""
         sheets.offer_sheets(self.sheets, entry.get_text().lower())
+        GLib.timeout_add(LISTED, show_first)
 
     def show_problem(self, problem: ToolError, answers: Answers = ()) -> None:
         """Says why something cannot be done, and what helps: one thing by a button beside it,
@@ -162,6 +178,8 @@ class Window(Gtk.ApplicationWindow):
         remedies = [one for one in remedies_of(problem.hint) if one.says and one.option != "after"]
         found = [*self.remedies([problem.hint]), *self.ways_on(problem), *answers]
         places = [*filter(None, (asked_at(one.option) for one in remedies))]
+        if self.table is None and not remedies and not self.words:
+            self.stack.set_visible_child_name("empty")
         if self.table is None and remedies:
             hint = said(NOTHING, problem.hint)
             self.questions.ask_of_file(said(problem.what), hint, found)
@@ -178,6 +196,7 @@ class Window(Gtk.ApplicationWindow):
             button = Gtk.Button(label=shown, visible=True)
             button.connect("clicked", lambda _button, act=act: act())
             box.add(button)
+            button.get_parent().set_can_focus(False)  # but the button has the focus
 
     def remedies(self, texts: Iterable[Text]) -> Answers:
         """Returns the remedies of some texts as answers, each once."""
@@ -188,20 +207,23 @@ class Window(Gtk.ApplicationWindow):
     def follow(self, remedy: Remedy) -> None:
         """Takes a choice that helps: by its control, or else as an option that is typed."""
         name, value = HEADERS.get(remedy.option, (remedy.option, remedy.value))
-        if name in CONTROLS and not remedy.is_less:
-            self.take({name: type(self.choices()[name] or "")(value)})
-            if str(self.choices()[name]) == value:
-                return
         entry = self.for_table if is_of_table(remedy) else self.for_print
+        if name in CHOSEN:
+            value = UNCHOSEN.get(name, "") if remedy.is_less else value
+            self.take({name: type(self.choices()[name] or "")(value)})
+            remedy = replace(remedy, is_less=True)  # what is typed would count more
         entry.set_text(typed_with(entry.get_text(), remedy))
 
     def ways_on(self, problem: ToolError) -> Answers:
         """Returns how labels go on that a printer took some of."""
         if not isinstance(problem, Unfinished):
             return []
-        text = _("Go on with label {number}").format(number=problem.done + 1)
         labels, _counts = self.ways.sending
-        is_some = problem.done - labels.job.options.after < len(labels.prints)
+        done = problem.done - labels.job.options.after
+        text = _("Go on with label {number}").format(number=problem.done + 1)
+        if not done and not problem.is_doubtful:
+            text = _("Try again")
+        is_some = done < len(labels.prints)
         return [(text, partial(self.ways.ask_to_go_on, problem))] if is_some else []
 
     def asked_in_dialog(self, text: str, answers: Mapping[bool, str]) -> bool | None:
@@ -300,16 +322,17 @@ class Window(Gtk.ApplicationWindow):
         is_same = self.chosen and guess.names == self.names
         own = self.chosen if is_same else {**table.paper, "for-print": "", **table.kept, "first": 1}
         self.names = guess.names
-        self.take({"symbology": guess.symbology, **own})
+        self.take({"symbology": guess.rules.symbology, **own})
         self.of_printers.recall(own)
         self.offer_patterns(table)
-        self.take({"price-as": own.get("price-as", "")})
+        self.take({"price-as": own["price-as"]} if "price-as" in own else {})
         self.text_2.set_visible(self.choices()["text-2"])
         self.words = table.text
         self.take({"for-table": self.words, "header-row": guess.header})
         since = table.printed_on()
-        text = _("Only what is _new or changed since {date}").format(date=since)
+        text = _("Onl_y what is new or changed since {date}").format(date=since)
         self.new_only.set_label(text)
+        self.new_only.get_child().set_line_wrap(True)  # of a label that is new, too
         self.new_only.set_visible(since)
         if not since:
             self.take({"new-only": False})
@@ -323,6 +346,8 @@ class Window(Gtk.ApplicationWindow):
                     self.offer_design(value)
                 if name == "dpi":
                     self.offer_resolution(value)
+                if name in ("symbology", "price-as"):
+                    self.offer_other(name, value)
                 self.control(name).set_property(kind, value)
 
     def choices(self) -> Choices:
@@ -330,22 +355,42 @@ class Window(Gtk.ApplicationWindow):
         found = {name: self.control(name).get_property(kind) for name, kind in CONTROLS.items()}
         return {**found, "printer": self.of_printers.wanted}
 
-    def make(self, _control: Any = None, problem: ToolError | None = None) -> None:
-        """Makes the labels that are chosen, and then says what problem they are made for."""
+    def when_made(self, act: Callable[[], object]) -> None:
+        """Does something with the labels that are chosen: a number or the name of a sheet may just
+        have been typed, and labels are not made for it yet.
+        """
+        for name in RANGES:
+            self.control(name).update()
+        if self.has_labels and self.choices() == self.chosen:
+            act()
+        else:
+            self.make(then=act)
+
+    def make(
+        self,
+        _control: Any = None,
+        problem: ToolError | None = None,
+        then: Callable[[], object] | None = None,
+    ) -> None:
+        """Makes the labels that are chosen, and then says what problem they are made for, or does
+        something with them.
+        """
         if self.table is not None and not self.is_filling:
             self.has_labels = False
             self.chosen = self.choices()
             self.questions.clear()
             self.of_printers.ask()
-            for kind, places in self.table.guess.doubts.items():
-                if self.chosen[kind] is None:
+            guess = self.table.guess
+            doubts: dict[str, Sequence[int]] = {"code": [*guess.codes], **guess.doubts}
+            for kind, places in doubts.items():
+                if self.chosen[kind] is None or kind == "code" and not self.chosen[kind]:
                     self.ask_column(self.table, kind, places)
-            if self.chosen["code"] is None:
+            if not self.chosen["code"]:
                 self.questions.focus()
                 return
             work = partial(self.table.made, self.chosen)
             doing = _("reading {file}…").format(file=self.table.path.name)
-            self.work.start(work, partial(self.show_labels, problem), doing)
+            self.work.start(work, partial(self.show_labels, problem, then), doing)
 
     def ask_column(self, table: Table, kind: str, places: Sequence[int]) -> None:
         """Asks which of some columns has something: only the keeper knows."""
@@ -372,9 +417,9 @@ class Window(Gtk.ApplicationWindow):
         price = self.choices()["price"]
         example = table.guess.examples[int(price) - 1] if price else ""
         self.price_as.append("", with_example(_("as in the table"), example))
-        for shown, pattern in price_patterns(example):
+        for shown, pattern in table.price_patterns(price) if price else ():
             self.price_as.append(pattern, shown)
-        self.take({"price-as": ""})
+        self.take({"price-as": table.guessed_pattern(price)})
 
     def on_more(self, _button: Any) -> None:
         """Asks for a second text, or for none any more."""
@@ -386,7 +431,7 @@ class Window(Gtk.ApplicationWindow):
     def on_printer(self, printer: Any) -> None:
         """Makes the labels for another printer."""
         if not self.is_filling:
-            self.of_printers.on_chosen(printer.get_active_id())
+            GLib.idle_add(self.of_printers.on_chosen, printer.get_active_id())
 
     def on_wheel(self, control: Any, event: Any) -> None:
         """Leaves a turn of the wheel to the panel."""
@@ -407,6 +452,19 @@ class Window(Gtk.ApplicationWindow):
             place = sum(other < int(dpi) for other in known)
             self.dpi.insert(place, dpi, f"{dpi} dpi")
 
+    def offer_other(self, name: str, value: str) -> None:
+        """Offers a kind of code, or a pattern of prices, that is not in the list of usual ones."""
+        control = self.control(name)
+        if value and value not in [row[1] for row in control.get_model()]:
+            is_kind = name == "symbology"
+            control.append(value, SYMBOLOGIES[value].title if is_kind else self.price_by(value))
+
+    def price_by(self, pattern: str) -> str:
+        """Returns how the first price is printed by a pattern, or else that."""
+        price = self.choices()["price"]
+        found = self.table.price_patterns(price, [pattern]) if self.table and price else ()
+        return {one: shown for shown, one in found}.get(pattern, pattern)
+
     def offer_design(self, name: str) -> None:
         """Offers a design of a file, before the choice of another one."""
         known = [row[1] for row in self.design.get_model()]
@@ -414,16 +472,23 @@ class Window(Gtk.ApplicationWindow):
             self.design.insert(len(known) - 1, name, Path(name).name)
 
     def on_design(self, design: Any) -> None:
-        """Makes the labels in another design; asks for its file where that is chosen."""
+        """Makes the labels in another design; asks for its file where that is chosen, once the list
+        of choices is closed.
+        """
         name = design.get_active_id()
         if name == A_FILE:
-            is_found = self.design_opener.run() == Gtk.ResponseType.ACCEPT
-            self.take(
-                {"design": self.design_opener.get_filename() if is_found else self.last_design}
-            )
+            GLib.idle_add(self.ask_design)
         elif name:
             self.last_design = name
             self.make()
+
+    def ask_design(self) -> None:
+        """Asks for the file of a design."""
+        last = Path(self.last_design) if is_file(self.last_design) else self.path
+        self.design_opener.set_current_folder(str((last or Path()).absolute().parent))
+        is_found = self.design_opener.run() == Gtk.ResponseType.ACCEPT
+        name = self.design_opener.get_filename() if is_found else self.last_design
+        self.take({"design": name})
 
     def on_sheet(self, entry: Any, _event: Any = None) -> bool:
         """Makes the labels once a sheet is named as it is listed; else they are made when its name
@@ -441,7 +506,9 @@ class Window(Gtk.ApplicationWindow):
             self.reason.set_property("wrap-width", width)
             GLib.idle_add(self.why.queue_resize)
 
-    def show_labels(self, problem: ToolError | None, made: MadeLabels) -> None:
+    def show_labels(
+        self, problem: ToolError | None, then: Callable[[], object] | None, made: MadeLabels
+    ) -> None:
         """Shows the labels that were made, and what there is to say about them."""
         self.made = made
         self.command.set_text(made.command)
@@ -466,6 +533,10 @@ class Window(Gtk.ApplicationWindow):
             check_count(made.labels.job, made.labels.prints)
             self.has_labels = True
         self.let_out(self.has_labels)
+        self.go_on(problem, then)
+
+    def go_on(self, problem: ToolError | None, then: Callable[[], object] | None) -> None:
+        """Does what has to wait for labels, once they are shown."""
         if self.is_new:
             self.is_new = False
             self.questions.focus()
@@ -473,21 +544,28 @@ class Window(Gtk.ApplicationWindow):
             self.show_problem(problem)
         if self.table is not None:
             self.ways.look_back(self.table)
+        if then is not None and self.print_button.get_sensitive():
+            then()
 
     def show_left_out(self, notes: Sequence[Any], count: int) -> None:
-        """Shows how many rows are skipped, with their list where there is room for it."""
-        text = translated(counted("{} row is skipped", "{} rows are skipped", count))
-        self.left_out.set_text(text if count else _("Please look at this"))
+        """Shows how many rows are skipped, with their list where there is room for it; of a table
+        that is new, since the keeper may have opened or closed the list.
+        """
         name = "dialog-warning-symbolic" if count else "dialog-information-symbolic"
         self.left_out_icon.set_from_icon_name(name, Gtk.IconSize.BUTTON)
         self.below.set_visible(notes)
-        self.fold.set_active(self.get_size()[1] > LOW)
+        if self.is_new:
+            self.fold.set_active(self.get_size()[1] > LOW)
         self.on_fold(self.fold)
 
     def on_fold(self, fold: Any) -> None:
         """Shows the list of what is skipped, or hides it."""
         is_open = fold.get_active()
         self.notes_box.set_visible(is_open)
+        text = Text("Please look at this")
+        if count := self.made.left_out:
+            text = skipped(count) if is_open else Text("{}: click to see why", skipped(count))
+        self.left_out.set_text(translated(text))
         name = "pan-down-symbolic" if is_open else "pan-end-symbolic"
         self.fold_icon.set_from_icon_name(name, Gtk.IconSize.BUTTON)
 
@@ -502,6 +580,7 @@ class Window(Gtk.ApplicationWindow):
         self.of.set_text(_("of {all}").format(all=self.shown.count))
         width, height = self.shown.size
         self.desk.set_property("ratio", width / height)
+        self.paper.set_has_tooltip(self.begins_by_click())
         self.paper.queue_draw()
 
     def on_draw(self, paper: Any, canvas: Any) -> None:
@@ -514,9 +593,12 @@ class Window(Gtk.ApplicationWindow):
         """Begins at the cell of the first page that was clicked: those before it are used."""
         scale = paper.get_allocated_width() / self.shown.size[0]
         cell = self.shown.cell_at(event.x / scale, event.y / scale)
-        is_first = self.number.get_value_as_int() == 1
-        if cell and is_first and self.view.get_active_id() == "page":
+        if cell and self.begins_by_click() and self.number.get_value_as_int() == 1:
             self.first.set_value(cell)
+
+    def begins_by_click(self) -> bool:
+        """Returns whether a click on a page says where its labels begin."""
+        return bool(self.sheet.get_active() and self.view.get_active_id() == "page")
 
     def on_note(self, selection: Any) -> None:
         """Shows the label of the row that was chosen, where there is one."""
@@ -526,7 +608,10 @@ class Window(Gtk.ApplicationWindow):
             self.number.set_value(page)
 
     def ask_table(self) -> None:
-        """Asks for a table."""
+        """Asks for a table, first where the last one was."""
+        documents = GLib.get_user_special_dir(GLib.UserDirectory.DIRECTORY_DOCUMENTS)
+        folder = self.path.absolute().parent if self.path else documents or Path.home()
+        self.opener.set_current_folder(str(folder))
         if self.opener.run() == Gtk.ResponseType.ACCEPT:
             self.open(Path(self.opener.get_filename()))
 
@@ -546,6 +631,18 @@ class Window(Gtk.ApplicationWindow):
             if is_header or control.get_text() != self.words:
                 header = control.get_value_as_int() if is_header else None
                 self.open(self.path, header, is_again=True)
+
+
+def show_first() -> bool:
+    """Shows the first rows of a list beside what is typed: GTK shows the last ones where the list
+    is above it.
+    """
+    for one in Gtk.Window.list_toplevels():
+        if one.get_type_hint() == Gdk.WindowTypeHint.COMBO and one.get_visible():
+            for part in within(one):
+                if isinstance(part, Gtk.TreeView):
+                    part.scroll_to_point(-1, 0)
+    return False
 
 
 def is_of_signs(hint: Text) -> bool:

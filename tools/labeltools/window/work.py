@@ -94,6 +94,8 @@ class Work:
 
 def progress_text(talk: WindowTalk) -> str:
     """Returns how much of the work is done, or else what is done, with a count if there is one."""
+    if not talk.total and talk.printer:
+        return _("waiting for {printer}…").format(printer=talk.printer)
     if not talk.total:
         return f"{talk.doing} {talk.done:n}" if talk.done else talk.doing
     done, total = (f"{number:n}" for number in (talk.done, talk.total))

@@ -1,0 +1,86 @@
+"""What the text of a cell may be: a number of an article, a name, an amount of money, a count."""
+
+import re
+from collections.abc import Sequence
+from contextlib import suppress
+from decimal import Decimal
+
+from labeltools.common.messages import RowError
+from labeltools.tables.money import parse
+
+# what may be the number of an article: three digits and more, but neither a date nor a count
+ARTICLE = re.compile(
+    r"(?!\d{1,4}[./-]\d{1,2}[./-]\d{1,4}\Z)(?=(?:.*[0-9]){3})(?:(?=.*[A-Za-z])|(?=[^.]{5}))"
+    r"[\w./-]{4,30}|\S+://\S+"
+)
+AMOUNT = re.compile("[0-9]{1,6}(?:[.,][0-9]+)?")
+ABOVE_ZERO = re.compile("[1-9]")
+COUNT = re.compile("[0-9]{1,3}")
+FIGURES = re.compile(r"[\W_]*[0-9][\W\d_]*")  # a date or an amount, which is no name
+LETTER = re.compile(r"[^\W\d_]")
+LETTERS = re.compile(r"(?:[^\W\d][\W\d]*){3}")  # those that a title has
+TAG = re.compile(r"\s*<[a-z][^<>]*>.*", re.DOTALL | re.IGNORECASE)  # what HTML begins with
+# percents of value added tax, of many countries
+TAXES = [Decimal(one) for one in "5 5.5 6 7 8 8.1 9 10 12 13 13.5 14 15 16 17 18 19 20".split()]
+TAXES += [Decimal(one) for one in "21 22 23 24 25 25.5 27".split()]
+CENT = Decimal("0.011")  # what is rounded
+FEW = 3  # amounts that have the same tax by chance
+MOST_TAXES = 3  # in one table
+
+
+def has_letters(text: str) -> bool:
+    """Returns whether a text may be a title: it has letters, and is neither a number of an article
+    nor an amount of money; raises `RowError`.
+    """
+    if not any(map(str.isalpha, text)) or ARTICLE.fullmatch(text):
+        return False
+    with suppress(RowError):
+        return not is_money(text)
+    return True
+
+
+def is_amount(text: str) -> bool:
+    """Returns whether a text may be a price; raises `RowError`."""
+    return AMOUNT.fullmatch(text) is not None or is_money(text)
+
+
+def is_paid(text: str) -> bool:
+    """Returns whether a text may be a price that is not zero; raises `RowError`."""
+    return ABOVE_ZERO.search(text) is not None and is_amount(text)
+
+
+def has_currency(text: str) -> bool:
+    """Returns whether a text is a price with a currency; raises `RowError`."""
+    return bool(parse(text).currency)
+
+
+def is_money(text: str) -> bool:
+    """Returns whether a text is a price with two decimals or a currency; raises `RowError`."""
+    price = parse(text)
+    return price.decimals == 2 or bool(price.currency)
+
+
+def amounts_of(some: Sequence[str], others: Sequence[str]) -> set[tuple[Decimal, Decimal]]:
+    """Returns the amounts of two columns that are in the same rows."""
+    pairs = set()
+    for one, other in zip(some, others):
+        with suppress(RowError):
+            pairs.add((parse(one).value, parse(other).value))
+    return pairs
+
+
+def is_taxed(bare: Sequence[str], whole: Sequence[str]) -> bool:
+    """Returns whether amounts are others with their tax, of which a table has few.
+
+    >>> is_taxed(["10.00", "20.00", "5.00", "x"], ["11.90", "23.80", "5.95", ""])
+    True
+    >>> is_taxed(["10.00", "20.00", "5.00"], ["11.90", "23.80", "6.00"])
+    False
+    """
+    left = {(a, b) for a, b in amounts_of(bare, whole) if a != b}  # the others have no tax
+    count, taxes = len(left), 0
+    while left and taxes < MOST_TAXES:
+        factors = (1 + percent / 100 for percent in TAXES)
+        left = min(({(a, b) for a, b in left if abs(b - a * x) > CENT} for x in factors), key=len)
+        taxes += 1
+    return not left and count >= FEW * max(1, taxes)

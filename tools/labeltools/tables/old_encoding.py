@@ -1,0 +1,190 @@
+"""The encoding of a table of text that is not UTF-8, where only one reading of it is sensible: by
+the letters of the language in which its columns are named, or else by those of any language.
+"""
+
+import re
+from collections.abc import Collection, Iterable, Sequence
+from contextlib import suppress
+from dataclasses import dataclass, replace
+from functools import cached_property
+from pathlib import Path
+
+from labeltools.common.messages import quoted, Silence, ToolError
+from labeltools.common.text import joined, Remedy, Text
+from labeltools.common.word_lists import lists_by_section
+from labeltools.sheets.encoding import is_odd, LONGEST_WORD, other_words, SIGNS, text_by
+from labeltools.tables.guess import guess_of
+from labeltools.tables.name_words import words_in, words_of_languages
+from labeltools.tables.table_options import TableOptions
+
+SECTIONS = lists_by_section(Path(__file__).with_name("languages.list"))
+LANGUAGES = {name: one for name, one in SECTIONS.items() if "group" in one}
+GROUPS = {name: one["encodings"] for name, one in SECTIONS.items() if "encodings" in one}
+# whose old encodings are taken for those of others
+NEAR = [name for name, one in LANGUAGES.items() if {"western", "central"} & {*one["group"]}]
+OF_WINDOWS = {encodings[0] for encodings in GROUPS.values()}
+MOST_ODD = 0.05  # the part of the words of a sensible reading that nobody writes
+MOST_TRIED = 2000  # words
+MOST_SHOWN = 3
+# signs that stand at letters where these were read badly
+AT_LETTERS = re.compile(
+    r"""´|(?<=[^\W\d_])[‚„]|(?<=[^\W\d_])[–‘](?=[^\W\d_])
+    |[€£¥](?=[^\W\d_])|(?<=[a-moz])[ºª]|[ºª](?=[a-z])|^’[^\0-~]""",
+    re.VERBOSE,
+)
+ALONE = "àèéóåøöíÀÈÉØÅÖ"  # letters that are words of their own, or signs
+AROUND = "()[]'.:!?/-"  # a word
+
+
+@dataclass(frozen=True)
+class Reading:
+    """How some encodings read the words of a table that have other letters than ASCII."""
+
+    encodings: Sequence[str]
+    words: Sequence[str]
+
+    @cached_property
+    def odd(self) -> frozenset[str]:
+        """The words that nobody writes."""
+        return frozenset(word for word in self.words[:MOST_TRIED] if is_strange(word))
+
+    @cached_property
+    def letters(self) -> frozenset[str]:
+        """The letters beside a to z."""
+        found = set("".join(self.words))
+        return frozenset(one for one in found if one.isalpha() and not one.isascii()) - {*SIGNS}
+
+    @property
+    def is_sensible(self) -> bool:
+        """Whether people write nearly all of its words."""
+        return len(self.odd) <= MOST_ODD * len(self.words[:MOST_TRIED])
+
+    def encoding_in(self, languages: Iterable[str], has_foreign: bool = False) -> str:
+        """Returns the encoding in which a program of one of some languages writes all letters, with
+        those of words from abroad or without them; empty if there is none.
+        """
+        for language in languages:
+            for group in LANGUAGES[language]["group"]:
+                own = "".join(
+                    LANGUAGES[language]["letters"] + SECTIONS[group]["letters"] * has_foreign
+                )
+                if all(one in own or one.lower() in own for one in self.letters):
+                    for encoding in GROUPS[group]:
+                        if encoding in self.encodings:
+                            return encoding
+        return ""
+
+    @property
+    def is_of_windows(self) -> bool:
+        """Whether an encoding of Windows reads it so."""
+        return not OF_WINDOWS.isdisjoint(self.encodings)
+
+    def is_better_than(self, other: "Reading") -> bool:
+        """Returns whether nobody writes what another one reads otherwise."""
+        pairs = [both for both in zip(self.words, other.words) if both[0] != both[1]]
+        return bool(pairs) and not self.odd and all(their in other.odd for _, their in pairs)
+
+
+@dataclass(frozen=True)
+class OldEncoding:
+    """The encoding of a table, and how it reads some of its words."""
+
+    name: str
+    words: Sequence[str]
+
+    @property
+    def text(self) -> Text:
+        """What is said of it."""
+        shown = joined(", ", map(quoted, self.words))
+        return Text("the table is read as {}, with words such as {}", self.name, shown)
+
+    @property
+    def hint(self) -> Text:
+        """What helps if it is the wrong one: without it, others are offered."""
+        others = Remedy("encoding", self.name, Text("Choose the encoding"), is_less=True)
+        hint = Text("if letters are wrong, leave out {}", others)
+        return hint.in_window(Text("check the letters"))
+
+
+def old_encoding(data: bytes, name: str, options: TableOptions) -> OldEncoding | None:
+    """Returns the encoding of a table that is not UTF-8; None where several readings are sensible,
+    or none.
+    """
+    codecs = dict.fromkeys(one for encodings in GROUPS.values() for one in encodings)
+    tried = (Reading(own, words) for words, own in other_words(data, codecs).items())
+    every = [one for one in tried if one.is_sensible]
+    every = [one for one in every if not any(it.is_better_than(one) for it in every)]
+    found = the_one(every, languages_of(data, name, options, every))
+    if found is None:
+        return None
+    encoding, reading = found
+    text = text_by(data, encoding)
+    if text.count("«") != text.count("»") or text.count("„") > sum(map(text.count, "“”")):
+        return None
+    return OldEncoding(encoding, shown_words(reading)) if text else None
+
+
+def the_one(every: Sequence[Reading], languages: Collection[str]) -> tuple[str, Reading] | None:
+    """Returns the one sensible reading, with its encoding, of a table whose columns are named in
+    some languages, in none where that is not known.
+
+    Of DOS and of Macs it is only with several letters of such a language. One with letters from
+    abroad is sensible where no language of Europe's west or middle has all letters of another one.
+    """
+    known = languages or LANGUAGES
+    own = [one for one in every if one.encoding_in(known)]
+    foreign = [one for one in every if one.encoding_in(known, has_foreign=True)]
+    if len(own) == 1:
+        one = own[0]
+        is_plain = languages and one.letters and one.is_of_windows
+        is_alone = len(foreign) == 1 and (one.is_of_windows or languages and len(one.letters) > 1)
+        return (one.encoding_in(known), one) if is_plain or is_alone else None
+    if languages and not own and len(foreign) == 1 and foreign[0].is_of_windows:
+        if not any(one.encoding_in(NEAR) for one in every if one not in foreign):
+            return foreign[0].encoding_in(known, has_foreign=True), foreign[0]
+    return None
+
+
+def languages_of(
+    data: bytes, name: str, options: TableOptions, readings: Iterable[Reading]
+) -> Collection[str]:
+    """Returns the languages that know most words of the names of the columns, of all that English
+    does not know, as the reading has them of which most are known.
+    """
+    best: dict[int, set[str]] = {}
+    for reading in readings:
+        file = replace(options.file, encoding=reading.encodings[0])
+        with suppress(ToolError):
+            names = guess_of(data, name, replace(options, file=file), Silence()).names
+            words = {word for one in names for word in words_in(one)}
+            for language, known in words_of_languages().items():
+                count = sum(map(known.has, words))
+                best.setdefault(count, set()).add(language)
+    most = max(best, default=0)
+    return best[most] & LANGUAGES.keys() if most else ()
+
+
+def shown_words(reading: Reading) -> Sequence[str]:
+    """Returns some words of a reading that show its letters, the first ones that do."""
+    found: list[str] = []
+    left = set(reading.letters)
+    for word in (one for one in reading.words if one not in reading.odd):
+        if left.intersection(word) and len(found) < MOST_SHOWN:
+            found.append(word.strip(AROUND)[:LONGEST_WORD])
+            left.difference_update(word)
+    return found or [word[:LONGEST_WORD] for word in reading.words[:1]]
+
+
+def is_strange(word: str) -> bool:
+    """Returns whether nobody writes a word, or only a bad reading has it: a letter stands alone in
+    it, or a sign stands at letters that is for numbers or between words.
+
+    >>> [is_strange(one) for one in ("Käse", "50€", "Ø20", "L’Oréal", "1º")]
+    [False, False, False, False, False]
+    >>> [is_strange(one) for one in ("50Ä", "Espa–a", "œ", "´itný", "aº")]
+    [True, True, True, True, True]
+    """
+    letters = [sign for sign in word if sign.isalpha() and sign not in SIGNS]
+    if len(letters) == 1 and not letters[0].isascii() and letters[0] not in ALONE:
+        return True
+    return AT_LETTERS.search(word) is not None or is_odd(word)
