@@ -152,12 +152,14 @@ class TakenAway(InCopy):
             "scripts/mypy.ini": read(self.path("scripts/mypy.ini")),
             "scripts/planted.py": "import os\nx = 'one'\n",
             "scripts/planted.sh": "#!/bin/sh\nrm $1\n",
-            "tools/labeltools/one.py": "number: int = 'one'\n",
+            "tools/labeltools/one.py": f"number: int = 'one'\nlong = '{'x' * 92}'\n",
+            "tools/labeltools/two.py": "import re\nimport os\n",
             "lib/one.py": "def one() -> None:\n" + "    pass\n" * 31,
             "completions/two.py": f"import os  {NOQA}\n",
             "debian/one.sh": f"#!/bin/sh\n{NOQA}\nrm $1\n",
             "tools/label-other": f"{first}\nimport os\n",
             ".flake8": "[flake8]\nextend-ignore = F\n",
+            "setup.cfg": "[pycodestyle]\nignore = E,W\nmax-line-length = 999\n",
             "pyproject.toml": "[tool.black]\nexclude = '.'\n",
             ".shellcheckrc": "disable=all\n",
         }
@@ -174,14 +176,17 @@ class TakenAway(InCopy):
             with mock.patch.object(module("lints"), "faults_of_rules", return_value=[]):
                 status, said = in_copy(folder, "lints.py")
         for wanted in (
-            "F401",
-            "SC2086",
-            "119 found something",
+            "scripts/planted.py:1: UnusedImport",
+            "scripts/planted.py:1: black gives it another layout",
+            "scripts/planted.sh:2:4: note: Double quote",
             "Incompatible types",
+            "tools/labeltools/one.py:2: E501 line too long (101 > 100 characters)",
+            "tools/labeltools/two.py:2: its imports are out of order",
             f"tools/label-other: no lint knows {first}",
-            "shellcheck --norc --shell=bash reads no file: []",
+            "shellcheck --norc --format=gcc --shell=bash reads no file: []",
             "lib/one.py:1: one has 31 statements, 30 at most",
             f"completions/two.py:1: it silences a lint: import os  {NOQA}",
+            "completions/two.py:1: UnusedImport",
             f"debian/one.sh:2: it silences a lint: {NOQA}",
         ):
             self.assertIn(wanted, said)
@@ -231,8 +236,8 @@ class FilesOfLints(unittest.TestCase):
         self.assertEqual(wanted - NOT_READ - {*read_by}, set())
         for path in files["python"]:
             with self.subTest(path):
-                # One for its layout, one for its style, one for its types.
-                self.assertEqual(read_by.count(path), 3)
+                # One for its layout and its style, one for its types.
+                self.assertEqual(read_by.count(path), 2)
 
 
 class Subjects(unittest.TestCase):
@@ -254,24 +259,23 @@ class KeptLints(InFolder):
         os.chdir(self.folder)
         self.addCleanup(os.chdir, TOP)
         for changed, text, status, runs in (
-            ("one", "right", 0, 2),
-            ("packages", "", 0, 2),
-            ("settings", "other", 0, 2),
+            ("one", "right", 0, 1),
+            ("packages", "", 0, 1),
+            ("settings", "other", 0, 1),
             ("", "", 0, 0),
-            ("one", "wrong", 1, 2),
-            ("", "", 1, 2),
-            ("one", "better", 0, 2),
+            ("one", "wrong", 1, 1),
+            ("", "", 1, 1),
+            ("one", "better", 0, 1),
             ("", "", 0, 0),
         ):
             write(self.path(changed or "none"), text)
             write(self.path("log"), "")
             bent: dict[str, Any] = {
                 "PACKAGES": "packages",
-                "all_lints": lambda _: [lints.Lint("look", ["one"], "bad", "wrong", beside=["settings"])],
+                "SETTINGS": "settings",
+                "all_lints": lambda _: [lints.Program("look", ["one"], ["settings"], "bad", "wrong")],
             }
-            nothing: dict[str, Any] = {
-                name: lambda *_: iter(()) for name in ("faults_of", "faults_of_rules", "faults_of_subjects")
-            }
+            nothing: dict[str, Any] = {name: lambda *_: iter(()) for name in ("faults_of_rules", "faults_of_subjects")}
             path = f"{self.path('bin')}:{os.environ['PATH']}"
             files = mock.patch.multiple(lints, files_by_kind=lambda: dict.fromkeys(KINDS, []), **bent, **nothing)
             with self.subTest(changed=changed, text=text), files, mock.patch.dict(os.environ, PATH=path):
