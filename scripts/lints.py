@@ -1,15 +1,15 @@
 #!/usr/bin/python3
 """Runs the lints of the gate, each over a wrong text too, in which it has to find something.
 
-What a file is, its first line says, or its ending; a first line `#!` that is none of INTERPRETERS is a fault. Each file
-of Python is judged by itself, in forks of this process: black says whether its layout is right, pyflakes and
-pycodestyle look at the rest of its style, and this script at how large functions are, and in the tools at the order of
-the imports. Programs judge the types, the shell and the manuals. Settings beside the code are not read, but for
-scripts/mypy.ini; remarks in the code that silence a lint are faults. What had no fault is judged again where one of its
-files or a package of the system changes: out/lints.txt has the sums. Looked at each time are names that two modules of
-the tools define, functions of the tools that are too long, the subjects of commits since SINCE, HANDLES, the root files
-of the crates, and debian/tests. The last line is `N lints with the limits S, F faults`: S is a sum of their commands
-and settings.
+What a file is, its first line says, or its ending; a first line `#!` that is none of INTERPRETERS is a fault. Each
+file of Python is judged by itself, in forks of this process: black says whether its layout is right, pyflakes and
+pycodestyle look at the rest of its style, and this script at how large functions are, and in the tools at the order
+of the imports. Programs judge the types, the shell and the manuals. Settings beside the code are not read, but for
+scripts/mypy.ini; remarks in the code that silence a lint are faults. What had no fault is judged again where one of
+its files or a package of the system changes: out/lints.txt has the sums. Looked at each time are names that two
+modules of the tools define, functions of the tools that are too long, the subjects of commits since SINCE, HANDLES,
+the root files of the crates, and debian/tests. The last line is `N lints with the limits S, F faults`: S is a sum of
+their commands and settings.
 """
 
 import ast

@@ -3,7 +3,6 @@
 Run by `python3 -m unittest discover -s scripts/tests`. The kit is needed; no third-party tool and no built program is.
 """
 
-import ast
 import importlib.util
 import io
 import os
@@ -100,7 +99,9 @@ class TakenAway(InCopy):
     """Each test takes something away, and a step that runs before the proofs fails for it."""
 
     def judged(self, name: str, *arguments: str) -> tuple[int, str]:
-        """What a step says of the copy; no program runs for a lint."""
+        """What a step says of the copy. No lint runs but those of this process; those of tests run in another one."""
+        if name == "run_tests.py":
+            return run_command([PYTHON, self.path("scripts", name), *arguments])
         with mock.patch.object(module("lints"), "all_lints", return_value=()):
             return super().judged(name, *arguments)
 
@@ -155,7 +156,7 @@ class TakenAway(InCopy):
             "tools/labeltools/one.py": f"number: int = 'one'\nlong = '{'x' * 92}'\n",
             "tools/labeltools/two.py": "import re\nimport os\n",
             "lib/one.py": "def one() -> None:\n" + "    pass\n" * 31,
-            "completions/two.py": f"import os  {NOQA}\n",
+            "completions/three.py": f"import os  {NOQA}\n",
             "debian/one.sh": f"#!/bin/sh\n{NOQA}\nrm $1\n",
             "tools/label-other": f"{first}\nimport os\n",
             ".flake8": "[flake8]\nextend-ignore = F\n",
@@ -185,8 +186,8 @@ class TakenAway(InCopy):
             f"tools/label-other: no lint knows {first}",
             "shellcheck --norc --format=gcc --shell=bash reads no file: []",
             "lib/one.py:1: one has 31 statements, 30 at most",
-            f"completions/two.py:1: it silences a lint: import os  {NOQA}",
-            "completions/two.py:1: UnusedImport",
+            f"completions/three.py:1: it silences a lint: import os  {NOQA}",
+            "completions/three.py:1: UnusedImport",
             f"debian/one.sh:2: it silences a lint: {NOQA}",
         ):
             self.assertIn(wanted, said)
@@ -452,6 +453,10 @@ class Gate(InFolder):
             self.assertEqual((found[0], said in found[1]), (1, True), found[1])
 
 
+# A module that is imported, or several.
+IMPORT = re.compile(r"^ *(?:from (\w+)[\w.]* import |import ([\w.]+(?: as \w+)?(?:, [\w.]+(?: as \w+)?)*)$)", re.M)
+
+
 class Packages(unittest.TestCase):
     """The list of packages, and the steps of the gate."""
 
@@ -467,16 +472,13 @@ class Packages(unittest.TestCase):
         os.chdir(TOP)
         paths = module("lints").files_by_kind()["python"]
         own = {re.sub(r"\.py$", "", part) for path in paths for part in path.split(os.sep)}
-        trees = [ast.parse(read(path)) for path in paths]
-        nodes = [node for tree in trees for node in ast.walk(tree)]
-        names = {alias.name for node in nodes if isinstance(node, ast.Import) for alias in node.names}
-        names |= {node.module for node in nodes if isinstance(node, ast.ImportFrom) and node.module}
-        others = {name.split(".")[0] for name in names} - own - sys.stdlib_module_names
+        found = [it for path in paths for it in IMPORT.findall(read(path))]
+        names = {name for one, several in found for name in (one, *re.findall(r"(?:^|, )(\w+)", several)) if name}
+        others = names - own - sys.stdlib_module_names
         self.assertIn("numpy", others)
         files = [spec.origin if (spec := importlib.util.find_spec(name)) else None for name in others]
         self.assertNotIn(None, files, others)
-        found = subprocess.run(["dpkg", "-S", *map(str, files)], capture_output=True, check=True)
-        rows = found.stdout.decode().splitlines()
+        rows = run_command(["dpkg", "-S", *map(str, files)])[1].splitlines()
         self.assertEqual(sorted(row.split(": ")[1] for row in rows), sorted(map(str, files)))
         for row in rows:
             with self.subTest(row):
