@@ -127,6 +127,21 @@ class InCopy(unittest.TestCase):
             self.addCleanup(os.remove, self.path(file))
         write(self.path(file), text)
 
+    def assert_all_seen(
+        self, changes: Iterable[tuple[str, str, str, str]], judge: Callable[[], tuple[int, str]]
+    ) -> None:
+        """Changes of files, made together, make `judge` end with 1 and say what each of them is to make it say."""
+        texts: dict[str, str] = {}
+        for file, old, new, _ in changes:
+            text = texts.get(file) or read(self.path(file))
+            self.assertIn(old, text)
+            texts[file] = text.replace(old, new, 1)
+        for file, text in texts.items():
+            self.replace(file, text)
+        status, said = judge()
+        self.assertEqual((status, [wanted for *_, wanted in changes if wanted not in said]), (1, []), said)
+        self.doCleanups()
+
     def assert_changes_fail(
         self, changes: Iterable[tuple[str, str, str, str]], fails: Callable[[], tuple[int, str]]
     ) -> None:

@@ -117,16 +117,8 @@ class TakenAway(InCopy):
 
     def test_what_is_written_otherwise(self) -> None:
         for step, changes in CHANGED.items():
-            texts = {file: read(self.path(file)) for file, *_ in changes}
-            for file, old, new, _ in changes:
-                self.assertIn(old, texts[file])
-                texts[file] = texts[file].replace(old, new, 1)
-            for file, text in texts.items():
-                self.replace(file, text)
-            status, said = self.judged(*step.split())
-            unseen = [wanted for *_, wanted in changes if wanted not in said]
-            self.assertEqual((status, unseen), (1, []), said)
-            self.doCleanups()
+            with self.subTest(step=step):
+                self.assert_all_seen(changes, lambda: self.judged(*step.split()))
 
     def test_ways_in_which_tests_do_not_pass(self) -> None:
         self.move("lib/tests", "lib/tests-away")
