@@ -21,10 +21,12 @@ import re
 import sys
 from concurrent.futures import ProcessPoolExecutor
 from dataclasses import dataclass
+from operator import methodcaller
 from typing import Any, Iterator, Mapping, Sequence
 
 import black
 import mccabe
+import mypy.api
 import pycodestyle
 import pyflakes.checker
 
@@ -211,12 +213,13 @@ class Program(Lint):
         """What it finds, or that it reads no file, or that it finds nothing in what is wrong."""
         wrong = f"{WRONG_FILES}/{self.wrong_name}"
         sources.write(wrong, self.wrong)
-        said = sources.run([*self.limits.split(), *self.files, wrong])[1].splitlines()
-        of_wrong = "\n".join(line for line in said if wrong in line)
+        command, *words = *self.limits.split(), *self.files, wrong
+        said = "".join(mypy.api.run(words)[:2]) if command == "mypy" else sources.run([command, *words])[1]
+        of_wrong = "\n".join(line for line in said.splitlines() if wrong in line)
         unseen = [it for it in self.finds if not of_wrong or it not in of_wrong]
         if unseen or not self.files:
-            said += [f"{self.limits} {'finds nothing in a wrong file' if unseen else 'reads no file'}: {unseen}"]
-        return [line for line in said if wrong not in line]
+            said += f"{self.limits} {'finds nothing in a wrong file' if unseen else 'reads no file'}: {unseen}"
+        return [line for line in said.splitlines() if wrong not in line]
 
 
 def kind_of(path: str) -> str:
@@ -311,13 +314,15 @@ def all_lints(files: Mapping[str, Sequence[str]]) -> list[Lint]:
 
 
 def judged(lints: Mapping[str, Lint]) -> dict[str, list[str]]:
-    """What lints find, by their sums: those of Python in forks of this process, and beside these the programs, one
-    after the other, since mypy keeps for the next run what it has read of the modules that all use."""
+    """What lints find, by their sums, in forks of this process: some at a time, but the programs one after the other,
+    since mypy keeps for the next run what it has read of the modules that all use. Looking for what can be freed would
+    take a third of the time."""
     programs = {it: lint for it, lint in lints.items() if isinstance(lint, Program)}
     others = {it: lint for it, lint in lints.items() if it not in programs}
     with ProcessPoolExecutor(len(os.sched_getaffinity(0)), initializer=gc.disable) as pool:
-        found = pool.map(Lint.faults, others.values(), chunksize=4)
-        return {it: lint.faults() for it, lint in programs.items()} | dict(zip(others, found))
+        of_programs = pool.map(methodcaller("faults"), programs.values(), chunksize=len(programs) or 1)
+        found = pool.map(methodcaller("faults"), others.values(), chunksize=4)
+        return dict(zip(programs, of_programs)) | dict(zip(others, found))
 
 
 def main() -> int:
