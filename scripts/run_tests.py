@@ -18,6 +18,7 @@ import signal
 import sys
 import tempfile
 import time
+import traceback
 import unittest
 from dataclasses import astuple, dataclass
 from typing import IO, Any, Iterable, Iterator, NoReturn, TextIO
@@ -116,6 +117,29 @@ def judged(suite: unittest.TestSuite, is_quick: bool, stream: TextIO) -> Counts:
     return Counts(len(result.passed), len(not_passed) - len(left_out), len(left_out))
 
 
+def begun(part: unittest.TestSuite, is_quick: bool, said: IO[str]) -> int:
+    """The number of a process, a fork of this one, that runs tests, and writes what comes of them into a file, last as
+    three numbers."""
+    sys.stdout.flush()
+    sys.stderr.flush()
+    process = os.fork()
+    if process:
+        return process
+    status = 1
+    for number, file in enumerate((os.open(os.devnull, os.O_RDONLY), said.fileno(), said.fileno())):
+        os.dup2(file, number)
+    sys.stdout = sys.stderr = open(1, "w", encoding="utf-8", errors="backslashreplace", closefd=False)
+    try:
+        give_time()
+        print(*astuple(judged(part, is_quick, sys.stderr)))
+        status = 0
+    except BaseException:
+        traceback.print_exc()
+    finally:
+        sys.stdout.flush()
+        os._exit(status)
+
+
 def judged_apart(parts: Iterable[unittest.TestSuite], is_quick: bool) -> Counts:
     """Runs each part in a fork of this process, and returns what came of all. Where a process ends before its tests
     they failed."""
@@ -126,7 +150,7 @@ def judged_apart(parts: Iterable[unittest.TestSuite], is_quick: bool) -> Counts:
     while waiting or running:
         if waiting and len(running) < PROCESSORS:
             part, said = waiting.pop(), tempfile.TemporaryFile("w+", errors="replace")
-            running[sources.started(lambda: judged_here(part, is_quick), said)] = part.countTestCases(), said
+            running[begun(part, is_quick, said)] = part.countTestCases(), said
             continue
         process, status = os.wait()
         count, said = running.pop(process)
@@ -136,13 +160,6 @@ def judged_apart(parts: Iterable[unittest.TestSuite], is_quick: bool) -> Counts:
         found.append(tuple(map(int, last.split())) if status == 0 else (0, count, 0))
         print(*lines, *[last] * (status != 0), sep="\n", file=sys.stderr)
     return Counts(*map(sum, zip((0, 0, 0), *found)))
-
-
-def judged_here(part: unittest.TestSuite, is_quick: bool) -> int:
-    """Runs tests, and prints what came of them as three numbers."""
-    give_time()
-    print(*astuple(judged(part, is_quick, sys.stderr)))
-    return 0
 
 
 class Shown(unittest.TestCase):

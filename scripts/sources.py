@@ -8,8 +8,7 @@ import importlib
 import os
 import subprocess
 import sys
-import traceback
-from typing import IO, Any, Callable, Iterable, Sequence
+from typing import Any, Iterable, Sequence
 
 # Debian's Python, which has the modules that the tools need, whatever is first on the path.
 PYTHON = "/usr/bin/python3"
@@ -34,30 +33,6 @@ def run(command: Sequence[str], folder: str | None = None, **more: str) -> tuple
     except FileNotFoundError:
         return 127, f"not installed: {command[0]}\n"
     return done.returncode, done.stdout
-
-
-def started(work: Callable[[], int], said: IO[Any]) -> int:
-    """The number of a process, a fork of this one, that does this work, writes into a file, and ends with the status
-    that the work has."""
-    sys.stdout.flush()
-    sys.stderr.flush()
-    process = os.fork()
-    if process:
-        return process
-    status = 1
-    for number, file in enumerate((os.open(os.devnull, os.O_RDONLY), said.fileno(), said.fileno())):
-        os.dup2(file, number)
-    sys.stdout = sys.stderr = open(1, "w", encoding="utf-8", errors="backslashreplace", closefd=False)
-    try:
-        status = work()
-    except SystemExit as end:
-        print("" if isinstance(end.code, int) else end.code)
-        status = end.code if isinstance(end.code, int) else 1
-    except BaseException:
-        traceback.print_exc()
-    finally:
-        sys.stdout.flush()
-        os._exit(status)
 
 
 def parser_of(description: str | None) -> argparse.ArgumentParser:
