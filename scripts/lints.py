@@ -7,13 +7,13 @@ pycodestyle look at the rest of its style, and this script at how large function
 of the imports. Programs judge the types, the shell and the manuals. Settings beside the code are not read, but for
 scripts/mypy.ini; remarks in the code that silence a lint are faults. What had no fault is judged again where one of
 its files or a package of the system changes: out/lints.txt has the sums. Looked at each time are names that two
-modules of the tools define, functions of the tools that are too long, the subjects of commits since SINCE, HANDLES,
-the root files of the crates, and debian/tests. The last line is `N lints with the limits S, F faults`: S is a sum of
-their commands and settings.
+modules of the tools define, the subjects of commits since SINCE, HANDLES, the root files of the crates, and
+debian/tests. The last line is `N lints with the limits S, F faults`: S is a sum of their commands and settings.
 """
 
 import ast
 import contextlib
+import functools
 import gc
 import glob
 import os
@@ -56,8 +56,8 @@ SINCE, LONGEST = "f68bd431", 72
 NO_HANDLES = "Handles allowed: none.\n"
 AUTO = "#![tactic(auto)]"
 # What has to be found in WRONG: another layout, what is not used, a name that is not there, a line that is too long, a
-# bare except, a function with too many ways and statements, a remark that silences a lint, and imports out of order.
-BRANCHES = "    if two:\n        pass\n" * MOST_WAYS
+# bare except, a function that has too much of each, a remark that silences a lint, and imports out of order.
+BRANCHES = "    if two:\n        pass\n" * MOST_LINES
 WRONG = f"""import os  # {'noqa'}
 import ast
 
@@ -66,20 +66,22 @@ def one():
     two = three
 
 
-def four(two):
+def four(two, b, c, d, e, f, *g):
 {BRANCHES}    try:
         four('{WIDE * 'x'}')
     except:
         pass
 """
-FINDS = ("layout", "UnusedImport", "UnusedVariable", "UndefinedName", "E501", "E722", "ways", "statements", "silences")
+FINDS = (
+    *("layout", "UnusedImport", "UnusedVariable", "UndefinedName", "E501", "E722", "silences", "order"),
+    *("ways", "statements", "lines", "parameters"),
+)
 # Imports of which three are out of order.
 WRONG_ORDER = "import os\nimport ast\nfrom b import A, c\nfrom a import A\nfrom d import b, A\n\nimport e\n"
-# Modules in which four things are wrong: a type and a function that both define, and a function that is too long and
-# takes too much.
+# Modules that both define a type and a function.
 WRONG_MODULES = {
-    "one.py": "class Ab:\n    pass\n\n\ndef b(c, d, e, f, g, *h, i):\n" + "    pass\n" * MOST_LINES,
-    "two.py": "Ab = tuple[int, int]\n\n\ndef b():\n    pass\n",
+    "one.py": "class Ab:\n    pass\n\n\ndef b():\n    pass\n",
+    "two.py": "Ab = int\n\n\ndef b():\n    pass\n",
 }
 # What mypy has to find: a module that is not there, a function without types, and another type than is said.
 UNTYPED = "import nowhere\n\n\ndef one(two):\n    return two\n\n\nnumber: int = 'one'\n"
@@ -118,20 +120,21 @@ def faults_of_style(path: str, tree: ast.Module, text: str, width: int) -> Itera
     yield from (f"{line}: {said}" for line, said in found if not style.ignore_code(said[:4]))
 
 
-def functions_of(tree: ast.Module) -> Iterator[ast.FunctionDef | ast.AsyncFunctionDef]:
-    """The functions of a module, and those within others."""
-    for node in ast.walk(tree):
-        if isinstance(node, (ast.FunctionDef, ast.AsyncFunctionDef)):
-            yield node
-
-
-def faults_of_size(tree: ast.Module) -> Iterator[str]:
-    """The functions that have too many statements, or too many ways through them."""
-    for function in functions_of(tree):
-        count = sum(isinstance(node, ast.stmt) for node in ast.walk(function)) - 1
-        count -= ast.get_docstring(function) is not None
-        if count > MOST_STATEMENTS:
-            yield f"{function.lineno}: {function.name} has {count} statements, {MOST_STATEMENTS} at most"
+def faults_of_size(tree: ast.Module, is_module: bool) -> Iterator[str]:
+    """The functions that have too many statements, or too many ways through them; in a module of the tools also those
+    that have too many lines, or parameters beside their object."""
+    for function in ast.walk(tree):
+        if isinstance(function, (ast.FunctionDef, ast.AsyncFunctionDef)):
+            count = sum(isinstance(node, ast.stmt) for node in ast.walk(function)) - 1
+            count -= ast.get_docstring(function) is not None
+            lines = (function.end_lineno or 0) - function.lineno + 1
+            takes = [it.arg for it in ast.walk(function.args) if isinstance(it, ast.arg) and it.arg != "self"]
+            counts = {"statements": (count, MOST_STATEMENTS)}
+            if is_module:
+                counts |= {"lines": (lines, MOST_LINES), "parameters": (len(takes), MOST_PARAMETERS)}
+            for what, (found, most) in counts.items():
+                if found > most:
+                    yield f"{function.lineno}: {function.name} has {found} {what}, {most} at most"
     visitor = mccabe.PathGraphingAstVisitor()
     visitor.preorder(tree, visitor)
     for graph in visitor.graphs.values():
@@ -166,7 +169,7 @@ def faults_of_python(path: str, text: str) -> Iterator[str]:
     tree, is_tool = ast.parse(text), path.startswith("tools/")
     yield from faults_of_layout(text, NARROW if is_tool else WIDE)
     yield from faults_of_style(path, tree, text, NARROW if is_tool and "/tests/" not in path else WIDE)
-    yield from faults_of_size(tree)
+    yield from faults_of_size(tree, path.startswith(PACKAGE))
     yield from faults_of_remarks(text)
     if is_tool:
         yield from (f"{number}: its imports are out of order" for number in disordered(tree))
@@ -174,12 +177,12 @@ def faults_of_python(path: str, text: str) -> Iterator[str]:
 
 def unseen_in_python() -> Iterator[str]:
     """What is not found in wrong texts."""
-    said = "".join(faults_of_python("wrong.py", WRONG))
+    said = "".join(faults_of_python(f"{PACKAGE}wrong.py", WRONG))
     yield from (f"in a wrong text of Python nothing finds {it}" for it in FINDS if it not in said)
     if len([*disordered(ast.parse(WRONG_ORDER))]) != 3:
         yield "imports that are out of order are not found"
-    if len([*faults_of_modules(WRONG_MODULES)]) != 4:
-        yield "names that two modules define, or functions that are too long, are not found"
+    if len([*faults_of_names(WRONG_MODULES)]) != 2:
+        yield "names that two modules define are not found"
 
 
 @dataclass(frozen=True)
@@ -240,7 +243,8 @@ def files_by_kind() -> dict[str, list[str]]:
     return found
 
 
-def defined_in(text: str) -> set[str]:
+@functools.lru_cache(maxsize=None)
+def defined_in(text: str) -> frozenset[str]:
     """The types and the public functions that a module defines; a type may be another name of one."""
     names = set[str]()
     for node in ast.parse(text).body:
@@ -248,24 +252,16 @@ def defined_in(text: str) -> set[str]:
             names.add(node.name)
         elif isinstance(node, ast.Assign):
             names |= {it.id for it in node.targets if isinstance(it, ast.Name) and TYPE.match(it.id)}
-    return {name for name in names if not name.startswith("_")} - {ENTRY}
+    return frozenset(name for name in names if not name.startswith("_")) - {ENTRY}
 
 
-def faults_of_modules(texts: Mapping[str, str]) -> Iterator[str]:
-    """Names that two modules define, and functions that have too many lines, or parameters beside their object."""
+def faults_of_names(texts: Mapping[str, str]) -> Iterator[str]:
+    """Names that two modules define."""
     seen: dict[str, str] = {}
     for path, text in texts.items():
         for name in sorted(defined_in(text)):
             if seen.setdefault(name, path) != path:
                 yield f"{path}: {name} is defined in {seen[name]}, too"
-        for function in functions_of(ast.parse(text)):
-            said = f"{path}:{function.lineno}: {function.name} has"
-            lines = (function.end_lineno or 0) - function.lineno + 1
-            if lines > MOST_LINES:
-                yield f"{said} {lines} lines, {MOST_LINES} at most"
-            takes = [it.arg for it in ast.walk(function.args) if isinstance(it, ast.arg) and it.arg != "self"]
-            if len(takes) > MOST_PARAMETERS:
-                yield f"{said} {len(takes)} parameters, {MOST_PARAMETERS} at most"
 
 
 def faults_of_rules() -> Iterator[str]:
@@ -302,7 +298,7 @@ def below(folders: Sequence[str], paths: Sequence[str]) -> list[str]:
 
 def all_lints(files: Mapping[str, Sequence[str]]) -> list[Lint]:
     """The lints over these files: of Python one for each."""
-    limits = f"{MOST_WAYS} {MOST_STATEMENTS} {NARROW} {WIDE} {OF_BLACK} {WORDS}"
+    limits = f"{MOST_WAYS} {MOST_STATEMENTS} {MOST_LINES} {MOST_PARAMETERS} {NARROW} {WIDE} {OF_BLACK} {WORDS}"
     beside = [SETTINGS, *sources.files_below("lib/python", ".py")]
     return [
         *(Lint(limits, [path], [__file__]) for path in files["python"]),
@@ -330,7 +326,7 @@ def main() -> int:
     os.chdir(sources.TOP)
     files = files_by_kind()
     faults = [*unseen_in_python(), *faults_of_rules(), *faults_of_subjects()]
-    faults += faults_of_modules({path: sources.read(path) for path in files["python"] if path.startswith(PACKAGE)})
+    faults += faults_of_names({path: sources.read(path) for path in files["python"] if path.startswith(PACKAGE)})
     faults += [f"{path}: no lint knows {kind}" for kind in files if kind.startswith("#!") for path in files[kind]]
     for path in (*files["shell"], *files["completion"]):
         faults += [f"{path}:{fault}" for fault in faults_of_remarks(sources.read(path))]
@@ -339,8 +335,8 @@ def main() -> int:
     found = judged({it: lint for it, lint in lints.items() if it not in before})
     sources.write(KEPT, "".join(f"{it}\n" for it in lints if not found.get(it)))
     faults += [fault for of_one in found.values() for fault in of_one]
-    limits = [*dict.fromkeys(lint.limits for lint in lints.values()), f"{MOST_LINES} {MOST_PARAMETERS} {LONGEST}"]
-    last = f"{len(limits)} lints with the limits {sources.sum_of([*limits, sources.read(SETTINGS)])}"
+    limits = dict.fromkeys(lint.limits for lint in lints.values())
+    last = f"{len(limits)} lints with the limits {sources.sum_of([*limits, str(LONGEST), sources.read(SETTINGS)])}"
     return sources.ended(faults, f"{last}, {len(faults)} faults")
 
 
