@@ -315,7 +315,8 @@ def judged(lints: Mapping[str, Lint]) -> dict[str, list[str]]:
     take a third of the time."""
     programs = {it: lint for it, lint in lints.items() if isinstance(lint, Program)}
     others = {it: lint for it, lint in lints.items() if it not in programs}
-    with ProcessPoolExecutor(len(os.sched_getaffinity(0)), initializer=gc.disable) as pool:
+    count = min(len(os.sched_getaffinity(0)), len(lints))
+    with ProcessPoolExecutor(count or 1, initializer=gc.disable) as pool:
         of_programs = pool.map(methodcaller("faults"), programs.values(), chunksize=len(programs) or 1)
         found = pool.map(methodcaller("faults"), others.values(), chunksize=4)
         return dict(zip(programs, of_programs)) | dict(zip(others, found))
