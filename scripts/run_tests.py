@@ -30,7 +30,7 @@ LEFT_OUT = ("is not built: run ", "takes seconds: ")
 # Seconds that a test may take, on a busy machine too, and what is read or set up before it.
 LONGEST = 900.0
 # The most tests that one process runs.
-MOST = 20
+MOST = 40
 PROCESSORS = len(os.sched_getaffinity(0))
 
 

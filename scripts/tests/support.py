@@ -45,7 +45,7 @@ def run(script: str, *arguments: str, **environment: str) -> tuple[int, str]:
 def in_copy(folder: str, name: str, *arguments: str) -> tuple[int, str]:
     """The status of a script of this repository over a copy of it, and all that it prints. It runs in this process,
     which has read the files before: it reads what is changed in the copy."""
-    before, said = os.getcwd(), io.StringIO()
+    said = io.StringIO()
     words = mock.patch.object(sys, "argv", [name, *arguments])
     with mock.patch.object(module("sources"), "TOP", folder), words:
         with contextlib.redirect_stdout(said), contextlib.redirect_stderr(said):
@@ -56,7 +56,7 @@ def in_copy(folder: str, name: str, *arguments: str) -> tuple[int, str]:
                 status = end.code if isinstance(end.code, int) else 1
                 print("" if isinstance(end.code, int) else end.code)
             finally:
-                os.chdir(before)
+                os.chdir(TOP)
     return status, said.getvalue()
 
 

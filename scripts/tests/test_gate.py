@@ -249,8 +249,6 @@ class KeptLints(InFolder):
         write(self.path("bin/look"), '#!/bin/sh\necho "$@" >> log\n! grep -l wrong "$@"\n', is_program=True)
         write(self.path("packages"), "none")
         write(self.path("settings"), "none")
-        os.chdir(self.folder)
-        self.addCleanup(os.chdir, TOP)
         for changed, text, status, runs in (
             ("one", "right", 0, 1),
             ("packages", "", 0, 1),
@@ -273,7 +271,7 @@ class KeptLints(InFolder):
             files = mock.patch.multiple(lints, files_by_kind=lambda: dict.fromkeys(KINDS, []), **bent, **nothing)
             with self.subTest(changed=changed, text=text), files, mock.patch.dict(os.environ, PATH=path):
                 found, said = in_copy(self.folder, "lints.py")
-                self.assertEqual((found, read("log").count("\n")), (status, runs), said)
+                self.assertEqual((found, read(self.path("log")).count("\n")), (status, runs), said)
 
 
 def is_program(path: str) -> bool:
