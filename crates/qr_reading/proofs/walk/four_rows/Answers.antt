@@ -1,4 +1,4 @@
-use Rattle.std.proofs.Common.{◌+◌, ◌∙◌, sym, Bool, ℕ}
+use Rattle.std.proofs.Common.{◌∙◌, sym}
 use Rattle.qrmatrix.specs.Private.Placing.{row_of}
 use Rattle.qr_reading.specs.Private.Walking.{module_in}
 use Rattle.qr_reading.proofs.WalkedBitLaws.{eight_bits, four_read}

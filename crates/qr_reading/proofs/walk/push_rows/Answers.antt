@@ -1,4 +1,4 @@
-use Rattle.std.proofs.Common.{◌+◌, ◌-◌, ◌∙◌, ℕ, append-nil, append_assoc, ap, arith, length-append, sym}
+use Rattle.std.proofs.Common.{◌-◌, ◌∙◌, ℕ, arith, length-append, sym}
 use Rattle.qrdata.specs.Private.BitsInCodewords.{bits_in}
 use Rattle.qrmatrix.specs.Private.Placing.{row_of}
 use Rattle.qrmatrix.specs.Square.{value_at}
