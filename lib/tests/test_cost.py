@@ -17,9 +17,9 @@ WRONG = ("qr-finders", "qr-corners")
 MANY_DIVISORS, PRIME = 360, 359
 MOST_FOR_A_DOT = 75
 # In a QR symbol whose modules are single dots each of them is a bit that is read.
-MOST_FOR_A_MODULE = 120
+MOST_FOR_A_MODULE = 80
 # Of `qr-corners` at scale 1, which is read up to its codewords in each direction: no picture that we found costs more.
-MOST_FOR_CORNERS = 210
+MOST_FOR_CORNERS = 100
 NOT_READ = 17
 
 

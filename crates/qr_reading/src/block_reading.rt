@@ -1,9 +1,11 @@
 //! The data of blocks, which are taken back out of interleaved codewords and tested (ISO/IEC 18004, 7.5, 7.6 and 12).
 ghost use Rattle.arrayvec.specs.ArrayVec.{array_vec_len};
 ghost use Rattle.gf256.specs.ErrorCorrection.{IsEcCodewordCount};
-ghost use Rattle.qrdata.specs.Reading.{data_in, has_roots, interleaving_place};
+ghost use Rattle.qrdata.specs.Reading.{data_in, has_roots, interleaving_place, segments_at};
+ghost use Rattle.qrdata.specs.Segments.{byte_bits};
 ghost use Rattle.qr_reading.specs.Private.Blocks.{block_at, sound_blocks};
-ghost use Rattle.std.specs.Prelude.{◌≡◌, ◌+◌, ◌<◌, ◌≤◌, All, IfSome, length, option_map};
+ghost use Rattle.qr_reading.specs.declared.bits.TheConstants.{MAX_DATA_BITS};
+ghost use Rattle.std.specs.Prelude.{◌≡◌, ◌+◌, ◌*◌, ◌<◌, ◌≤◌, All, IfSome, length, option_map};
 ghost use Rattle.std.specs.Prelude.{replicate, slice_index, sum};
 
 use crate::bits::bits_of_codewords;
@@ -87,6 +89,17 @@ fn sound_blocks(
     Some(message)
 }
 
+/// Reads the segments that the codewords of blocks hold. Their bits take much room, which a function that is inlined would
+/// clear for each symbol, whether its blocks are sound or not.
+#[inline(never)]
+fn read_message(version: Version, message: &[u8]) -> Option<SymbolData>
+    requires { 8 * length message.now ≤ MAX_DATA_BITS }
+    ensures { option_map (λ bytes. bytes.items) result
+        ≡ segments_at version (length (byte_bits message.now)) (byte_bits message.now) }
+{
+    read_segments(version, &bits_of_codewords(message))
+}
+
 /// Reads the data that the codewords of a symbol hold, with no correction (ISO/IEC 18004, 12). They are in the order in
 /// which they are placed. `None`: they are not as many as the version has, a block is no multiple of its generator, or
 /// what the blocks hold are no segments in the numeric, the alphanumeric and the byte mode.
@@ -104,5 +117,5 @@ pub(crate) fn read_data(version: Version, level: Level, codewords: &[u8]) -> Opt
     let mut ec_lengths = Lengths::new();
     push_lengths(&mut ec_lengths, lengths.len(), count);
     let message = sound_blocks(count, &lengths, &ec_lengths, data, ec_codewords)?;
-    read_segments(version, &bits_of_codewords(&message))
+    read_message(version, &message)
 }

@@ -69,7 +69,10 @@ fn is_row_shown(free: &Square, dark: &Square, rows: &[u64], y: usize) -> bool
     ensures { result ≡ shows_row (length rows.now) (bit (slice_index rows.now y)) (λ x. value_at free.now x y)
         (λ x. value_at dark.now x y) }
 {
-    (0..rows.len()).all(|x| free.get(x, y) || dark.get(x, y) == is_dark(rows, x, y))
+    let free = free.row(y);
+    let dark = dark.row(y);
+    let inside = (1 << rows.len()) - 1;
+    (rows[y] ^ dark) & !free & inside == 0
 }
 
 /// Returns whether rows have the patterns.
