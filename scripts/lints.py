@@ -1,22 +1,34 @@
 #!/usr/bin/python3
-"""Runs the lints of the gate, each over a wrong text first, in which it has to find something.
+"""Runs the lints of the gate, each over a wrong text too, in which it has to find something.
 
-What a file is, its first line says, or its ending; a first line `#!` that is none of INTERPRETERS is a fault. Settings
-beside the code are not read, but for scripts/mypy.ini; remarks in the code that silence a lint are faults. A lint that
-found nothing runs again where one of its files or a package of the system changes: out/lints.txt has the sums. What is
-looked at here: how long functions are, the order of the imports of the tools, names that two modules of the tools
-define, the subjects of commits since SINCE, HANDLES, the root files of the crates, and debian/tests. The last line is
-`N lints with the limits S, F faults`: S is a sum of their commands and settings.
+What a file is, its first line says, or its ending; a first line `#!` that is none of INTERPRETERS is a fault. Each
+file of Python is judged by itself, in forks of this process: black says whether its layout is right, pyflakes and
+pycodestyle look at the rest of its style, and this script at how large functions are, and in the tools at the order
+of the imports. Programs judge the types, the shell and the manuals. Settings beside the code are not read, but for
+scripts/mypy.ini; remarks in the code that silence a lint are faults. What had no fault is judged again where one of
+its files or a package of the system changes: out/lints.txt has the sums. Looked at each time are names that two
+modules of the tools define, functions of the tools that are too long, the subjects of commits since SINCE, HANDLES,
+the root files of the crates, and debian/tests. The last line is `N lints with the limits S, F faults`: S is a sum of
+their commands and settings.
 """
 
 import ast
+import contextlib
+import gc
 import glob
 import os
 import re
 import sys
-import tempfile
+from concurrent.futures import ProcessPoolExecutor
 from dataclasses import dataclass
-from typing import Iterator, Mapping, Sequence
+from operator import methodcaller
+from typing import Any, Iterator, Mapping, Sequence
+
+import black
+import mccabe
+import mypy.api
+import pycodestyle
+import pyflakes.checker
 
 import sources
 
@@ -32,6 +44,10 @@ INTERPRETERS = {
 ENDINGS = {".py": "python", ".bash": "completion", ".1": "manual", ".3": "manual"}
 # The most that a function may have: ways through it, as McCabe counts them, and statements without its docstring.
 MOST_WAYS, MOST_STATEMENTS = 15, 30
+# How many columns a line of the tools has at most, and one elsewhere and of a text in tests.
+NARROW, WIDE = 100, 119
+# What pycodestyle leaves to black; and that a line has a statement after a colon, as black has it for `...`.
+OF_BLACK = "E1,E20,E21,E22,E23,E24,E25,E27,E3,E704,W1,W3,W5"
 # The tools: the most lines and parameters of a function there, how each command starts, names of types.
 PACKAGE, MOST_LINES, MOST_PARAMETERS, ENTRY = "tools/labeltools/", 40, 6, "run"
 TYPE = re.compile("[A-Z].*[a-z]")
@@ -39,11 +55,24 @@ TYPE = re.compile("[A-Z].*[a-z]")
 SINCE, LONGEST = "f68bd431", 72
 NO_HANDLES = "Handles allowed: none.\n"
 AUTO = "#![tactic(auto)]"
-# What flake8 has to find in WRONG: an import and a variable that nothing uses, a name that is not there, and a
-# function with one way too many.
+# What has to be found in WRONG: another layout, what is not used, a name that is not there, a line that is too long, a
+# bare except, a function with too many ways and statements, a remark that silences a lint, and imports out of order.
 BRANCHES = "    if two:\n        pass\n" * MOST_WAYS
-WRONG = f"import os  # {'noqa'}\n\n\ndef one():\n    two = three\n\n\ndef four(two):\n{BRANCHES}"
-FINDS = ("F401", "F841", "F821", "C901")
+WRONG = f"""import os  # {'noqa'}
+import ast
+
+
+def one():
+    two = three
+
+
+def four(two):
+{BRANCHES}    try:
+        four('{WIDE * 'x'}')
+    except:
+        pass
+"""
+FINDS = ("layout", "UnusedImport", "UnusedVariable", "UndefinedName", "E501", "E722", "ways", "statements", "silences")
 # Imports of which three are out of order.
 WRONG_ORDER = "import os\nimport ast\nfrom b import A, c\nfrom a import A\nfrom d import b, A\n\nimport e\n"
 # Modules in which four things are wrong: a type and a function that both define, and a function that is too long and
@@ -57,49 +86,140 @@ UNTYPED = "import nowhere\n\n\ndef one(two):\n    return two\n\n\nnumber: int = 
 FINDS_TYPES = ("[import]", "[no-untyped-def]", "[assignment]")
 # The folders whose Python is typed, those together that import one another: modules of others may have the same name.
 TYPED = (("scripts", "debian"), ("lib",), ("tools", "completions"))
-# black puts a space before the colon of a slice, which E203 is against.
-STYLE = f"flake8 --isolated --disable-noqa --extend-ignore E203 --max-complexity {MOST_WAYS} --max-line-length"
-LAYOUT = f"black --config {os.devnull} --quiet --check --line-length"
 SETTINGS = "scripts/mypy.ini"
 TYPES = f"mypy --no-error-summary --config-file {SETTINGS} --cache-dir out/mypy"
-KEPT, PACKAGES = "out/lints.txt", "/var/lib/dpkg/status"
+SHELL = "shellcheck --norc --format=gcc"
+KEPT, WRONG_FILES, PACKAGES = "out/lints.txt", "out/wrong-files", "/var/lib/dpkg/status"
 # What silences a lint where it is written.
 WORDS = r"noqa|type:\s*ignore|fmt:\s*(?:off|skip)|pragma|mypy:|flake8:|shellcheck disable"
 SILENCED = re.compile(rf"#\s*(?:{WORDS})", re.I)
 
 
+# ---- Python
+
+
+def faults_of_layout(text: str, width: int) -> Iterator[str]:
+    """Whether black gives a text another layout."""
+    with contextlib.suppress(black.NothingChanged):
+        black.format_file_contents(text, fast=True, mode=black.Mode(line_length=width))
+        yield "1: black gives it another layout"
+
+
+def faults_of_style(path: str, tree: ast.Module, text: str, width: int) -> Iterator[str]:
+    """What pyflakes and pycodestyle find in a text."""
+    for it in pyflakes.checker.Checker(tree, path).messages:
+        yield f"{it.lineno}: {type(it).__name__}: {it.message % it.message_args}"
+    given: dict[str, Any] = {"select": "", "ignore": OF_BLACK.split(","), "max_line_length": width}
+    style = pycodestyle.StyleGuide(**given, max_doc_length=None, indent_size=4, hang_closing=False)
+    checker = pycodestyle.Checker("", text.splitlines(True), style.options)
+    found = list[tuple[int, str]]()
+    checker.report_error = lambda line, _, said, check: found.append((line, said))
+    checker.check_all()
+    yield from (f"{line}: {said}" for line, said in found if not style.ignore_code(said[:4]))
+
+
+def functions_of(tree: ast.Module) -> Iterator[ast.FunctionDef | ast.AsyncFunctionDef]:
+    """The functions of a module, and those within others."""
+    for node in ast.walk(tree):
+        if isinstance(node, (ast.FunctionDef, ast.AsyncFunctionDef)):
+            yield node
+
+
+def faults_of_size(tree: ast.Module) -> Iterator[str]:
+    """The functions that have too many statements, or too many ways through them."""
+    for function in functions_of(tree):
+        count = sum(isinstance(node, ast.stmt) for node in ast.walk(function)) - 1
+        count -= ast.get_docstring(function) is not None
+        if count > MOST_STATEMENTS:
+            yield f"{function.lineno}: {function.name} has {count} statements, {MOST_STATEMENTS} at most"
+    visitor = mccabe.PathGraphingAstVisitor()
+    visitor.preorder(tree, visitor)
+    for graph in visitor.graphs.values():
+        if graph.complexity() > MOST_WAYS:
+            yield f"{graph.lineno}: {graph.entity} has {graph.complexity()} ways, {MOST_WAYS} at most"
+
+
+def disordered(tree: ast.Module) -> Iterator[int]:
+    """The lines of imports, not parted by an empty line, that are behind one of a later module, or of the same, or
+    whose names are in another order: `import` comes before `from`, and small letters are as large ones.
+    """
+    before, end = (True, ""), -1
+    for node in tree.body:
+        if isinstance(node, (ast.Import, ast.ImportFrom)):
+            names = [one.name.casefold() for one in node.names]
+            is_from = isinstance(node, ast.ImportFrom)
+            place = (is_from, str(node.module).casefold() if isinstance(node, ast.ImportFrom) else names[0])
+            if names != sorted(names) or node.lineno == end + 1 and place <= before:
+                yield node.lineno
+            before, end = place, node.end_lineno or 0
+
+
+def faults_of_remarks(text: str) -> Iterator[str]:
+    """The lines of code that silence a lint."""
+    for number, line in enumerate(text.split("\n"), 1):
+        if SILENCED.search(line):
+            yield f"{number}: it silences a lint: {line.strip()}"
+
+
+def faults_of_python(path: str, text: str) -> Iterator[str]:
+    """What is wrong with a text of Python, as that of a path, each with the number of its line."""
+    tree, is_tool = ast.parse(text), path.startswith("tools/")
+    yield from faults_of_layout(text, NARROW if is_tool else WIDE)
+    yield from faults_of_style(path, tree, text, NARROW if is_tool and "/tests/" not in path else WIDE)
+    yield from faults_of_size(tree)
+    yield from faults_of_remarks(text)
+    if is_tool:
+        yield from (f"{number}: its imports are out of order" for number in disordered(tree))
+
+
+def unseen_in_python() -> Iterator[str]:
+    """What is not found in wrong texts."""
+    said = "".join(faults_of_python("wrong.py", WRONG))
+    yield from (f"in a wrong text of Python nothing finds {it}" for it in FINDS if it not in said)
+    if len([*disordered(ast.parse(WRONG_ORDER))]) != 3:
+        yield "imports that are out of order are not found"
+    if len([*faults_of_modules(WRONG_MODULES)]) != 4:
+        yield "names that two modules define, or functions that are too long, are not found"
+
+
 @dataclass(frozen=True)
 class Lint:
-    """A lint: its command, the files that it reads, a file that it has to refuse, with what it has to say, and other
-    files that decide what it finds."""
+    """What judges files: its command or settings, the files, and others that decide what it finds."""
 
-    command: str
+    limits: str
     files: Sequence[str]
-    wrong_name: str
-    wrong: str
-    finds: tuple[str, ...] = ("",)
-    beside: Sequence[str] = ()
+    beside: Sequence[str]
 
     def sum(self) -> str:
         """The sum of all that a run of it depends on."""
         texts = (f"{path}\0{sources.read(path)}" for path in (*self.files, *self.beside))
-        return sources.sum_of((f"{os.stat(PACKAGES).st_mtime_ns} {os.environ['PATH']} {self.command}", *texts))
+        return sources.sum_of((f"{os.stat(PACKAGES).st_mtime_ns} {os.environ['PATH']} {self.limits}", *texts))
 
-    def findings(self, files: Sequence[str]) -> str:
-        """What it finds, and its status; nothing where it finds nothing."""
-        status, said = sources.run([*self.command.split(), *files])
-        return f"{said}{self.command} found something, status {status}" if status or said else ""
+    def faults(self) -> list[str]:
+        """What it finds in files of Python."""
+        return [f"{path}:{fault}" for path in self.files for fault in faults_of_python(path, sources.read(path))]
 
-    def fault(self) -> str:
+
+@dataclass(frozen=True)
+class Program(Lint):
+    """A program that names in each line of what it finds the file: with a file that it has to refuse, which it reads
+    last, and what it has to say of that."""
+
+    wrong_name: str
+    wrong: str
+    finds: tuple[str, ...] = ("",)
+
+    def faults(self) -> list[str]:
         """What it finds, or that it reads no file, or that it finds nothing in what is wrong."""
-        with tempfile.TemporaryDirectory(prefix="lints-") as folder:
-            wrong = os.path.join(folder, self.wrong_name)
-            sources.write(wrong, self.wrong)
-            found = self.findings([wrong])
-        unseen = [it for it in self.finds if not found or it not in found]
+        wrong = f"{WRONG_FILES}/{self.wrong_name}"
+        sources.write(wrong, self.wrong)
+        command, *words = *self.limits.split(), *self.files, wrong
+        said = "".join(mypy.api.run(words)[:2]) if command == "mypy" else sources.run([command, *words])[1]
+        of_wrong = "\n".join(line for line in said.splitlines() if wrong in line)
+        unseen = [it for it in self.finds if not of_wrong or it not in of_wrong]
         if unseen or not self.files:
-            return f"{self.command} {'finds nothing in a wrong file' if unseen else 'reads no file'}: {unseen}"
-        return self.findings(self.files)
+            said += f"{self.limits} {'finds nothing in a wrong file' if unseen else 'reads no file'}: {unseen}"
+        return [line for line in said.splitlines() if wrong not in line]
 
 
 def kind_of(path: str) -> str:
@@ -120,26 +240,6 @@ def files_by_kind() -> dict[str, list[str]]:
     return found
 
 
-def faults_of(path: str) -> Iterator[str]:
-    """What silences a lint in a file of code, and the functions of Python that have too many statements."""
-    text = sources.read(path)
-    for number, line in enumerate(text.split("\n"), 1):
-        if SILENCED.search(line):
-            yield f"{path}:{number}: it silences a lint: {line.strip()}"
-    for function in functions_of(text) if kind_of(path) == "python" else ():
-        count = sum(isinstance(node, ast.stmt) for node in ast.walk(function)) - 1
-        count -= ast.get_docstring(function) is not None
-        if count > MOST_STATEMENTS:
-            yield f"{path}:{function.lineno}: {function.name} has {count} statements, {MOST_STATEMENTS} at most"
-
-
-def functions_of(text: str) -> Iterator[ast.FunctionDef | ast.AsyncFunctionDef]:
-    """The functions of a module, and those within others."""
-    for node in ast.walk(ast.parse(text)):
-        if isinstance(node, (ast.FunctionDef, ast.AsyncFunctionDef)):
-            yield node
-
-
 def defined_in(text: str) -> set[str]:
     """The types and the public functions that a module defines; a type may be another name of one."""
     names = set[str]()
@@ -158,7 +258,7 @@ def faults_of_modules(texts: Mapping[str, str]) -> Iterator[str]:
         for name in sorted(defined_in(text)):
             if seen.setdefault(name, path) != path:
                 yield f"{path}: {name} is defined in {seen[name]}, too"
-        for function in functions_of(text):
+        for function in functions_of(ast.parse(text)):
             said = f"{path}:{function.lineno}: {function.name} has"
             lines = (function.end_lineno or 0) - function.lineno + 1
             if lines > MOST_LINES:
@@ -166,37 +266,6 @@ def faults_of_modules(texts: Mapping[str, str]) -> Iterator[str]:
             takes = [it.arg for it in ast.walk(function.args) if isinstance(it, ast.arg) and it.arg != "self"]
             if len(takes) > MOST_PARAMETERS:
                 yield f"{said} {len(takes)} parameters, {MOST_PARAMETERS} at most"
-
-
-def faults_of_tools(paths: Sequence[str]) -> Iterator[str]:
-    """Those of the modules of the tools; those of WRONG_MODULES have to be found."""
-    if len([*faults_of_modules(WRONG_MODULES)]) != 4:
-        yield "names that two modules define, or functions that are too long, are not found"
-    yield from faults_of_modules({path: sources.read(path) for path in paths})
-
-
-def disordered(text: str) -> Iterator[int]:
-    """The lines of imports, not parted by an empty line, that are behind one of a later module, or of the same, or
-    whose names are in another order: `import` comes before `from`, and small letters are as large ones.
-    """
-    before, end = (True, ""), -1
-    for node in ast.parse(text).body:
-        if isinstance(node, (ast.Import, ast.ImportFrom)):
-            names = [one.name.casefold() for one in node.names]
-            is_from = isinstance(node, ast.ImportFrom)
-            place = (is_from, str(node.module).casefold() if isinstance(node, ast.ImportFrom) else names[0])
-            if names != sorted(names) or node.lineno == end + 1 and place <= before:
-                yield node.lineno
-            before, end = place, node.end_lineno or 0
-
-
-def faults_of_imports(paths: Sequence[str]) -> Iterator[str]:
-    """Imports that are out of order; those of WRONG_ORDER have to be."""
-    if len([*disordered(WRONG_ORDER)]) != 3:
-        yield "imports that are out of order are not found"
-    for path in paths:
-        for number in disordered(sources.read(path)):
-            yield f"{path}:{number}: its imports are out of order"
 
 
 def faults_of_rules() -> Iterator[str]:
@@ -232,40 +301,47 @@ def below(folders: Sequence[str], paths: Sequence[str]) -> list[str]:
 
 
 def all_lints(files: Mapping[str, Sequence[str]]) -> list[Lint]:
-    """The lints over these files. Python of the tools is 100 columns wide, else 119."""
-    tools = below(["tools"], files["python"])
-    used = [path for path in tools if "/tests/" not in path]
+    """The lints over these files: of Python one for each."""
+    limits = f"{MOST_WAYS} {MOST_STATEMENTS} {NARROW} {WIDE} {OF_BLACK} {WORDS}"
     beside = [SETTINGS, *sources.files_below("lib/python", ".py")]
-    layouts = {"100": tools, "119": [path for path in files["python"] if path not in tools]}
-    styles = {"100": used, "119": [path for path in files["python"] if path not in used]}
     return [
-        Lint("shellcheck --norc", files["shell"], "wrong.sh", "#!/bin/sh\nrm $1\n"),
-        Lint("shellcheck --norc --shell=bash", files["completion"], "wrong.bash", "rm $1\n"),
-        *(Lint(f"{LAYOUT} {width}", paths, "wrong.py", "x = 'one'\n") for width, paths in layouts.items()),
-        *(Lint(f"{STYLE} {width}", paths, "wrong.py", WRONG, FINDS) for width, paths in styles.items()),
-        *(Lint(TYPES, below(it, files["python"]), "wrong.py", UNTYPED, FINDS_TYPES, beside) for it in TYPED),
-        Lint("mandoc -Tlint -W warning", files["manual"], "wrong.1", ".TH WRONG 1\n.SH NAME\n.XX\n"),
+        *(Lint(limits, [path], [__file__]) for path in files["python"]),
+        *(Program(TYPES, below(it, files["python"]), beside, "wrong.py", UNTYPED, FINDS_TYPES) for it in TYPED),
+        Program(SHELL, files["shell"], [], "wrong.sh", "#!/bin/sh\nrm $1\n"),
+        Program(f"{SHELL} --shell=bash", files["completion"], [], "wrong.bash", "rm $1\n"),
+        Program("mandoc -Tlint -W warning", files["manual"], [], "wrong.1", ".TH WRONG 1\n.SH NAME\n.XX\n"),
     ]
+
+
+def judged(lints: Mapping[str, Lint]) -> dict[str, list[str]]:
+    """What lints find, by their sums, in forks of this process: some at a time, but the programs one after the other,
+    since mypy keeps for the next run what it has read of the modules that all use. Looking for what can be freed would
+    take a third of the time."""
+    programs = {it: lint for it, lint in lints.items() if isinstance(lint, Program)}
+    others = {it: lint for it, lint in lints.items() if it not in programs}
+    with ProcessPoolExecutor(len(os.sched_getaffinity(0)), initializer=gc.disable) as pool:
+        of_programs = pool.map(methodcaller("faults"), programs.values(), chunksize=len(programs) or 1)
+        found = pool.map(methodcaller("faults"), others.values(), chunksize=4)
+        return dict(zip(programs, of_programs)) | dict(zip(others, found))
 
 
 def main() -> int:
     sources.parser_of(__doc__).parse_args()
     os.chdir(sources.TOP)
     files = files_by_kind()
-    tools = below(["tools"], files["python"])
-    faults = [*faults_of_rules(), *faults_of_subjects(), *faults_of_imports(tools)]
-    faults += faults_of_tools([path for path in tools if path.startswith(PACKAGE)])
+    faults = [*unseen_in_python(), *faults_of_rules(), *faults_of_subjects()]
+    faults += faults_of_modules({path: sources.read(path) for path in files["python"] if path.startswith(PACKAGE)})
     faults += [f"{path}: no lint knows {kind}" for kind in files if kind.startswith("#!") for path in files[kind]]
-    faults += [it for kind in ("python", "shell", "completion") for path in files[kind] for it in faults_of(path)]
+    for path in (*files["shell"], *files["completion"]):
+        faults += [f"{path}:{fault}" for fault in faults_of_remarks(sources.read(path))]
     before = sources.read(KEPT).split() if os.path.exists(KEPT) else []
-    lints = all_lints(files)
-    found = {lint.sum(): lint for lint in lints}
-    faults_of_lints = {it: fault for it, lint in found.items() if it not in before and (fault := lint.fault())}
-    sources.write(KEPT, "".join(f"{it}\n" for it in found if it not in faults_of_lints))
-    faults += faults_of_lints.values()
-    limits = [*(lint.command for lint in lints), f"{MOST_STATEMENTS} {MOST_LINES} {MOST_PARAMETERS} {LONGEST} {WORDS}"]
-    limits += [sources.read(lint.beside[0]) for lint in lints if lint.beside]
-    return sources.ended(faults, f"{len(lints)} lints with the limits {sources.sum_of(limits)}, {len(faults)} faults")
+    lints = {lint.sum(): lint for lint in all_lints(files)}
+    found = judged({it: lint for it, lint in lints.items() if it not in before})
+    sources.write(KEPT, "".join(f"{it}\n" for it in lints if not found.get(it)))
+    faults += [fault for of_one in found.values() for fault in of_one]
+    limits = [*dict.fromkeys(lint.limits for lint in lints.values()), f"{MOST_LINES} {MOST_PARAMETERS} {LONGEST}"]
+    last = f"{len(limits)} lints with the limits {sources.sum_of([*limits, sources.read(SETTINGS)])}"
+    return sources.ended(faults, f"{last}, {len(faults)} faults")
 
 
 if __name__ == "__main__":

@@ -26,7 +26,7 @@ import os
 import re
 import sys
 from dataclasses import dataclass
-from typing import Iterable, Iterator, Mapping
+from typing import Container, Iterable, Iterator, Mapping
 
 from markdown_it import MarkdownIt
 from markdown_it.token import Token
@@ -202,18 +202,17 @@ def names_in(text: str) -> Iterator[tuple[int, str]]:
                 yield start + 1, part.content
 
 
-@functools.cache
-def words_of_code() -> frozenset[str]:
+def words_of_code() -> set[str]:
     """The words of the code: of the crates, the library and the scripts."""
     paths = [path for pattern in CODE for path in glob.glob(pattern, recursive=True) if os.path.isfile(path)]
     paths = [path for path in paths if "__pycache__" not in path]
-    return frozenset(word for path in paths for word in re.findall(r"\w+", sources.read(path)))
+    return {word for path in paths for word in re.findall(r"\w+", sources.read(path))}
 
 
-def faults_of_names(text: str) -> Iterator[tuple[int, str]]:
+def faults_of_names(text: str, words: Container[str]) -> Iterator[tuple[int, str]]:
     """The names of a page that the code does not have."""
     for line, name in names_in(text):
-        if any(word not in words_of_code() for word in re.findall(r"\w+", name)):
+        if any(word not in words for word in re.findall(r"\w+", name)):
             yield line, f"no `{name}` in the code"
 
 
@@ -272,7 +271,7 @@ def main() -> int:
     sources.parser_of(__doc__).parse_args()
     os.chdir(sources.TOP)
     pages = texts()
-    faults = [*faults_of_counts(pages)]
+    faults, known = [*faults_of_counts(pages)], words_of_code()
     count = links = 0
     names = sum(len([*names_in(pages[page])]) for page in NAMING)
     for page, text in pages.items():
@@ -285,7 +284,7 @@ def main() -> int:
         found += [*faults_of_lines(text)]
         found += [(line, fault) for line, link in links_of(text) if (fault := fault_of_link(page, link))]
         if page in NAMING:
-            found += faults_of_names(text)
+            found += faults_of_names(text, known)
         if page.startswith("crates/"):
             found += faults_of_example(page.split("/")[1], text, blocks)
         faults += [f"{page}:{number}: {fault}" for number, fault in found]

@@ -1,7 +1,9 @@
 """What the tests of the scripts share: runs of a script, a folder of its own, a copy of the repository."""
 
+import contextlib
 import functools
 import importlib
+import io
 import os
 import shutil
 import stat
@@ -10,6 +12,7 @@ import sys
 import tempfile
 import unittest
 from typing import Callable, Iterable, Sequence
+from unittest import mock
 
 TOP = os.path.dirname(os.path.dirname(os.path.dirname(os.path.abspath(__file__))))
 SCRIPTS = os.path.join(TOP, "scripts")
@@ -40,20 +43,21 @@ def run(script: str, *arguments: str, **environment: str) -> tuple[int, str]:
 
 
 def in_copy(folder: str, name: str, *arguments: str) -> tuple[int, str]:
-    """The status of a script of this repository over a copy of it, and all that it prints. It runs in a fork of this
-    process, which has read the files before: the script reads what is changed in the copy."""
-    script, sources = module(name.removesuffix(".py")), module("sources")
-
-    def work() -> int:
-        setattr(sources, "TOP", folder)
-        sys.argv = [name, *arguments]
-        os.chdir(folder)
-        return int(script.main())
-
-    with tempfile.TemporaryFile() as said:
-        status = os.waitstatus_to_exitcode(os.waitpid(sources.started(work, said), 0)[1])
-        said.seek(0)
-        return status, said.read().decode()
+    """The status of a script of this repository over a copy of it, and all that it prints. It runs in this process,
+    which has read the files before: it reads what is changed in the copy."""
+    before, said = os.getcwd(), io.StringIO()
+    words = mock.patch.object(sys, "argv", [name, *arguments])
+    with mock.patch.object(module("sources"), "TOP", folder), words:
+        with contextlib.redirect_stdout(said), contextlib.redirect_stderr(said):
+            os.chdir(folder)
+            try:
+                status = int(module(name.removesuffix(".py")).main())
+            except SystemExit as end:
+                status = end.code if isinstance(end.code, int) else 1
+                print("" if isinstance(end.code, int) else end.code)
+            finally:
+                os.chdir(before)
+    return status, said.getvalue()
 
 
 def read(path: str) -> str:
@@ -122,6 +126,21 @@ class InCopy(unittest.TestCase):
         else:
             self.addCleanup(os.remove, self.path(file))
         write(self.path(file), text)
+
+    def assert_all_seen(
+        self, changes: Iterable[tuple[str, str, str, str]], judge: Callable[[], tuple[int, str]]
+    ) -> None:
+        """Changes of files, made together, make `judge` end with 1 and say what each of them is to make it say."""
+        texts: dict[str, str] = {}
+        for file, old, new, _ in changes:
+            text = texts.get(file) or read(self.path(file))
+            self.assertIn(old, text)
+            texts[file] = text.replace(old, new, 1)
+        for file, text in texts.items():
+            self.replace(file, text)
+        status, said = judge()
+        self.assertEqual((status, [wanted for *_, wanted in changes if wanted not in said]), (1, []), said)
+        self.doCleanups()
 
     def assert_changes_fail(
         self, changes: Iterable[tuple[str, str, str, str]], fails: Callable[[], tuple[int, str]]

@@ -20,6 +20,7 @@ changes = module("changes")
 PAGE = "docs/DEFINITIONS.md"
 PROOF = "docs/PROOF.md"
 RESULTS = "scripts/believed_rows.txt"
+SHOWS = "| the clause `shows` of `program` | "
 
 
 def found_in(pattern: str, text: str) -> str:
@@ -58,32 +59,34 @@ class Believed(InCopy):
         self.assertTrue(max(shows, runs) < lines[both][0] < shows + runs, said)
 
     def test_changes(self) -> None:
-        """Another number, table or name of std on the pages; another clause, definition or crate in the files."""
-        number = found_in(r"[\d,]+ lines of\s+\[definitions", read(self.path("README.md")))
-        row = found_in(r"\| the clause `shows` .*\n", read(self.path(PROOF)))
-        held_line, entry = "crates/labelcore/specs/HeldLine.antt", "crates/command/src/entry.rt"
-        says, for_take = "as the files give it", "| `take` | the first n elements of a list |\n"
+        """Another number, row or name of std on the pages, and another definition."""
+        page = read(self.path("README.md"))
+        number = found_in(r"[\d,]+ lines of\s+\[definitions", page)
+        runs = found_in(r"\| the clause `runs` .*\n", read(self.path(PROOF)))
         changes = (
-            (PAGE, for_take, "", "does not say what take means"),
-            (PAGE, for_take, f"{for_take}| `no` | a name |\n", "says what no means, which is not needed"),
+            (PAGE, "| `take` | the first n elements of a list |\n", "", "does not say what take means"),
             (PAGE, "| `remaining` |", "| `contents` |", "does not say what remaining means"),
-            ("README.md", number, f"9,{number}", number.split()[0]),
-            ("README.md", number, "few lines of [definitions", "has to have one number where"),
-            (PROOF, row, row.replace("`program` | ", "`program` | 9,"), says),
-            (PROOF, row, "", says),
-            (PROOF, "<!-- believed: end -->", "", "lacks the line '<!-- believed: begin -->' or, after it"),
+            (PAGE, "| `drop` |", "| `no` | a name |\n| `drop` |", "says what no means, which is not needed"),
+            ("README.md", number, f"9,{number}", f"+{found_in(f'.*{number.split()[0]}.*', page)}"),
+            (PROOF, SHOWS, f"{SHOWS}9,", f"-{SHOWS}9,"),
+            (PROOF, runs, "", f"+{runs}"),
+            ("crates/filter/specs/Damage.antt", "→ IsNotMisread", "→ IsMisread", "-filter/Damage IsGuarded "),
+        )
+        self.assert_all_seen(changes, self.check)
+
+    def test_changes_one_at_a_time(self) -> None:
+        """A line of the code less, and what has to be there for the numbers."""
+        number = found_in(r"[\d,]+ lines of\s+\[definitions", read(self.path("README.md")))
+        entry, says = "crates/command/src/entry.rt", "as the files give it"
+        changes = (
             ("crates/device/src/sink.rt", "        requires { 0 < length bytes.now }\n", "", says),
             (entry, "arguments)\n        (record {", "arguments) (record {", says),
-            (
-                entry,
-                "ensures shows {",
-                "ensures draws {",
-                "program in crates/command/src/entry.rt has no clause shows",
-            ),
+            ("README.md", number, "few lines of [definitions", "has to have one number where"),
+            (PROOF, "<!-- believed: end -->", "", "lacks the line '<!-- believed: begin -->' or, after it"),
+            (entry, "ensures shows {", "ensures draws {", f"program in {entry} has no clause shows"),
             ("crates.txt", "gf256:", "gf65536:\ngf256:", "gf65536"),
             ("crates/labels/src/main.rt", "from(program(", "from(other(", "does not call program"),
-            (held_line, "pub line_limit :", "pub line_bound :", "has no line_limit"),
-            ("crates/filter/specs/Damage.antt", "→ IsNotMisread", "→ IsMisread", "-filter/Damage IsGuarded "),
+            ("crates/labelcore/specs/HeldLine.antt", "pub line_limit :", "pub line_bound :", "has no line_limit"),
         )
         self.assert_changes_fail(changes, self.check)
 
@@ -132,19 +135,23 @@ class Rows(InCopy):
 
     def test_changes(self) -> None:
         """Another definition or worked value, a file without a result, a result without a file."""
-        reading, examples = "crates/picture/specs/Reading.antt", "crates/picture/proofs/Examples.antt"
-        not_judged = "picture/Reading: not as it was judged"
-        line = found_in(r"^picture/Reading .*\n", read(self.path(RESULTS)))
+        line = found_in(r"^testing/FailAt .*\n", read(self.path(RESULTS)))
+        wrong = "wrong = (refl, refl, refl, refl)"
         changes = (
-            (reading, "b == 32 || b == 9", "b == 32 || b == 8", not_judged),
-            (reading, "b == 32 || b == 9", "b == 32 && b == 9", not_judged),
-            (examples, "white = refl", "", not_judged),
-            (RESULTS, line, "", not_judged),
-            (RESULTS, line, line.replace(" white", ""), not_judged),
-            (RESULTS, "picture/Reading ", "picture/Writing ", "picture/Writing: no such file"),
+            (
+                "crates/picture/specs/Reading.antt",
+                "32 || b == 9",
+                "32 || b == 8",
+                "picture/Reading: not as it was judged",
+            ),
+            ("crates/qrdata/specs/Reading.antt", "== 0 || nat_lt", "== 0 && nat_lt", "qrdata/Reading: not as it was"),
+            ("crates/gf256/proofs/Examples.antt", wrong, "", "gf256/ErrorCorrection: not as it was judged"),
+            (RESULTS, line, "", "testing/FailAt: not as it was judged"),
+            (RESULTS, " defaults\n", "\n", "labelcore/Defaults: not as it was judged"),
+            (RESULTS, "picture/Text ", "picture/Writing ", "picture/Writing: no such file"),
             (RESULTS, "linear/Ean ¦ (replicate @ A) ¦ 5", "linear/Ean ¦ (replicate @ B) ¦ 5", "no such change"),
         )
-        self.assert_changes_fail(changes, self.check)
+        self.assert_all_seen(changes, self.check)
 
 
 # What a check says of copies of three changes, of which it refuses the first by a worked value, and the last as no

@@ -164,8 +164,9 @@ def draw(lines: str | bytes, *options: str) -> tuple[bytes, bytes, int]:
 
 def help_of(command: str) -> str:
     """The help text of the program or of a tool."""
-    done = run(labels_program() if command == "labels" else command, "--help")
-    return done.stdout.decode()
+    if command in MODULES:
+        return run_here(command, "--help").stdout.decode()
+    return run(labels_program() if command == "labels" else command, "--help").stdout.decode()
 
 
 def needs(*programs: str) -> None:

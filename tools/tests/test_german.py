@@ -9,6 +9,7 @@ import subprocess
 import sys
 import tempfile
 import unittest
+from functools import cache
 from pathlib import Path
 from typing import Any, Iterator
 from unittest import mock
@@ -94,6 +95,12 @@ def sources() -> list[Path]:
     return sorted((support.TOOLS / "labeltools").rglob("*.py"))
 
 
+@cache
+def nodes_of(path: Path) -> list[ast.AST]:
+    """All nodes of a module."""
+    return [*ast.walk(ast.parse(path.read_text()))]
+
+
 def entries(text: bytes) -> str:
     """The texts of a file of gettext, with their plurals, by the pattern of its entries."""
     text = text.replace(b"charset=CHARSET", b"charset=UTF-8")
@@ -101,6 +108,7 @@ def entries(text: bytes) -> str:
     return subprocess.run(ran, input=text, capture_output=True, check=True).stdout.decode()
 
 
+@cache
 def texts_of_tools() -> dict[str, str]:
     """The entries of the texts of the tools, as xgettext finds them."""
     words = ["xgettext", "--language=Python", "--from-code=UTF-8", "--output=-"]
@@ -122,7 +130,7 @@ def calls() -> Iterator[tuple[str, ast.Call, int]]:
     the template, and its plural.
     """
     for path in sources():
-        for node in ast.walk(ast.parse(path.read_text())):
+        for node in nodes_of(path):
             if not isinstance(node, ast.Call) or path.name == "text.py":
                 continue
             name = getattr(node.func, "id", "")
@@ -144,7 +152,7 @@ def texts_of_windows() -> set[str]:
     """The texts in whose place a window says another one: `Text("…").in_window(…)`."""
     found = set()
     for path in sources():
-        for node in ast.walk(ast.parse(path.read_text())):
+        for node in nodes_of(path):
             if isinstance(node, ast.Attribute) and node.attr == "in_window":
                 inner = node.value
                 if isinstance(inner, ast.Call) and inner.args and is_literal(inner.args[0]):
@@ -158,7 +166,7 @@ def remedies(is_shown: bool = False) -> set[str]:
     """
     found = set()
     for path in sources():
-        for node in ast.walk(ast.parse(path.read_text())):
+        for node in nodes_of(path):
             if isinstance(node, ast.Call) and getattr(node.func, "id", "") == "Remedy":
                 if is_shown and len(node.args) < 3 and not node.keywords:
                     continue
@@ -173,12 +181,11 @@ def says() -> list[tuple[str, str]]:
     """What the buttons of remedies say, each behind its option where that is the same for all."""
     found = []
     for path in sources():
-        tree = ast.parse(path.read_text())
         named: dict[str, list[ast.expr]] = {}
-        for node in ast.walk(tree):
+        for node in nodes_of(path):
             if isinstance(node, ast.Assign):
                 named.setdefault(ast.unparse(node.targets[0]), []).append(node.value)
-        for node in ast.walk(tree):
+        for node in nodes_of(path):
             if isinstance(node, ast.Call) and getattr(node.func, "id", "") in ("Remedy", "replace"):
                 said = [one.value for one in node.keywords if one.arg == "says"] or node.args[2:3]
                 option = node.args[0].value if isinstance(node.args[0], ast.Constant) else ""

@@ -150,9 +150,8 @@ class Rules(unittest.TestCase):
         for name in ("debian/rules", "lib/check.sh", "lib/exports.txt"):
             Path(folder, name).parent.mkdir(exist_ok=True)
             shutil.copy(support.TOP / name, Path(folder, name))
-        done = subprocess.run(
-            ["debian/rules", "override_dh_auto_test"], cwd=folder, capture_output=True, text=True
-        )
+        command = ["dpkg-architecture", "-c", "debian/rules override_dh_auto_test"]
+        done = subprocess.run(command, cwd=folder, capture_output=True, text=True)
         self.assertNotEqual(done.returncode, 0)
         self.assertIn("lib/check.sh: there is no out/lib/", done.stderr)
 
