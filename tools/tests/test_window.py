@@ -638,7 +638,7 @@ class WindowTest(Keeper):
             tray, (active, has_media), put = found
             self.assertEqual(tray, ["as the printer is set", "Auto", "Manual"])
             self.assertEqual((active, has_media), (before, False))
-            self.assertIn("Put 1 sheet Avery L7160 into the tray.", put)
+            self.assertIn("Put 1 sheet of Avery L7160 into the tray.", put)
             job = self.window.events.event.about
             with sending_cups.refusals("trays") as cups:
                 self.assertEqual(cups.getJobAttributes(job.number)["InputSlot"], "Manual")
@@ -1246,16 +1246,29 @@ class WindowTest(Keeper):
         code = "import test_window; test_window.load(); one = test_window.window.Window(); "
         code += "test_window.work.Work.stop(one.work); one.on_stop(None); "
         code += "(name,) = one.price_as.list_mnemonic_labels(); "
-        code += "print(one.print_button.get_label(), name.get_text(), one.bar_text.get_text())"
-        for language, texts in (
-            ("en", "_Print… Prices as Stopped: nothing was printed"),
-            ("de", "_Drucken … Preise als Abgebrochen: es wurde nichts gedruckt"),
-            ("fr", "_Imprimer… Format des prix Arrêté : rien n'a été imprimé"),
+        code += "print(one.print_button.get_label(), name.get_text(), one.bar_text.get_text()); "
+        code += "one.stock.set_text('L7169'); print(one.sheets[0][1])"
+        for language, texts, sheet in (
+            (
+                "en",
+                "_Print… Prices as Stopped: nothing was printed",
+                "Avery L7169: 4 labels of 99.1 by 139 mm on 210 by 297 mm",
+            ),
+            (
+                "de",
+                "_Drucken … Preise als Abgebrochen: es wurde nichts gedruckt",
+                "Avery L7169: 4 Etiketten von 99,1 mal 139 mm auf 210 mal 297 mm",
+            ),
+            (
+                "fr",
+                "_Imprimer… Format des prix Arrêté : rien n'a été imprimé",
+                "Avery L7169 : 4 étiquettes de 99,1 sur 139 mm, page de 210 sur 297 mm",
+            ),
         ):
             environment = support.speaking(language, self.folder / "locale")
             how: Any = {"cwd": support.TESTS, "env": environment, "capture_output": True}
             ran = subprocess.run([sys.executable, "-c", code], text=True, check=True, **how)
-            self.assertEqual(ran.stdout.replace("\u00a0", " "), f"{texts}\n")
+            self.assertEqual(ran.stdout.replace("\u00a0", " "), f"{texts}\n{sheet}\n")
 
     def test_a_driverless_printer(self) -> None:
         scheduler.add_driverless("home")

@@ -28,7 +28,7 @@ __all__ = [
     "within",
 ]
 LETTERS = 14  # that a choice shows at least
-SIDE = 120  # pixels of an answer that is beside another one
+SIDE = 90  # pixels of an answer that is beside another one
 # the colours of events and questions, of the desktop's theme; a list of choices opens as a list,
 # since a menu of them has arrows to scroll by where the window is low
 STYLE = b"""
@@ -79,7 +79,10 @@ def leave_wheel(control: Any, _event: Any) -> None:
 def shorten(choice: Any) -> None:
     """Lets a long row of a choice end with an ellipsis."""
     (letters,) = choice.get_cells()
-    letters.set_properties(ellipsize=Pango.EllipsizeMode.END, width_chars=LETTERS)
+    longest = max((len(row[0]) for row in choice.get_model()), default=LETTERS)
+    letters.set_properties(
+        ellipsize=Pango.EllipsizeMode.END, width_chars=min(LETTERS, longest)
+    )
 
 
 def within(widget: Any) -> Iterator[Any]:
@@ -178,6 +181,7 @@ class Choice(Gtk.ComboBoxText):
         super().__init__(**properties)
         self.connect("scroll-event", leave_wheel)
         self.set_hexpand(True)
+        self.set_popup_fixed_width(False)  # all of a long row is seen there
         self.connect("show", shorten)
 
 
