@@ -25,9 +25,11 @@ __all__ = [
     "add_actions",
     "add_style",
     "leave_wheel",
+    "widen",
     "within",
 ]
 LETTERS = 14  # that a choice shows at least
+BESIDE = 60  # pixels of an icon beside the texts of a list, and of what is between them
 SIDE = 90  # pixels of an answer that is beside another one
 # the colours of events and questions, of the desktop's theme; a list of choices opens as a list,
 # since a menu of them has arrows to scroll by where the window is low
@@ -80,9 +82,19 @@ def shorten(choice: Any) -> None:
     """Lets a long row of a choice end with an ellipsis."""
     (letters,) = choice.get_cells()
     longest = max((len(row[0]) for row in choice.get_model()), default=LETTERS)
-    letters.set_properties(
-        ellipsize=Pango.EllipsizeMode.END, width_chars=min(LETTERS, longest)
-    )
+    letters.set_properties(ellipsize=Pango.EllipsizeMode.END, width_chars=min(LETTERS, longest))
+
+
+def widen(choice: Any, *columns: int) -> None:
+    """Makes the list of a choice as wide as what these columns of it say, which the choice itself
+    may end with an ellipsis.
+    """
+    shown = choice.get_popup_accessible().get_widget()
+    if isinstance(shown, Gtk.TreeView):  # and not yet a menu
+        texts = ([row[column] for row in choice.get_model()] for column in columns)
+        drawn = (map(shown.create_pango_layout, column) for column in texts)
+        widths = (max(one.get_pixel_size()[0] for one in column) for column in drawn)
+        shown.set_size_request(sum(widths) + BESIDE, -1)
 
 
 def within(widget: Any) -> Iterator[Any]:
@@ -181,7 +193,6 @@ class Choice(Gtk.ComboBoxText):
         super().__init__(**properties)
         self.connect("scroll-event", leave_wheel)
         self.set_hexpand(True)
-        self.set_popup_fixed_width(False)  # all of a long row is seen there
         self.connect("show", shorten)
 
 
