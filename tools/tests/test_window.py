@@ -1460,6 +1460,18 @@ class WindowTest(Keeper):
         self.remade(lambda: self.pressed(first))
         self.assertTrue(self.window.print_button.is_sensitive())
 
+    def test_a_question_is_scrolled_to(self) -> None:
+        self.open()
+        self.window.more_of_table.set_expanded(True)
+        self.window.resize(800, 500)
+        settle(0.3)
+        self.window.questions.ask("printer", "What?", [("Labels", bool), ("Receipts", bool)])
+        settle(0.3)
+        scroll = self.window.panel.get_parent().get_vadjustment()
+        area = self.window.ask_printer.get_allocation()
+        self.assertGreater(area.y + area.height, scroll.get_page_size())
+        self.assertLessEqual(area.y + area.height, scroll.get_value() + scroll.get_page_size())
+
     def tab(self) -> Any:
         """The names of the controls of the panel that the Tab key reaches, in order."""
         found: list[Any] = []

@@ -43,7 +43,7 @@ NUMBERED = (  # the widgets at the steps of the page, and where beside them the 
     ("printer", 1.0, 0.5),
     ("stock", 1.0, 0.5),
     ("paper", 0.08, -0.04),
-    ("fold", 0.93, -0.3),
+    ("fold", 0.8, 0.5),
     ("print_button", 0.5, 1.1),
 )
 RED = (0.78, 0.1, 0.1)

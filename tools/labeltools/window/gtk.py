@@ -85,6 +85,11 @@ def shorten(choice: Any) -> None:
     letters.set_properties(ellipsize=Pango.EllipsizeMode.END, width_chars=min(LETTERS, longest))
 
 
+def reveal(part: Any, area: Any) -> None:
+    """Scrolls to a part that has its place."""
+    part.get_ancestor(Gtk.ScrolledWindow).get_vadjustment().clamp_page(area.y, area.y + area.height)
+
+
 def widen(choice: Any, *columns: int) -> None:
     """Makes the list of a choice as wide as what these columns of it say, which the choice itself
     may end with an ellipsis.
@@ -129,6 +134,7 @@ class Question(Gtk.Box):
         super().__init__(**properties)
         self.set_properties(orientation=Gtk.Orientation.VERTICAL, spacing=6, no_show_all=True)
         self.get_style_context().add_class("ask")
+        self.connect("size-allocate", reveal)
         self.text = Gtk.Label(xalign=0, wrap=True, max_width_chars=30, width_chars=20)
         self.answers = Gtk.Box(spacing=6, homogeneous=True)
         icon = Gtk.Image(icon_name="dialog-question-symbolic", valign=Gtk.Align.START)
