@@ -1467,7 +1467,7 @@ class WindowTest(Keeper):
         settle(0.3)
         self.window.questions.ask("printer", "What?", [("Labels", bool), ("Receipts", bool)])
         settle(0.3)
-        scroll = self.window.panel.get_parent().get_vadjustment()
+        scroll = self.window.panel.get_ancestor(Gtk.ScrolledWindow).get_vadjustment()
         area = self.window.ask_printer.get_allocation()
         self.assertGreater(area.y + area.height, scroll.get_page_size())
         self.assertLessEqual(area.y + area.height, scroll.get_value() + scroll.get_page_size())

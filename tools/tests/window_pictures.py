@@ -43,7 +43,7 @@ NUMBERED = (  # the widgets at the steps of the page, and where beside them the 
     ("printer", 1.0, 0.5),
     ("stock", 1.0, 0.5),
     ("paper", 0.08, -0.04),
-    ("fold", 0.8, 0.5),
+    ("fold", 0.8, 0.35),
     ("print_button", 0.5, 1.1),
 )
 RED = (0.78, 0.1, 0.1)
@@ -231,6 +231,10 @@ def show_tables(camera: Camera) -> None:
     window.more_of_paper.set_expanded(True)
     camera.shot("more")
     window.more_of_table.set_expanded(False)
+    scroll = window.panel.get_ancestor(camera.gtk.Gtk.ScrolledWindow).get_vadjustment()
+    camera.settle(0.3)
+    scroll.set_value(scroll.get_upper())
+    camera.shot("more-below")
     window.more_of_paper.set_expanded(False)
     show_questions(camera)
 

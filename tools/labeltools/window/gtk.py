@@ -42,6 +42,8 @@ infobar label, infobar image { color: @theme_fg_color; text-shadow: none; }
 .ask { background: mix(@theme_bg_color, @warning_color, .22); padding: 8px;
   border: 1px solid @warning_color; border-radius: 4px; }
 .working progressbar { color: @theme_fg_color; font-size: inherit; }
+.working progress { min-height: 4px; border: none;
+  background: mix(@theme_selected_bg_color, @theme_fg_color, .4); }
 .working { padding: 8px; background: mix(@theme_bg_color, @theme_selected_bg_color, .12); }
 button.fold:checked { background: none; border-color: transparent; box-shadow: none; }
 combobox { -GtkComboBox-appears-as-list: 1; }
