@@ -555,6 +555,7 @@ class Remedies(Keeper):
                 self.until(lambda: self.window.has_labels)
                 self.assertEqual(self.window.choices()["for-print"], words)
                 self.assertIn("sent to", self.confirmed())
+                self.until(lambda: not self.window.ways.waiting)  # the next one is not told of it
                 paper = ("--paper", f"60x{size}", "--dpi", "300")
                 edge = words.replace("--paper-as-given", "").split()  # a file has no paper
                 self.assertEqual(self.saved("a.pdf"), self.by_commands(*paper, *edge))
