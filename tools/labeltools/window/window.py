@@ -311,7 +311,7 @@ class Window(Gtk.ApplicationWindow):
     def fill(self, table: Table) -> None:
         """Fills the choices of columns for a table."""
         guess = table.guess
-        self.columns.append([_("none"), ""])
+        self.columns.append([_("no column"), ""])
         for number, (name, example) in enumerate(zip(guess.names, guess.examples), 1):
             name = name or _("column {number}").format(number=number)
             self.columns.append([with_example(name, example), str(number)])
