@@ -147,6 +147,6 @@ def are_sold(
     if any(is_of_books(columns[at]) for at in ways) and are_kept(columns):
         return False
     are_alike = titles.surely is not None and columns[titles.surely].differing < ALIKE
-    own = [columns[at] for at, one in ways.items() if not one.are_sure]
+    own = [columns[at] for at, one in ways.items() if one.rules[0] == ANY_TEXT]
     is_own = any(are_alike or one.says("codes") for one in own)
     return not is_own or any(one.says("sold", "paid") for one in columns)
