@@ -30,6 +30,7 @@ __all__ = [
 ]
 LETTERS = 14  # that a choice shows at least
 BESIDE = 60  # pixels of an icon beside the texts of a list, and of what is between them
+WIDEST = 600  # pixels of a list
 SIDE = 90  # pixels of an answer that is beside another one
 # the colours of events and questions, of the desktop's theme; a list of choices opens as a list,
 # since a menu of them has arrows to scroll by where the window is low
@@ -100,8 +101,8 @@ def widen(choice: Any, *columns: int) -> None:
     if isinstance(shown, Gtk.TreeView):  # and not yet a menu
         texts = ([row[column] for row in choice.get_model()] for column in columns)
         drawn = (map(shown.create_pango_layout, column) for column in texts)
-        widths = (max(one.get_pixel_size()[0] for one in column) for column in drawn)
-        shown.set_size_request(sum(widths) + BESIDE, -1)
+        widths = (max((one.get_pixel_size()[0] for one in part), default=0) for part in drawn)
+        shown.set_size_request(min(sum(widths) + BESIDE, WIDEST), -1)
 
 
 def within(widget: Any) -> Iterator[Any]:
@@ -151,7 +152,10 @@ class Question(Gtk.Box):
         self.answers.foreach(Gtk.Widget.destroy)
         widest = 0
         for shown, act in answers:
-            label = Gtk.Label(label=shown, ellipsize=Pango.EllipsizeMode.END, max_width_chars=30)
+            label = Gtk.Label(label=shown, wrap=True, lines=2, max_width_chars=30)
+            label.set_properties(
+                ellipsize=Pango.EllipsizeMode.END, justify=Gtk.Justification.CENTER
+            )
             widest = max(widest, self.create_pango_layout(shown).get_pixel_size()[0])
             button = Gtk.Button(child=label)
             button.connect("clicked", lambda _button, act=act: act())
@@ -201,7 +205,9 @@ class Choice(Gtk.ComboBoxText):
         super().__init__(**properties)
         self.connect("scroll-event", leave_wheel)
         self.set_hexpand(True)
+        self.set_popup_fixed_width(False)
         self.connect("show", shorten)
+        self.connect("map", widen, 0)
 
 
 class Caption(Gtk.Label):

@@ -34,6 +34,7 @@ from labeltools.window.gtk import (
     GLib,
     Gtk,
     leave_wheel,
+    widen,
     within,
 )
 from labeltools.window.presets import Presets
@@ -322,6 +323,8 @@ class Window(Gtk.ApplicationWindow):
         is_same = self.chosen and guess.names == self.names
         own = self.chosen if is_same else {**table.paper, "for-print": "", **table.kept, "first": 1}
         self.names = guess.names
+        for name in COLUMNS:
+            widen(self.control(name), 0)
         self.take({"symbology": guess.rules.symbology, **own})
         self.of_printers.recall(own)
         self.offer_patterns(table)
