@@ -437,7 +437,7 @@ PRESSED: tuple[tuple[str | bytes, dict[str, Any], str, str], ...] = (
     (xlsx(DAYS, formats=[14]), {"title": "2"}, "As 31.12.2026", "--date-as dd.mm.yyyy"),
     (
         xlsx(rows(NAMED, [LINK, "Gum", "1,00"], ["B7", "Tea", "2,00"])),
-        {"symbology": "qr"},
+        {"symbology": "qr", "price": "3"},
         "Draw the address",
         "--symbology qr --links",
     ),
