@@ -242,6 +242,7 @@ class Guesses(unittest.TestCase):
             ("Liste;Stand:;01.11.2026;\n", 2),
             ("fa;fb;fc;fd\n", 2),  # names that a program has for itself
             ("Pflicht;Pflicht;Pflicht;Pflicht\n", 2),
+            (";".join(f"The {one} of the article, as in the shop" for one in "wxyz") + "\n", 2),
             ("Preisliste, Stand Mai\n", 2),  # one that has no delimiter, or another one
             ("Preisliste\nMai\n\nStand 1\n", 5),
         ):
@@ -433,6 +434,10 @@ class Guesses(unittest.TestCase):
             ("Штрихкод;Наименование;Цена", "Мыло", "cp1251", "cp1251"),
             ("Barcode;Περιγραφή;Τιμή", "Τσάι", "cp1253", "cp1253"),
             (english, "Füller, weiß", "cp1252", "cp1252"),
+            ("JANコード;商品名;販売価格", "緑茶", "cp932", "cp932"),
+            ("条码;商品名称;零售价", "绿茶", "gb18030", "gb18030"),
+            ("條碼;商品名稱;售價", "綠茶", "big5", "big5"),
+            ("바코드;상품명;판매가", "녹차", "cp949", "cp949"),
             (english, "Łosoś, żółty, mąka", "cp1250", "cp1250"),
             (english, "Crème", "cp1252", ""),  # or Crčme
             (english, "Kőr", "cp1250", ""),  # or Kõr
@@ -519,6 +524,10 @@ class Guesses(unittest.TestCase):
         self.assertEqual(guess(carton, 1).doubts, {"code": [1, 0]})
         plain = [["Item no", *NUMBERS[1]], ["EAN", *CODES], ["Carton EAN", *CODES[::-1]]]
         self.assertEqual(guess(plain, 1).columns, {"code": 1})
+        both = [["Inventory number", *NUMBERS[1]], ["EAN", *CODES]]  # which a shop may have, too
+        self.assertEqual(guess(both, 1).columns, {"code": 1})
+        both = [["Ticket number", *NUMBERS[1]], ["Barcode", *NUMBERS[0]]]
+        self.assertEqual(guess(both, 1).columns, {"code": 1})
         few = [["Item no", *NUMBERS[1]], ["EAN", CODES[0], "", ""]]
         self.assertEqual(guess(few, 1).doubts, {"code": [1, 0]})
         old = [["Book no", *NUMBERS[1]], ["ISBN", CODES[0], "", ""]]

@@ -33,13 +33,14 @@ def code_columns(columns: Sequence[ColumnSample]) -> Places:
         if is_own or one.filled < 1:  # each book has a number of its own
             return Places([*rest, *books], rest[0] if is_own and len(rest) == 1 else None)
     first = min((code_rank(columns[at]) for at in found), default=0)
-    best = [at for at in found if code_rank(columns[at]) == first] or plain
+    best = [at for at in found if code_rank(columns[at]) == first]
+    best = [at for at in best if columns[at].says("codes")] or best or plain
     best = best or [*short_columns(columns)] or [*numbers]
     if len(best) != 1:
         return Places(best)
     one = columns[best[0]]
     is_other = one.says("others") - one.says("beside-codes") or one.filled < LEAST and rest
-    if found and is_other:
+    if found and is_other and rest:
         return Places([*best, *(at for at in rest if at not in found)])
     is_other = one.says("others") - one.says("numbers")
     is_sure = found or one.filled >= LEAST and not is_other
@@ -63,6 +64,8 @@ def found_codes(columns: Sequence[ColumnSample]) -> Sequence[int]:
     named = [at for at, one in enumerate(columns) if one.texts and is_named_code(one)]
     found = sorted({*sure, *own} - again) if sure else named
     books = [at for at in found if is_of_books(columns[at])]
+    if sure and not {*sure} <= {*books, *again}:  # articles, whose own numbers are no codes
+        found = [at for at in found if at in sure or columns[at].says("codes")]
     labels = [at for at in found if at in own and at not in books]
     if labels and len(labels) + len(books) == len(found):
         return [at for at in labels if columns[at].says("codes")] or labels
@@ -80,11 +83,13 @@ def number_columns(columns: Sequence[ColumnSample]) -> Sequence[int]:
 
 
 def short_columns(columns: Sequence[ColumnSample]) -> Sequence[int]:
-    """Returns the columns that are named as numbers, and have another one in each row, those first
-    of which the names do not say that they have something else.
+    """Returns the columns that are named as numbers, and have another one in each row: those first
+    of which the names do not say that they have something else, or only that it is an ID.
     """
     short = [at for at, one in enumerate(columns) if one.differing == 1 and one.says("numbers")]
-    return [at for at in short if not columns[at].says("others")] or short
+    plain = [at for at in short if not columns[at].says("others")]
+    ids = [at for at in short if not columns[at].says("others") - columns[at].says("numbers")]
+    return plain or ids or short
 
 
 def is_named_code(column: ColumnSample) -> bool:

@@ -8,6 +8,8 @@ from labeltools.tables.cell_kinds import ARTICLE, FIGURES
 from labeltools.tables.columns import column_names
 from labeltools.tables.name_words import column_words, words_in
 
+MOST_WORDS = 5  # of a name
+
 
 def guessed_header(rows: Sequence[Row]) -> Row:
     """Returns the row of the names: it has more than half as many cells as any row, and no date or
@@ -23,8 +25,9 @@ def guessed_header(rows: Sequence[Row]) -> Row:
 
 
 def known_in(texts: Iterable[str]) -> int:
-    """Returns how many different texts have a word that the names of columns have."""
-    return sum(any(map(is_known, words_in(text))) for text in {*texts})
+    """Returns how many different texts are short, with a word that the names of columns have."""
+    words = ([*words_in(text)] for text in {*texts})
+    return sum(len(one) <= MOST_WORDS and any(map(is_known, one)) for one in words)
 
 
 def is_known(word: str) -> bool:

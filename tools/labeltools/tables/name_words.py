@@ -11,7 +11,9 @@ from labeltools.common.word_lists import lists_by_section, lists_of
 COLUMN_WORDS = Path(__file__).with_name("columns.list")
 HUMP = re.compile("(?<=[a-z]{2})(?=[A-Z])|(?<=[A-Z]{2})(?=[A-Z][a-z]{2})")  # as in `salePrice`
 # letters that Unicode does not take apart, and one that is a letter of its own
-FOLDED = str.maketrans({**dict(zip("łøđðı", "loddi")), "å": "aa", "º": "o", "%": " percent "})
+FOLDED = str.maketrans(
+    {**dict(zip("łøđðı", "loddi")), "å": "aa", "º": "o", "%": " percent ", "+": " plus "}
+)
 MOST_IN_ONE = 4  # words that count as one
 SHORT = 5  # letters of a word that is never written as several
 FOREIGN = "English"  # whose words are in the names of columns everywhere
@@ -65,7 +67,7 @@ def words_of_languages() -> Mapping[str, Words]:
     }
     common = parts.pop(FOREIGN)
     return {
-        part: Words([one for one in words.all if not common.has(one)])
+        part: Words([one for one in words.all if not common.has(one.strip("-"))])
         for part, words in parts.items()
     }
 

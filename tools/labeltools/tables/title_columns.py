@@ -29,12 +29,16 @@ def title_columns(columns: Mapping[int, ColumnSample], keys: Sequence[Sequence[s
         plain = [at for at, one in texts.items() if one.says(*TITLES) and is_plain_title(one)]
         return Places([*numbered, *plain], None if plain else numbered[0])
     groups = {at: variants_in(one.cells, keys) for at, one in texts.items() if ranks[at] == first}
-    filled = max((1 if group else texts[at].filled for at, group in groups.items()), default=1)
+    filled = max(
+        (1 if group is not None else texts[at].filled for at, group in groups.items()), default=1
+    )
     best = [
         at
         for at, one in texts.items()
         if ranks[at] == first or one.filled > (filled if one.says("titles") else FAR * filled)
     ]
+    if any(texts[at].says("titles") for at in best):
+        best = [at for at in best if texts[at].says("titles") or not texts[at].says("descriptions")]
     is_person = first == (1, Plainness.PLAIN) and not any(map(is_article, texts.values()))
     if is_person and len(best) == 2:
         return Places([at for at in texts if at != best[1]], best[0], second=best[1])
