@@ -6,6 +6,7 @@ from collections.abc import Callable, Iterable, Iterator, Mapping, Sequence
 from contextlib import contextmanager, suppress
 from dataclasses import replace
 from functools import partial
+from itertools import chain
 from pathlib import Path
 from typing import Any
 
@@ -122,7 +123,9 @@ class Window(Gtk.ApplicationWindow):
         """Sets up what window.ui does not say."""
         for name, (lowest, highest) in RANGES.items():
             self.control(name).set_range(lowest, highest)
-        for part in (self.head, self.get_child()):
+        dialogs = (self.printing, self.adding, self.choosing)
+        inner = ((one.get_header_bar(), one.get_content_area()) for one in dialogs)
+        for part in (self.head, self.get_child(), *chain(*inner)):
             part.show_all()
         for part in (self.bar, self.notes_box, self.result, self.working):
             part.foreach(Gtk.Widget.show_all)  # but not the part itself
