@@ -1,5 +1,5 @@
 -- The first answer, and the scale of what is found.
-use Rattle.std.proofs.Common.{◌≡◌, ◌≤◌, ◌+◌, ℕ, zero, suc, min, false, Option, Some, None, List, [], ◌∷◌, ◌∙◌, refl, sym, subst, arith}
+use Rattle.std.proofs.Common.{◌≡◌, ◌≤◌, ◌+◌, ℕ, zero, suc, min, false, true, Option, Some, None, List, [], ◌∷◌, ◌∙◌, refl, sym, subst, arith}
 use Rattle.std.specs.Option.{is_some, option_map, option_or}
 use Rattle.std.proofs.lemmas.Bool.{false≢true}
 use Rattle.std.specs.Prelude.{IfSome}
@@ -24,6 +24,12 @@ pub or_absent : {B D : Type 0} (told : D → B) (o : Option D) (a : Option B) �
     → option_or (option_map told o) a ≡ a
 or_absent told None a none = refl
 or_absent told (Some d) a none = absurd (false≢true (sym none))
+
+-- an answer that is there is the first one
+pub or_present : {B D : Type 0} (told : D → B) (o : Option D) (a rest : Option B) → option_map told o ≡ a
+    → is_some o ≡ true → option_map told o ≡ option_or a rest
+or_present told (Some d) a rest is some = λ i. option_or (is i) rest
+or_present told None a rest is some = absurd (false≢true some)
 
 -- what holds of each answer holds of the first one
 first_has : {A B : Type 0} (P : B → Type 0) (ask : A → Option B) → ((x : A) → IfSome (ask x) P) → (xs : List A)

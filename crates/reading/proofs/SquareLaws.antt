@@ -1,7 +1,7 @@
 -- Modules that are a square, and what they are read as.
 use mathlib.Core.Path.{fun_ext}
 use Rattle.std.proofs.Common.{◌≡◌, ◌≢◌, ℕ, zero, suc, ◌+◌, ◌<◌, ◌≤◌, refl, sym, ap, ◌∙◌, arith, Bool, true, false, inl, inr}
-use Rattle.std.proofs.Common.{List, Option, [], None, length, map, take, get_or, ◌&&◌, ◌||◌, ◌==◌, ◌*◌, ◌^◌, ◌%◌}
+use Rattle.std.proofs.Common.{◌-◌, ◌/◌, List, Option, [], None, length, map, take, get_or, ◌&&◌, ◌||◌, ◌==◌, ◌*◌, ◌^◌, ◌%◌}
 use Rattle.std.specs.Prelude.{bit_or, nat_lt, option_and_then, slice_index}
 use Rattle.std.specs.Int.{from_bool}
 use Rattle.std.specs.List.{list_all, range_with_len}
@@ -19,6 +19,12 @@ use Rattle.picture.specs.Picture.{Picture}
 use Rattle.picture.specs.Reading.{raster}
 use Rattle.picture.specs.Text.{pixel_row}
 use Rattle.picture.proofs.SampleLaws.{value_at-raster}
+use Rattle.std.proofs.lemmas.Nat.Bits.{bit_at_cat_high}
+use Rattle.std.specs.Int.{bit_at}
+use Rattle.reading.specs.Found.{quarter}
+use Rattle.filter.specs.Symbol.{quiet_zone}
+use Rattle.reading.specs.Private.{Packs, are_whole_cells, modules_in}
+use Rattle.reading.specs.declared.packed.Packed.{Packed}
 use Rattle.labelcore.specs.declared.symbology.Symbology.TheVariants.{Qr}
 use Rattle.filter.specs.Reading.{read_modules}
 
@@ -114,3 +120,53 @@ square_of_words p rows n wide high long is =
           ap (λ w. bit w x) (get_or_past (take n rows) y 0 (omega (arith, past, length-take-le n rows long)))
           ∙ above_bit 0 0 x (omega arith) (omega arith) ∙ sym (pixel_at p x y ∙ grind (arith, nat_tests))
     ]
+
+-- one row more in a word of a column
+pub column_added : (line : ℕ → Bool) (column b y : ℕ) → b < 2 → (b == 1) ≡ line y
+    → ((i : ℕ) → bit column i ≡ (nat_lt i y && line (y - 1 - i)))
+    → (i : ℕ) → bit (2 * column + b) i ≡ (nat_lt i (y + 1) && line (y + 1 - 1 - i))
+column_added line column b y small is seen zero =
+    let low : (2 * column + b) / 2 ^ 0 % 2 ≡ b = omega (arith, small) in
+    let last : y + 1 - 1 - 0 ≡ y = omega arith in
+    let some : nat_lt 0 (y + 1) ≡ true = grind (arith, nat_tests) in
+    ap (λ z. z == 1) low ∙ is ∙ rw (last, some) refl
+column_added line column b y small is seen (suc i) =
+    let high = bit_at_cat_high column 1 b (suc i) small (omega arith) in
+    let same : 2 * column + b ≡ column * 2 ^ 1 + b = omega arith in
+    let before : suc i - 1 ≡ i = omega arith in
+    let place : y + 1 - 1 - suc i ≡ y - 1 - i = omega arith in
+    let test : nat_lt (suc i) (y + 1) ≡ nat_lt i y = grind (arith, nat_tests) in
+    ap (λ z. z == 1) (ap (λ n. bit_at n (suc i)) same ∙ high ∙ ap (bit_at column) before) ∙ seen i ∙ rw (place, test) refl
+
+-- a module of a square that is turned
+pub turned_module : (p : Picture) (packed : Packed) → Packs p packed → (rows : List ℕ) (x y : ℕ) → y < packed.side
+    → bit (slice_index rows y) x ≡ (nat_lt x packed.side && bit (slice_index packed.rows (packed.side - 1 - x)) y)
+    → bit (slice_index rows y) x ≡ (nat_lt x packed.side && (quarter p).dark x y)
+turned_module p packed packs rows x y inside is = is ∙ elim (cases_lt x packed.side) [
+  | inl wide ↦
+      let place : p.height - 1 - x ≡ packed.side - 1 - x = ap (λ n. n - 1 - x) packs.high in
+      let pixel = packs.modules y (packed.side - 1 - x) (omega (arith, wide)) in
+      let test : nat_lt y packed.side ≡ true = grind (arith, nat_tests) in
+      rw (pixel, test, place) refl
+  | inr past ↦ let test : nat_lt x packed.side ≡ false = grind (arith, nat_tests) in rw test refl
+]
+
+-- the modules of a turned picture at scale 1 are those of the picture, turned
+pub singles_turned : (p : Picture) (packed : Packed) → are_whole_cells p 1 (quiet_zone Qr) ≡ true
+    → Packs (quarter (modules_in p 1 (quiet_zone Qr))) packed
+    → (are_whole_cells (quarter p) 1 (quiet_zone Qr) ≡ true) × Packs (modules_in (quarter p) 1 (quiet_zone Qr)) packed
+singles_turned p packed whole packs = (
+  grind (arith, nat_tests),
+  record {
+    wide = packs.wide;
+    high = packs.high;
+    count = packs.count;
+    modules = λ x y inside. packs.modules x y inside ∙ elim (cases_lt x packed.side) [
+      | inl wide ↦
+          let place : (4 + (p.height / 1 - 4 - 4 - 1 - x)) * 1 ≡ p.height - 1 - (4 + x) * 1 =
+          omega (arith, wide, packs.wide) in
+          ap (λ row. nat_lt x packed.side && p.dark ((4 + y) * 1) row) place
+      | inr past ↦ let test : nat_lt x packed.side ≡ false = grind (arith, nat_tests) in rw test refl
+    ];
+  },
+)

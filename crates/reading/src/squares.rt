@@ -1,11 +1,15 @@
 //! Modules read as QR symbols.
-ghost use Rattle.std.specs.Prelude.{◌≡◌, ◌<◌, ◌≤◌, ◌&&◌, ℕ, nat_lt, option_map};
+ghost use Rattle.std.specs.Prelude.{◌≡◌, ◌<◌, ◌≤◌, ◌-◌, ◌&&◌, ℕ, MatchOption, nat_lt, option_map, slice_index};
 ghost use Rattle.qrmatrix.specs.Bits.{bit};
 ghost use Rattle.filter.specs.Reading.{read_modules};
 ghost use Rattle.labelcore.specs.declared.symbology.Symbology.TheVariants.{Qr};
+ghost use Rattle.picture.specs.Picture.{Picture};
 ghost use Rattle.picture.specs.Reading.{raster};
+ghost use Rattle.reading.specs.Found.{quarter};
 ghost use Rattle.reading.specs.Labels.{read_short};
+ghost use Rattle.reading.specs.Private.{IsNoSquare, Packs};
 
+use crate::packed::Packed;
 use picture::Grid;
 use qr_reading::{SymbolData, read};
 use qrmatrix::SIDE;
@@ -23,17 +27,61 @@ fn row_word<G: Grid>(modules: &G, y: usize) -> u64
     row
 }
 
+impl Packed {
+    /// Packs modules. `None`: they are no square, or a wider one than any symbol.
+    pub fn of<G: Grid>(modules: &G) -> Option<Packed>
+        ensures { MatchOption result (IsNoSquare (G.picture modules.now)) (Packs (G.picture modules.now)) }
+    {
+        let side = modules.width();
+        if side != modules.height() || side > SIDE {
+            return None;
+        }
+        let mut rows = [0; SIDE];
+        for y in 0..side {
+            rows[y] = row_word(modules, y);
+        }
+        Some(Packed { side, rows })
+    }
+
+    /// Returns the modules of a column as the bits of a number, the last row the lowest.
+    fn column_word(&self, x: usize) -> u64
+        requires { x < SIDE }
+        ensures { (i : ℕ) → bit result i
+            ≡ (nat_lt i self.now.side && bit (slice_index self.now.rows (self.now.side - 1 - i)) x) }
+    {
+        let mut column = 0;
+        for y in 0..self.side {
+            column = 2 * column + (self.rows[y] >> x & 1);
+        }
+        column
+    }
+
+    /// Returns the modules of the square, turned clockwise by a quarter turn.
+    pub fn turned(&self) -> Packed
+        ensures { (p : Picture) → Packs p self.now → Packs (quarter p) result }
+    {
+        let mut rows = [0; SIDE];
+        for y in 0..self.side {
+            rows[y] = self.column_word(y);
+        }
+        Packed {
+            side: self.side,
+            rows,
+        }
+    }
+
+    /// Reads the modules as a QR symbol: its data.
+    pub fn read(&self) -> Option<SymbolData>
+        ensures { (p : Picture) → Packs p self.now
+            → option_map (λ bytes. bytes.items) result ≡ read_short (read_modules Qr) (raster p).rows }
+    {
+        read(&self.rows[..self.side])
+    }
+}
+
 /// Reads modules as a QR symbol, which is a square: its data.
 pub fn read_square<G: Grid>(modules: &G) -> Option<SymbolData>
     ensures { option_map (λ bytes. bytes.items) result ≡ read_short (read_modules Qr) (raster (G.picture modules.now)).rows }
 {
-    let side = modules.width();
-    if side != modules.height() || side > SIDE {
-        return None;
-    }
-    let mut rows = [0; SIDE];
-    for y in 0..side {
-        rows[y] = row_word(modules, y);
-    }
-    read(&rows[..side])
+    Packed::of(modules)?.read()
 }
