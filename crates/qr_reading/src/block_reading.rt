@@ -116,6 +116,8 @@ pub(crate) fn read_data(version: Version, level: Level, codewords: &[u8]) -> Opt
     let (data, ec_codewords) = codewords.split_at(version.data_codewords(level));
     let mut ec_lengths = Lengths::new();
     push_lengths(&mut ec_lengths, lengths.len(), count);
-    let message = sound_blocks(count, &lengths, &ec_lengths, data, ec_codewords)?;
+    let Some(message) = sound_blocks(count, &lengths, &ec_lengths, data, ec_codewords) else {
+        return None;
+    };
     read_message(version, &message)
 }

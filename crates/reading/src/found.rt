@@ -28,6 +28,7 @@ pub struct Reading {
 }
 
 /// Reads dots as a symbol of a symbology at a scale. `singles`: the modules of a QR symbol at scale 1, if they are packed.
+#[inline(never)]
 fn read_as<G: Grid>(
     symbology: Symbology,
     dots: &G,
@@ -43,7 +44,9 @@ fn read_as<G: Grid>(
         (Symbology::Qr, Some(modules)) if scale == 1 => read_singles(dots, modules),
         _ => read(symbology, dots, scale),
     };
-    let data = data?;
+    let Some(data) = data else {
+        return None;
+    };
     Some(Reading {
         symbology,
         scale,
@@ -118,21 +121,14 @@ fn scale_from<G: Grid>(symbology: Symbology, dots: &G, first: First) -> Option<u
     can_begin.then_some(scale)
 }
 
-/// Reads dots as a symbol of a symbology whose first module is at the first dark dot.
-fn read_from<G: Grid>(
-    symbology: Symbology,
-    dots: &G,
-    turns: u8,
-    first: First,
-    singles: &Option<Packed>,
-) -> Option<Reading>
-    requires first { IsFirst (G.picture dots.now) first.x first.y }
-    requires singles { ShowsSingles (G.picture dots.now) singles.now }
-    ensures { option_map found_of result ≡ reading_from turns (G.picture dots.now) first.x first.y symbology }
-{
-    let scale = scale_from(symbology, dots, first)?;
-    read_as(symbology, dots, turns, scale, singles)
-}
+/// The symbologies, in the order in which they are tried.
+const SYMBOLOGIES: [Symbology; 5] = [
+    Symbology::Ean13,
+    Symbology::Ean8,
+    Symbology::UpcA,
+    Symbology::Code128,
+    Symbology::Qr,
+];
 
 /// Reads dots as they lie, by the first symbology that reads them.
 fn read_first<G: Grid>(
@@ -146,11 +142,15 @@ fn read_first<G: Grid>(
     ensures { option_map found_of result
         ≡ first_some (reading_from turns (G.picture dots.now) first.x first.y) symbologies }
 {
-    read_from(Symbology::Ean13, dots, turns, first, singles)
-        .or_else(|| read_from(Symbology::Ean8, dots, turns, first, singles))
-        .or_else(|| read_from(Symbology::UpcA, dots, turns, first, singles))
-        .or_else(|| read_from(Symbology::Code128, dots, turns, first, singles))
-        .or_else(|| read_from(Symbology::Qr, dots, turns, first, singles))
+    for place in 0..SYMBOLOGIES.len() {
+        if let Some(scale) = scale_from(SYMBOLOGIES[place], dots, first) {
+            let found = read_as(SYMBOLOGIES[place], dots, turns, scale, singles);
+            if found.is_some() {
+                return found;
+            }
+        }
+    }
+    None
 }
 
 /// Packs the modules of a QR symbol at scale 1, if its first module is at the first dark dot and they are not packed yet.
@@ -163,33 +163,21 @@ fn pack_singles<G: Grid>(dots: &G, first: First, singles: &mut Option<Packed>)
     }
 }
 
-/// Turns packed modules clockwise by a quarter turn, if nothing was read. Otherwise they are needed no more.
-fn turn_singles(found: &Option<Reading>, singles: &mut Option<Packed>)
+/// Turns packed modules clockwise by a quarter turn.
+fn turn_singles(singles: &mut Option<Packed>)
     ensures { (p : Picture) → ShowsSingles p singles.old → ShowsSingles (quarter p) singles.new }
 {
-    if found.is_some() {
-        *singles = None;
-    } else if let Some(modules) = singles {
+    if let Some(modules) = singles {
         *modules = modules.turned();
     }
 }
 
-/// Returns what was read, or else reads dots as they lie. `singles`: the modules of a QR symbol at scale 1, if they are
-/// packed.
-fn or_upright<G: Grid>(
-    found: Option<Reading>,
-    dots: &G,
-    turns: u8,
-    singles: &mut Option<Packed>,
-) -> Option<Reading>
+/// Reads dots as they lie. `singles`: the modules of a QR symbol at scale 1, if they are packed.
+fn read_upright<G: Grid>(dots: &G, turns: u8, singles: &mut Option<Packed>) -> Option<Reading>
     requires { ShowsSingles (G.picture dots.now) singles.old }
-    ensures read { option_map found_of result
-        ≡ option_or (option_map found_of found) (upright_reading turns (G.picture dots.now)) }
+    ensures read { option_map found_of result ≡ upright_reading turns (G.picture dots.now) }
     ensures singles { ShowsSingles (G.picture dots.now) singles.new }
 {
-    if found.is_some() {
-        return found;
-    }
     let Some(first) = first_dark(dots) else {
         return None;
     };
@@ -239,14 +227,20 @@ pub fn read_any<G: Grid>(dots: &G) -> Option<Reading>
         return found;
     }
     let once = Quarter { dots };
-    turn_singles(&found, &mut singles);
-    let found = or_upright(found, &once, 1, &mut singles);
+    turn_singles(&mut singles);
+    let found = read_upright(&once, 1, &mut singles);
+    if found.is_some() {
+        return found;
+    }
     let twice = Quarter { dots: &once };
-    turn_singles(&found, &mut singles);
-    let found = or_upright(found, &twice, 2, &mut singles);
+    turn_singles(&mut singles);
+    let found = read_upright(&twice, 2, &mut singles);
+    if found.is_some() {
+        return found;
+    }
     let thrice = Quarter { dots: &twice };
-    turn_singles(&found, &mut singles);
-    or_upright(found, &thrice, 3, &mut singles)
+    turn_singles(&mut singles);
+    read_upright(&thrice, 3, &mut singles)
 }
 
 /// What is read upright is read as that, by [`read_any`]. It does nothing when it runs.

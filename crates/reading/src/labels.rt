@@ -58,7 +58,9 @@ pub fn read_singles<G: Grid>(dots: &G, modules: &Packed) -> Option<SymbolData>
     requires { ShowsSingles (G.picture dots.now) (Some modules.now) }
     ensures { option_map (λ bytes. bytes.items) result ≡ read_dots Qr 1 (raster (G.picture dots.now)) }
 {
-    let data = modules.read()?;
+    let Some(data) = modules.read() else {
+        return None;
+    };
     are_cells(dots, 1, &zone_of(Symbology::Qr)).then_some(data)
 }
 

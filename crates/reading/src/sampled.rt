@@ -1,8 +1,9 @@
 //! Modules that dots show.
-ghost use Rattle.std.specs.Prelude.{◌≡◌, ◌+◌, ◌*◌, ◌/◌, ◌%◌, ◌<◌, ◌≤◌, ◌&&◌, nat_le, nat_lt, false, true, MatchOption};
-ghost use Rattle.std.specs.List.{list_all};
+ghost use Rattle.std.specs.Prelude.{◌≡◌, ◌+◌, ◌-◌, ◌*◌, ◌/◌, ◌%◌, ◌<◌, ◌≤◌, ◌&&◌, nat_le, nat_lt, false, true, MatchOption};
+ghost use Rattle.std.specs.Bool.{beq};
+ghost use Rattle.std.specs.List.{list_all, range_with_len};
 ghost use Rattle.picture.specs.Text.{below};
-ghost use Rattle.reading.specs.Private.{IsAgain, are_whole_cells, is_of_cell, is_row_of_cells};
+ghost use Rattle.reading.specs.Private.{IsAgain, are_whole_cells, is_row_of_cells};
 ghost use Rattle.reading.specs.Private.{modules_in};
 
 use picture::{Grid, QuietZone};
@@ -25,38 +26,45 @@ fn is_between(before: usize, after: usize, cells: usize, cell: usize) -> bool
     before <= cell && cells > after && cell < cells - after
 }
 
-/// Returns whether the dot at `x` and `y` has the colour of its cell, a square of dots: light in the quiet zone, and
-/// else that of the cell's first dot. `top` is the first row of the cell. `is_inner`: no cell of the row is of the zone
-/// above or below.
+/// Returns whether the dots of the row `y` from `from` on and before `end` have the colour of their cell, which is that of
+/// its first dot in a module, and else light. `top` is the first row of the cell.
 #[inline(always)]
-fn is_of_cell<G: Grid>(
+fn is_row_of_cell<G: Grid>(
     dots: &G,
     scale: usize,
-    zone: &QuietZone,
-    columns: usize,
+    is_module: bool,
+    from: usize,
+    end: usize,
     top: usize,
-    is_inner: bool,
-    x: usize,
     y: usize,
 ) -> bool
     requires some { 0 < scale }
-    requires columns { columns ≡ (G.picture dots.now).width / scale }
-    requires top { top ≡ y / scale * scale }
-    requires inner { is_inner ≡ (nat_le zone.now.top (y / scale)
-        && nat_lt (y / scale + zone.now.bottom) ((G.picture dots.now).height / scale)) }
-    requires wide { x < (G.picture dots.now).width }
+    requires end { end ≡ from + scale }
+    requires wide { end ≤ (G.picture dots.now).width }
     requires high { y < (G.picture dots.now).height }
-    ensures { result ≡ is_of_cell (G.picture dots.now) scale zone.now x y }
+    requires top { top ≡ y / scale * scale }
+    ensures { result ≡ list_all (λ x. beq ((G.picture dots.now).dark x y) (is_module && (G.picture dots.now).dark from top))
+        (range_with_len from scale) }
 {
-    let column = x / scale;
-    if !is_inner || !is_between(zone.left, zone.right, columns, column) {
-        return !dots.dark(x, y);
-    }
     // A module of one dot has its colour.
-    scale == 1 || dots.dark(x, y) == dots.dark(column * scale, top)
+    if is_module && scale == 1 {
+        return true;
+    }
+    let dark = is_module && dots.dark(from, top);
+    (from..end).all(|x| dots.dark(x, y) == dark)
 }
 
-/// Returns whether each dot of the row `y` has the colour of its cell.
+/// Returns whether the dots of the row `y` from `from` on are light.
+fn is_light_from<G: Grid>(dots: &G, from: usize, y: usize) -> bool
+    requires { y < (G.picture dots.now).height }
+    ensures { result ≡ list_all (λ x. beq ((G.picture dots.now).dark x y) false)
+        (range_with_len from ((G.picture dots.now).width - from)) }
+{
+    (from..dots.width()).all(|x| !dots.dark(x, y))
+}
+
+/// Returns whether each dot of the row `y` has the colour of its cell, a square of dots: light in the quiet zone, and else
+/// that of the cell's first dot.
 fn is_row_of_cells<G: Grid>(dots: &G, scale: usize, zone: &QuietZone, y: usize) -> bool
     requires some { 0 < scale }
     requires high { y < (G.picture dots.now).height }
@@ -65,7 +73,15 @@ fn is_row_of_cells<G: Grid>(dots: &G, scale: usize, zone: &QuietZone, y: usize) 
     let columns = dots.width() / scale;
     let top = y / scale * scale;
     let is_inner = is_between(zone.top, zone.bottom, dots.height() / scale, y / scale);
-    (0..dots.width()).all(|x| is_of_cell(dots, scale, zone, columns, top, is_inner, x, y))
+    for column in 0..columns {
+        let is_module = is_inner & is_between(zone.left, zone.right, columns, column);
+        let from = column * scale;
+        if !is_row_of_cell(dots, scale, is_module, from, from + scale, top, y) {
+            return false;
+        }
+    }
+    // What is left is no whole cell, and no module.
+    is_light_from(dots, columns * scale, y)
 }
 
 /// Returns whether the row `y`, where it has the dots of the row before it, as those before `equal` have, has the colours

@@ -10,20 +10,20 @@ use Rattle.reading.proofs.LabelLaws.{whole_read}
 use Rattle.reading.proofs.WidthLaws.{told_if}
 use Rattle.reading.proofs.labels.read_singles.Goals as goal
 
-pub returns-in_err-data : goal.returns-in_err-data
-returns-in_err-data g c =
+pub returns-in_default : goal.returns-in_default
+returns-in_default g c =
     let p = g.G.Grid.picture c.args.dots.now in
     let rule = λ (q : Picture). read_short (read_modules Qr) (raster q).rows in
     let none : rule (modules_in p 1 (quiet_zone Qr)) ≡ None =
-    sym (c.read.ensures (modules_in p 1 (quiet_zone Qr)) c.requires.1) ∙ ap (option_map (λ bytes. bytes.items)) c.in_err-data.was in
-    rw (c.from_residual.ensures, whole_read Qr p 1 (omega arith) c.requires.0, none) refl
+    sym (c.read.ensures (modules_in p 1 (quiet_zone Qr)) c.requires.1) ∙ ap (option_map (λ bytes. bytes.items)) c.in_default.is in
+    rw (whole_read Qr p 1 (omega arith) c.requires.0, none) refl
 
 pub returns : goal.returns
 returns g c =
     let p = g.G.Grid.picture c.args.dots.now in
     let zone = c.zone_of.ensures.zone in
     let rule = λ (q : Picture). read_short (read_modules Qr) (raster q).rows in
-    let read : rule (modules_in p 1 (quiet_zone Qr)) ≡ Some c.in_ok-data.data.items =
-    sym (c.read.ensures (modules_in p 1 (quiet_zone Qr)) c.requires.1) ∙ ap (option_map (λ bytes. bytes.items)) c.in_ok-data.was in
+    let read : rule (modules_in p 1 (quiet_zone Qr)) ≡ Some c.in-Some.data.items =
+    sym (c.read.ensures (modules_in p 1 (quiet_zone Qr)) c.requires.1) ∙ ap (option_map (λ bytes. bytes.items)) c.in-Some.is in
     rw (c.then_some.ensures, c.are_cells.ensures, zone, whole_read Qr p 1 (omega arith) c.requires.0, read)
-    (told_if (λ bytes. bytes.items) c.in_ok-data.data _)
+    (told_if (λ bytes. bytes.items) c.in-Some.data _)
