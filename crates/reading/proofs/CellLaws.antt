@@ -65,6 +65,14 @@ parts_pass test a (suc m) k =
     and_later : (a b c : Bool) → (a && (b && c)) ≡ ((a && b) && c)
     and_later a b c = grind arith
 
+always_true : (a n : ℕ) → list_all (λ x. true) (range_with_len a n) ≡ true
+always_true a zero = refl
+always_true a (suc n) = always_true (a + 1) n
+
+beq-same : (b : Bool) → beq b b ≡ true
+beq-same true = refl
+beq-same false = refl
+
 -- two tests agree on a range
 same_from : (p q : ℕ → Bool) (a m : ℕ) → ((k : ℕ) → a ≤ k → k < a + m → p k ≡ q k)
     → list_all p (range_with_len a m) ≡ list_all q (range_with_len a m)
@@ -189,3 +197,41 @@ module _ (p : Picture) (scale : ℕ) (zone : QuietZone) (some : 0 < scale) where
       let outside : is_module zone (p.width / scale) (p.height / scale) (x / scale) (y / scale) ≡ false =
       grind (arith, nat_tests, past) in
       rw outside refl)
+
+  -- a row of modules of one dot: the zone beside them is light
+  pub singles_row : (y : ℕ) → scale ≡ 1
+      → (nat_le zone.top (y / scale) && nat_lt (y / scale + zone.bottom) (p.height / scale)) ≡ true
+      → zone.left + zone.right ≤ p.width
+      → (list_all (λ x. beq (p.dark x y) false) (range_with_len 0 zone.left)
+      && list_all (λ x. beq (p.dark x y) false) (range_with_len (p.width - zone.right) zone.right))
+      ≡ list_all (λ x. is_of_cell p scale zone x y) (range_with_len 0 p.width)
+  singles_row y one inner fits =
+      let test = λ (x : ℕ). is_of_cell p scale zone x y in
+      let light = λ (x : ℕ). beq (p.dark x y) false in
+      let middle = p.width - zone.left - zone.right in
+      let parts : p.width ≡ zone.left + (middle + zone.right) = omega (arith, fits) in
+      let place : 0 + zone.left + middle ≡ p.width - zone.right = omega (arith, fits) in
+      let first : list_all test (range_with_len 0 zone.left) ≡ list_all light (range_with_len 0 zone.left) =
+      same_from test light 0 zone.left (λ x low high. outside x (grind (arith, nat_tests, high, one))) in
+      let last : list_all test (range_with_len (p.width - zone.right) zone.right)
+      ≡ list_all light (range_with_len (p.width - zone.right) zone.right) =
+      same_from test light (p.width - zone.right) zone.right
+      (λ x low high. outside x (grind (arith, nat_tests, low, one, fits))) in
+      let inside : list_all test (range_with_len (0 + zone.left) middle) ≡ true =
+      same_from test (λ x. true) (0 + zone.left) middle (λ x low high. own x
+      (grind (arith, nat_tests, low, high, one, inner, fits))) ∙ always_true (0 + zone.left) middle in
+      sym (ap (λ n. list_all test (range_with_len 0 n)) parts
+      ∙ parts_pass test 0 zone.left (middle + zone.right)
+      ∙ ap (λ b. list_all test (range_with_len 0 zone.left) && b) (parts_pass test (0 + zone.left) middle zone.right)
+      ∙ rw (first, inside, place, last) refl)
+    where
+      outside : (x : ℕ) → is_module zone (p.width / scale) (p.height / scale) (x / scale) (y / scale) ≡ false
+          → is_of_cell p scale zone x y ≡ beq (p.dark x y) false
+      outside x e = rw e refl
+
+      own : (x : ℕ) → is_module zone (p.width / scale) (p.height / scale) (x / scale) (y / scale) ≡ true
+          → is_of_cell p scale zone x y ≡ true
+      own x e =
+          let column : x / scale * scale ≡ x = grind (arith, one) in
+          let row : y / scale * scale ≡ y = grind (arith, one) in
+          rw (e, column, row) (beq-same (p.dark x y))

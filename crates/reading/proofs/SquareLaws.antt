@@ -2,7 +2,7 @@
 use mathlib.Core.Path.{fun_ext}
 use Rattle.std.proofs.Common.{◌≡◌, ◌≢◌, ℕ, zero, suc, ◌+◌, ◌<◌, ◌≤◌, refl, sym, ap, ◌∙◌, arith, Bool, true, false, inl, inr}
 use Rattle.std.proofs.Common.{◌-◌, ◌/◌, List, Option, [], None, length, map, take, get_or, ◌&&◌, ◌||◌, ◌==◌, ◌*◌, ◌^◌, ◌%◌}
-use Rattle.std.specs.Prelude.{bit_or, nat_lt, option_and_then, slice_index}
+use Rattle.std.specs.Prelude.{bit_and, bit_or, nat_lt, option_and_then, slice_index}
 use Rattle.std.specs.Int.{from_bool}
 use Rattle.std.specs.List.{list_all, range_with_len}
 use Rattle.std.proofs.lemmas.Bool.{cases_eq, cases_lt, eq-eqb, ne_eqb}
@@ -12,14 +12,16 @@ use Rattle.std.proofs.lemmas.List.FromFn.{get_or-map-range_with_len, length-map-
 use Rattle.qrdata.specs.Reading.{data_in}
 use Rattle.qrmatrix.specs.Bits.{bit}
 use Rattle.qrmatrix.specs.Reading.{Reading, read_matrix, read_square}
-use Rattle.qrmatrix.proofs.RowBitsLaws.{above_bit, or_bit, two_bits}
+use Rattle.qrmatrix.proofs.RowBitsLaws.{above_bit, or_bit, shr_bit, two_bits}
 use Rattle.qrmatrix.specs.Square.{value_at}
 use Rattle.qr_reading.proofs.SymbolReadingLaws.{wide_side}
 use Rattle.picture.specs.Picture.{Picture}
 use Rattle.picture.specs.Reading.{raster}
 use Rattle.picture.specs.Text.{pixel_row}
 use Rattle.picture.proofs.SampleLaws.{value_at-raster}
-use Rattle.std.proofs.lemmas.Nat.Bits.{bit_at_cat_high}
+use Rattle.std.proofs.Math.Pow.{pow_mono}
+use Rattle.std.proofs.lemmas.Nat.{pow-add}
+use Rattle.std.proofs.lemmas.Nat.Bits.{bit_at-lt, bit_at_cat_high, shr_and_one}
 use Rattle.std.specs.Int.{bit_at}
 use Rattle.reading.specs.Found.{quarter}
 use Rattle.filter.specs.Symbol.{quiet_zone}
@@ -137,6 +139,57 @@ column_added line column b y small is seen (suc i) =
     let place : y + 1 - 1 - suc i ≡ y - 1 - i = omega arith in
     let test : nat_lt (suc i) (y + 1) ≡ nat_lt i y = grind (arith, nat_tests) in
     ap (λ z. z == 1) (ap (λ n. bit_at n (suc i)) same ∙ high ∙ ap (bit_at column) before) ∙ seen i ∙ rw (place, test) refl
+
+-- the first y rows of a column as a number, the last one lowest
+pub record SeesColumn (rows : List ℕ) (x y column : ℕ) : Type 0 where
+  pub small : column < 2 ^ y
+  pub seen : (i : ℕ) → bit column i ≡ (nat_lt i y && bit (slice_index rows (y - 1 - i)) x)
+
+-- no row is read yet
+pub no_row : (rows : List ℕ) (x : ℕ) → SeesColumn rows x 0 0
+no_row rows x = record {
+  small = omega arith;
+  seen = λ i. at i;
+}
+  where
+    at : (i : ℕ) → bit 0 i ≡ (nat_lt i 0 && bit (slice_index rows (0 - 1 - i)) x)
+    at i = let none : nat_lt i 0 ≡ false = grind (arith, nat_tests) in
+        rw none (above_bit 0 0 i (omega arith) (omega arith))
+
+-- one row more
+pub row_seen : (rows : List ℕ) (x y column b : ℕ) → SeesColumn rows x y column
+    → b < 2 → (b == 1) ≡ bit (slice_index rows y) x → SeesColumn rows x (y + 1) (2 * column + b)
+row_seen rows x y column b sees few is =
+    let power = pow-add 2 y 1 in
+    record {
+      small = omega (arith, sees.small, few, power);
+      seen = column_added (λ y. bit (slice_index rows y) x) column b y few is sees.seen;
+    }
+
+-- a bit of a row that is moved down
+pub moved_bit : (row x k : ℕ) → (bit_and (row / 2 ^ x / 2 ^ k) 1 < 2) × ((bit_and (row / 2 ^ x / 2 ^ k) 1 == 1) ≡ bit row (x + k))
+moved_bit row x k =
+    let one = shr_and_one (row / 2 ^ x) k in
+    let few = bit_at-lt (row / 2 ^ x) k in
+    let place : k + x ≡ x + k = omega arith in
+    (omega (arith, one, few), ap (λ z. z == 1) one ∙ shr_bit row x k ∙ ap (bit row) place)
+
+-- a sum that fits
+pub column_fits : (rows : List ℕ) (x y column : ℕ) → SeesColumn rows x y column → y ≤ 56 → column < 2 ^ 56
+column_fits rows x y column sees few = let most : 2 ^ y ≤ 2 ^ 56 = pow_mono few in omega (arith, sees.small, most)
+
+-- a fact on each number below four
+pub by_four : (P : ℕ → Type 0) → P 0 → P 1 → P 2 → P 3 → (k : ℕ) → k < 4 → P k
+by_four P a b c d zero few = a
+by_four P a b c d (suc zero) few = b
+by_four P a b c d (suc (suc zero)) few = c
+by_four P a b c d (suc (suc (suc zero))) few = d
+by_four P a b c d (suc (suc (suc (suc k)))) few = absurd (omega (arith, few))
+
+-- a column whose rows are all read
+pub column_seen : (rows : List ℕ) (x x' y side column : ℕ) → x' ≡ x → y ≡ side → SeesColumn rows x y column → (i : ℕ)
+    → bit column i ≡ (nat_lt i side && bit (slice_index rows (side - 1 - i)) x')
+column_seen rows x x' y side column place last sees i = rw (place, ← last) (sees.seen i)
 
 -- a module of a square that is turned
 pub turned_module : (p : Picture) (packed : Packed) → Packs p packed → (rows : List ℕ) (x y : ℕ) → y < packed.side

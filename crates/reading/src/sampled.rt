@@ -31,36 +31,48 @@ fn is_between(before: usize, after: usize, cells: usize, cell: usize) -> bool
 #[inline(always)]
 fn is_row_of_cell<G: Grid>(
     dots: &G,
-    scale: usize,
     is_module: bool,
     from: usize,
     end: usize,
     top: usize,
     y: usize,
 ) -> bool
-    requires some { 0 < scale }
-    requires end { end ≡ from + scale }
-    requires wide { end ≤ (G.picture dots.now).width }
-    requires high { y < (G.picture dots.now).height }
-    requires top { top ≡ y / scale * scale }
+    requires wide { (from < end) × (end ≤ (G.picture dots.now).width) }
+    requires high { (y < (G.picture dots.now).height) × (top ≤ y) }
     ensures { result ≡ list_all (λ x. beq ((G.picture dots.now).dark x y) (is_module && (G.picture dots.now).dark from top))
-        (range_with_len from scale) }
+        (range_with_len from (end - from)) }
 {
-    // A module of one dot has its colour.
-    if is_module && scale == 1 {
-        return true;
-    }
     let dark = is_module && dots.dark(from, top);
     (from..end).all(|x| dots.dark(x, y) == dark)
 }
 
-/// Returns whether the dots of the row `y` from `from` on are light.
-fn is_light_from<G: Grid>(dots: &G, from: usize, y: usize) -> bool
-    requires { y < (G.picture dots.now).height }
-    ensures { result ≡ list_all (λ x. beq ((G.picture dots.now).dark x y) false)
-        (range_with_len from ((G.picture dots.now).width - from)) }
+/// Returns whether the dots of the row `y` from `from` on and before `end` are light.
+fn are_light<G: Grid>(dots: &G, from: usize, end: usize, y: usize) -> bool
+    requires wide { end ≤ (G.picture dots.now).width }
+    requires high { y < (G.picture dots.now).height }
+    ensures { result ≡ list_all (λ x. beq ((G.picture dots.now).dark x y) false) (range_with_len from (end - from)) }
 {
-    (from..dots.width()).all(|x| !dots.dark(x, y))
+    (from..end).all(|x| !dots.dark(x, y))
+}
+
+/// Returns whether the `left` first dots of a row and the `right` last ones are light.
+fn is_light_beside<G: Grid>(dots: &G, left: usize, right: usize, y: usize) -> bool
+    requires wide { left + right ≤ (G.picture dots.now).width }
+    requires high { y < (G.picture dots.now).height }
+    ensures { result ≡ (list_all (λ x. beq ((G.picture dots.now).dark x y) false) (range_with_len 0 left)
+        && list_all (λ x. beq ((G.picture dots.now).dark x y) false)
+        (range_with_len ((G.picture dots.now).width - right) right)) }
+{
+    let width = dots.width();
+    are_light(dots, 0, left, y) && are_light(dots, width - right, width, y)
+}
+
+/// Returns whether a quiet zone is no wider than this.
+#[inline(always)]
+fn is_as_wide(zone: &QuietZone, width: usize) -> bool
+    ensures { result ≡ nat_le (zone.now.left + zone.now.right) width }
+{
+    zone.left <= width && zone.right <= width - zone.left
 }
 
 /// Returns whether each dot of the row `y` has the colour of its cell, a square of dots: light in the quiet zone, and else
@@ -70,18 +82,23 @@ fn is_row_of_cells<G: Grid>(dots: &G, scale: usize, zone: &QuietZone, y: usize) 
     requires high { y < (G.picture dots.now).height }
     ensures { result ≡ is_row_of_cells (G.picture dots.now) scale zone.now y }
 {
-    let columns = dots.width() / scale;
+    let width = dots.width();
+    let columns = width / scale;
     let top = y / scale * scale;
     let is_inner = is_between(zone.top, zone.bottom, dots.height() / scale, y / scale);
+    // Modules of one dot have their colours, and the zone beside them is looked at alone.
+    if scale == 1 && is_inner & is_as_wide(zone, width) {
+        return is_light_beside(dots, zone.left, zone.right, y);
+    }
     for column in 0..columns {
         let is_module = is_inner & is_between(zone.left, zone.right, columns, column);
         let from = column * scale;
-        if !is_row_of_cell(dots, scale, is_module, from, from + scale, top, y) {
+        if !is_row_of_cell(dots, is_module, from, from + scale, top, y) {
             return false;
         }
     }
     // What is left is no whole cell, and no module.
-    is_light_from(dots, columns * scale, y)
+    are_light(dots, columns * scale, width, y)
 }
 
 /// Returns whether the row `y`, where it has the dots of the row before it, as those before `equal` have, has the colours

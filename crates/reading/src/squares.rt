@@ -1,5 +1,5 @@
 //! Modules read as QR symbols.
-ghost use Rattle.std.specs.Prelude.{◌≡◌, ◌<◌, ◌≤◌, ◌-◌, ◌&&◌, ℕ, MatchOption, nat_lt, option_map, slice_index};
+ghost use Rattle.std.specs.Prelude.{◌≡◌, ◌<◌, ◌≤◌, ◌+◌, ◌-◌, ◌&&◌, ℕ, MatchOption, nat_lt, option_map, slice_index};
 ghost use Rattle.qrmatrix.specs.Bits.{bit};
 ghost use Rattle.filter.specs.Reading.{read_modules};
 ghost use Rattle.labelcore.specs.declared.symbology.Symbology.TheVariants.{Qr};
@@ -56,12 +56,40 @@ impl Packed {
         column
     }
 
+    /// Returns the modules of a column and of the three after it, as `column_word` does.
+    fn four_column_words(&self, x: usize) -> [u64; 4]
+        requires { x + 3 < SIDE }
+        ensures { (k i : ℕ) → k < 4 → bit (slice_index result k) i
+            ≡ (nat_lt i self.now.side && bit (slice_index self.now.rows (self.now.side - 1 - i)) (x + k)) }
+    {
+        let mut first = 0;
+        let mut second = 0;
+        let mut third = 0;
+        let mut fourth = 0;
+        for y in 0..self.side {
+            let row = self.rows[y] >> x;
+            first = 2 * first + (row & 1);
+            second = 2 * second + (row >> 1 & 1);
+            third = 2 * third + (row >> 2 & 1);
+            fourth = 2 * fourth + (row >> 3 & 1);
+        }
+        [first, second, third, fourth]
+    }
+
     /// Returns the modules of the square, turned clockwise by a quarter turn.
     pub fn turned(&self) -> Packed
         ensures { (p : Picture) → Packs p self.now → Packs (quarter p) result }
     {
         let mut rows = [0; SIDE];
-        for y in 0..self.side {
+        let most = self.side / 4 * 4;
+        for block in 0..self.side / 4 {
+            let columns = self.four_column_words(4 * block);
+            rows[4 * block] = columns[0];
+            rows[4 * block + 1] = columns[1];
+            rows[4 * block + 2] = columns[2];
+            rows[4 * block + 3] = columns[3];
+        }
+        for y in most..self.side {
             rows[y] = self.column_word(y);
         }
         Packed {
