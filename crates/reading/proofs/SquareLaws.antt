@@ -91,19 +91,6 @@ module _ (p : Picture) where
 
 -- ---- words
 
--- one module more in a word
-pub module_added : (line : ℕ → Bool) (row b k x : ℕ) → k < 57 → b ≡ from_bool (line k)
-    → bit row x ≡ (nat_lt x k && line x) → bit (bit_or row (b * 2 ^ k % 2 ^ 64)) x ≡ (nat_lt x (k + 1) && line x)
-module_added line row b k x few is before =
-    or_bit row (b * 2 ^ k % 2 ^ 64) x ∙ ap (λ z. bit row x || z) (at (line k) is) ∙ rw before (elim (cases_eq x k) [
-      | inl e ↦ rw e (grind (arith, nat_tests))
-      | inr ne ↦ grind (arith, nat_tests)
-    ])
-  where
-    at : (dark : Bool) → b ≡ from_bool dark → bit (b * 2 ^ k % 2 ^ 64) x ≡ (x == k && dark)
-    at true on = rw (on, two_bits 1 k x (omega arith) (omega arith)) (grind arith)
-    at false off = rw (off, two_bits 0 k x (omega arith) (omega arith)) (grind arith)
-
 -- words that have the rows of a square are read as the square
 pub square_of_words : (p : Picture) (rows : List ℕ) (n : ℕ) → p.width ≡ n → p.height ≡ n → n ≤ length rows
     → ((x y : ℕ) → y < n → bit (get_or rows y 0) x ≡ (nat_lt x p.width && p.dark x y))
@@ -223,3 +210,33 @@ singles_turned p packed whole packs = (
     ];
   },
 )
+
+-- ---- rows, from the last column on
+
+pub no_bits : (i : ℕ) (b : Bool) → bit 0 i ≡ (nat_lt i 0 && b)
+no_bits i b =
+    let none : nat_lt i 0 ≡ false = grind (arith, nat_tests) in
+    rw none (above_bit 0 0 i (omega arith) (omega arith))
+
+-- a colour as a number
+pub dark_as_number : (dark : Bool) (b : ℕ) → b ≡ from_bool dark → (b < 2) × ((b == 1) ≡ dark)
+dark_as_number true b e = rw e (omega arith, refl)
+dark_as_number false b e = rw e (omega arith, refl)
+
+-- one bit more
+pub number_fits : (row b y : ℕ) → row < 2 ^ y → b < 2 → 2 * row + b < 2 ^ (y + 1)
+number_fits row b y small few = let power = pow-add 2 y 1 in omega (arith, small, few, power)
+
+-- all columns
+pub whole_row : (line : ℕ → Bool) (row place width w : ℕ) → place ≡ w → width ≡ w
+    → ((i : ℕ) → bit row i ≡ (nat_lt i place && line (width - 1 - (place - 1 - i))))
+    → (x : ℕ) → bit row x ≡ (nat_lt x w && line x)
+whole_row line row place width w last e written x = written x ∙ elim (cases_lt x w) [
+  | inl inside ↦
+      let here : width - 1 - (place - 1 - x) ≡ x = omega (arith, last, e, inside) in
+      rw (here, last) refl
+  | inr past ↦
+      let none : nat_lt x place ≡ false = grind (arith, nat_tests, past, last) in
+      let none_later : nat_lt x w ≡ false = grind (arith, nat_tests, past) in
+      rw (none, none_later) refl
+]

@@ -20,9 +20,10 @@ fn row_word<G: Grid>(modules: &G, y: usize) -> u64
     requires high { y < (G.picture modules.now).height }
     ensures { (x : ℕ) → bit result x ≡ (nat_lt x (G.picture modules.now).width && (G.picture modules.now).dark x y) }
 {
+    let width = modules.width();
     let mut row = 0;
-    for x in 0..modules.width() {
-        row |= u64::from(modules.dark(x, y)) << x;
+    for place in 0..width {
+        row = 2 * row + u64::from(modules.dark(width - 1 - place, y));
     }
     row
 }
