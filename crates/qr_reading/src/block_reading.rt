@@ -21,6 +21,10 @@ fn interleaving_place(lengths: &[usize], block: usize, place: usize) -> usize
     requires block { (block ≤ length lengths.now) × (length lengths.now ≤ 8) }
     ensures { result ≡ interleaving_place lengths.now block place }
 {
+    // A block alone has its codewords in the order of their places.
+    if lengths.len() == 1 && block == 0 {
+        return place.min(lengths[0]);
+    }
     let before: usize = lengths.iter().map(|size| place.min(*size)).sum();
     let here = lengths[..block]
         .iter()

@@ -168,7 +168,7 @@ fn turn_singles(singles: &mut Option<Packed>)
     ensures { (p : Picture) → ShowsSingles p singles.old → ShowsSingles (quarter p) singles.new }
 {
     if let Some(modules) = singles {
-        *modules = modules.turned();
+        modules.turn();
     }
 }
 

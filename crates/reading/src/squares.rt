@@ -77,9 +77,9 @@ impl Packed {
         [first, second, third, fourth]
     }
 
-    /// Returns the modules of the square, turned clockwise by a quarter turn.
-    pub fn turned(&self) -> Packed
-        ensures { (p : Picture) → Packs p self.now → Packs (quarter p) result }
+    /// Turns the square clockwise by a quarter turn.
+    pub fn turn(&mut self)
+        ensures { (p : Picture) → Packs p self.old → Packs (quarter p) self.new }
     {
         let mut rows = [0; SIDE];
         let most = self.side / 4 * 4;
@@ -93,10 +93,7 @@ impl Packed {
         for y in most..self.side {
             rows[y] = self.column_word(y);
         }
-        Packed {
-            side: self.side,
-            rows,
-        }
+        self.rows = rows;
     }
 
     /// Reads the modules as a QR symbol: its data.

@@ -1,6 +1,6 @@
 use Rattle.std.proofs.Common.{arith}
 use Rattle.reading.proofs.SquareLaws.{turned_module}
-use Rattle.reading.proofs.packed.Packed.turned.Goals as goal
+use Rattle.reading.proofs.packed.Packed.turn.Goals as goal
 
 pub returns : goal.returns
 returns c = λ p packs. record {
