@@ -1,8 +1,8 @@
 -- Modules that are a square, and what they are read as.
 use mathlib.Core.Path.{fun_ext}
 use Rattle.std.proofs.Common.{◌≡◌, ◌≢◌, ℕ, zero, suc, ◌+◌, ◌<◌, ◌≤◌, refl, sym, ap, ◌∙◌, arith, Bool, true, false, inl, inr}
-use Rattle.std.proofs.Common.{◌-◌, ◌/◌, List, Option, [], None, length, map, take, get_or, ◌&&◌, ◌||◌, ◌==◌, ◌*◌, ◌^◌, ◌%◌}
-use Rattle.std.specs.Prelude.{bit_and, bit_or, nat_lt, option_and_then, slice_index}
+use Rattle.std.proofs.Common.{◌-◌, ◌/◌, List, Option, [], None, length, map, take, get_or, ◌&&◌, ◌==◌, ◌*◌, ◌^◌, ◌%◌}
+use Rattle.std.specs.Prelude.{bit_and, nat_lt, option_and_then, slice_index}
 use Rattle.std.specs.Int.{from_bool}
 use Rattle.std.specs.List.{list_all, range_with_len}
 use Rattle.std.proofs.lemmas.Bool.{cases_eq, cases_lt, eq-eqb, ne_eqb}
@@ -12,7 +12,7 @@ use Rattle.std.proofs.lemmas.List.FromFn.{get_or-map-range_with_len, length-map-
 use Rattle.qrdata.specs.Reading.{data_in}
 use Rattle.qrmatrix.specs.Bits.{bit}
 use Rattle.qrmatrix.specs.Reading.{Reading, read_matrix, read_square}
-use Rattle.qrmatrix.proofs.RowBitsLaws.{above_bit, or_bit, shr_bit, two_bits}
+use Rattle.qrmatrix.proofs.RowBitsLaws.{above_bit, shr_bit}
 use Rattle.qrmatrix.specs.Square.{value_at}
 use Rattle.qr_reading.proofs.SymbolReadingLaws.{wide_side}
 use Rattle.picture.specs.Picture.{Picture}

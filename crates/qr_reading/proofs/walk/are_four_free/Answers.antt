@@ -1,7 +1,6 @@
-use Rattle.std.proofs.Common.{◌≡◌, ◌<◌, ◌∙◌, ap, arith, min, sym, ◌+◌, true}
+use Rattle.std.proofs.Common.{◌≡◌, ◌<◌, ◌∙◌, ap, arith, min, sym, ◌+◌}
 use Rattle.std.proofs.lemmas.Bool.{eqb-true}
 use Rattle.qrdata.specs.Bits.{bits_of}
-use Rattle.qrmatrix.specs.Square.{value_at}
 use Rattle.qrmatrix.specs.Private.Placing.{row_of}
 use Rattle.qr_reading.proofs.WalkedBitLaws.{both_set, strip_highest, strip_row}
 use Rattle.qr_reading.proofs.walk.are_four_free.Goals as goal

@@ -1,7 +1,7 @@
-use Rattle.std.proofs.Common.{◌≡◌, ◌∙◌, arith, option_map, sym}
+use Rattle.std.proofs.Common.{◌≡◌, ◌∙◌, option_map, sym}
 use Rattle.reading.proofs.FirstLaws.{from_first, light_in_vain}
 use Rattle.reading.proofs.FoundLaws.{narrow, or_absent, or_none, or_present}
-use Rattle.reading.specs.Found.{found_of, quarter, upright_reading}
+use Rattle.reading.specs.Found.{found_of, upright_reading}
 use Rattle.reading.proofs.found.read_any.Goals as goal
 
 pub returns-then-is_some-clause-read : goal.returns-then-is_some-clause-read

@@ -1,4 +1,4 @@
-use Rattle.std.proofs.Common.{◌≡◌, ◌+◌, ◌/◌, ◌∙◌, ℕ, arith, get_or, refl, sym}
+use Rattle.std.proofs.Common.{◌/◌, ◌∙◌, get_or, refl, sym}
 use Rattle.labelcore.specs.declared.symbology.Symbology.TheVariants.{Ean13}
 use Rattle.filter.specs.Symbol.{quiet_zone}
 use Rattle.reading.specs.Found.{found_of, reading_as, symbologies}

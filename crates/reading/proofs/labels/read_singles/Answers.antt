@@ -1,4 +1,4 @@
-use Rattle.std.proofs.Common.{arith, refl, ◌≡◌, Some, None, true, sym, ap, ◌∙◌, option_map}
+use Rattle.std.proofs.Common.{arith, refl, ◌≡◌, Some, None, sym, ap, ◌∙◌, option_map}
 use Rattle.filter.specs.Reading.{read_modules}
 use Rattle.filter.specs.Symbol.{quiet_zone}
 use Rattle.labelcore.specs.declared.symbology.Symbology.TheVariants.{Qr}

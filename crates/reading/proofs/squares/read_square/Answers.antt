@@ -1,4 +1,4 @@
-use Rattle.std.proofs.Common.{◌∙◌, inl, inr, sym, arith}
+use Rattle.std.proofs.Common.{inl, inr, sym}
 use Rattle.labelcore.specs.declared.symbology.Symbology.TheVariants.{Qr}
 use Rattle.filter.specs.Reading.{read_modules}
 use Rattle.picture.specs.Reading.{raster}

@@ -1,4 +1,4 @@
-use Rattle.std.proofs.Common.{◌≡◌, ◌+◌, ◌-◌, ◌*◌, ◌^◌, ◌<◌, ◌≤◌, ◌∙◌, ℕ, arith}
+use Rattle.std.proofs.Common.{◌≡◌, ◌-◌, ◌^◌, ◌≤◌, ◌∙◌, ℕ, arith}
 use Rattle.std.proofs.Math.Pow.{pow_mono}
 use Rattle.reading.proofs.SquareLaws.{column_added, dark_as_number, no_bits, number_fits, whole_row}
 use Rattle.reading.proofs.squares.row_word.Goals as goal

@@ -1,4 +1,4 @@
-use Rattle.std.proofs.Common.{◌+◌, ◌∙◌, ap, arith, slice_index, ◌==◌}
+use Rattle.std.proofs.Common.{ap, arith, slice_index, ◌==◌}
 use Rattle.std.proofs.lemmas.Nat.Bits.{shr_and_one, bit_at-lt}
 use Rattle.reading.proofs.SquareLaws.{column_fits, no_row, row_seen}
 use Rattle.reading.proofs.packed.Packed.column_word.Goals as goal

@@ -1,4 +1,4 @@
-use Rattle.std.proofs.Common.{◌≡◌, ◌∙◌, ◌&&◌, arith, sym}
+use Rattle.std.proofs.Common.{◌∙◌, ◌&&◌, arith, sym}
 use Rattle.std.specs.Prelude.{nat_lt}
 use Rattle.reading.proofs.packed.Packed.of.Goals as goal
 

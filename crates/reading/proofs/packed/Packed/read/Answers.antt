@@ -1,4 +1,4 @@
-use Rattle.std.proofs.Common.{◌∙◌, ◌&&◌, arith, sym, subst}
+use Rattle.std.proofs.Common.{◌∙◌, ◌&&◌, arith, sym}
 use Rattle.std.specs.Prelude.{nat_lt}
 use Rattle.labelcore.specs.declared.symbology.Symbology.TheVariants.{Qr}
 use Rattle.filter.specs.Reading.{read_modules}
