@@ -23,16 +23,14 @@ fn unmasked(rows: &[u64], mask: Mask, y: usize) -> u64
     mask_row_bits(mask, y % 12) ^ rows[y]
 }
 
-/// Returns the modules of all rows with a mask taken off.
-fn unmasked_rows(rows: &[u64], mask: Mask) -> [u64; SIDE]
+/// Writes the modules of all rows with a mask taken off.
+fn write_unmasked(rows: &[u64], mask: Mask, modules: &mut [u64; SIDE])
     requires { length rows.now ≤ SIDE }
-    ensures { (x y : ℕ) → x < SIDE → y < length rows.now → module_in result x y ≡ unmasked rows.now mask x y }
+    ensures { (x y : ℕ) → x < SIDE → y < length rows.now → module_in modules.new x y ≡ unmasked rows.now mask x y }
 {
-    let mut modules = [0; SIDE];
     for y in 0..rows.len() {
         modules[y] = unmasked(rows, mask, y);
     }
-    modules
 }
 
 /// Returns whether a bit is set.
@@ -101,16 +99,14 @@ fn push_rows(
     }
 }
 
-/// Returns for each row the columns that are free in it and in the three rows below it.
-fn four_free(side: usize, free: &Square) -> [u64; SIDE]
+/// Writes for each row the columns that are free in it and in the three rows below it.
+fn write_fours(side: usize, free: &Square, fours: &mut [u64; SIDE])
     requires { (4 ≤ side) × (side ≤ SIDE) }
-    ensures { AreFourFree side free.now result }
+    ensures { AreFourFree side free.now fours.new }
 {
-    let mut fours = [0; SIDE];
     for y in 0..side - 3 {
         fours[y] = free.row(y) & free.row(y + 1) & free.row(y + 2) & free.row(y + 3);
     }
-    fours
 }
 
 /// Returns whether both modules of the strip are free in row `t` and in the next three that it reaches.
@@ -211,8 +207,10 @@ pub(crate) fn read_codewords(version: Version, free: &Square, rows: &[u64], mask
         (read_bits version mask (λ x y. bit (slice_index rows.now y) x)) }
 {
     let side = version.side();
-    let modules = unmasked_rows(rows, mask);
-    let fours = four_free(side, free);
+    let mut modules = [0; SIDE];
+    write_unmasked(rows, mask, &mut modules);
+    let mut fours = [0; SIDE];
+    write_fours(side, free, &mut fours);
     let mut bits = Bits::new();
     // One strip goes up and one down, so that the compiler knows which.
     for pair in 0..(side - 1) / 4 {

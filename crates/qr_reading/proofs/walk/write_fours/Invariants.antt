@@ -1,7 +1,7 @@
 use Rattle.std.proofs.Common.{◌≡◌, ◌+◌, ◌<◌, ℕ, length, true}
 use Rattle.qrmatrix.specs.Square.{value_at}
 use Rattle.qr_reading.specs.Private.Walking.{module_in}
-use Rattle.qr_reading.proofs.walk.four_free.Given as goal
+use Rattle.qr_reading.proofs.walk.write_fours.Given as goal
 
 -- the rows so far are written
 abbrev pub invariant-loop-y : goal.invariant-loop-y

@@ -1,7 +1,7 @@
 use Rattle.std.proofs.Common.{◌∙◌, arith}
 use Rattle.std.proofs.lemmas.List.{length-set}
 use Rattle.qr_reading.proofs.WalkedBitLaws.{fours_more}
-use Rattle.qr_reading.proofs.walk.four_free.Goals as goal
+use Rattle.qr_reading.proofs.walk.write_fours.Goals as goal
 
 pub loop-y-preserved : goal.loop-y-preserved
 loop-y-preserved c =
