@@ -1,8 +1,8 @@
 /* Reads random pictures by labels_read_bits() of two libraries, an older and a newer one: compare_reads OLD NEW COUNT
  *
  * The libraries are files such as out/liblabels.so.1.2.0 of two checkouts. The pictures are noise, and symbols of each
- * symbology, whole or with changes, turned, in a part of a larger picture, with either bit dark. The status is 1 where the
- * two answer otherwise, and 0 after COUNT pictures. To build it: gcc -O2 -I lib lib/tests/compare_reads.c -ldl */
+ * symbology, whole or with changes, turned, in a part of a larger picture, with either bit dark. The status is 1 where
+ * the two answer otherwise, and 0 after COUNT pictures. To build it: gcc -O2 -I lib lib/tests/compare_reads.c -ldl */
 #include "labels.h"
 #include <dlfcn.h>
 #include <stdio.h>

@@ -11,8 +11,8 @@ FLAGS = ("-std=c11", "-O2", "-g", "-Wall", "-Wextra", "-Werror", f"-I{LIB}", f"-
 PICTURES = "blank row column dot last corner dark rows columns squares noise below".split()
 # Of the smallest QR version and of the largest, in each direction.
 SYMBOLS = [f"{symbol}-{turns}" for symbol in ("ean8", "qr", "large") for turns in range(4)]
-# A QR symbol with a finder pattern more, one whose fixed modules are right in all four directions, and symbols that are
-# right but for the last dot.
+# A QR symbol with a finder pattern more, one whose fixed modules are right in all four directions, and symbols that
+# are right but for the last dot.
 WRONG = ("qr-finders", "qr-corners", "ean8-spot", "qr-spot", "large-spot")
 # The number of divisors of a side is that of the scales that it has room for.
 MANY_DIVISORS, PRIME = 360, 359
