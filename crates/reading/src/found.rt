@@ -1,7 +1,6 @@
 //! Labels read from dots of which nothing is told.
 ghost use Rattle.std.specs.Prelude.{◌≡◌, ◌<◌, ◌≤◌, ◌/◌, IfSome, MatchOption, min, option_map, true};
 ghost use Rattle.std.specs.Bool.{then_some};
-ghost use Rattle.std.specs.Option.{option_or};
 ghost use Rattle.filter.specs.Symbol.{quiet_zone};
 ghost use Rattle.reading.specs.Found.{ReadingIsAlone, any_reading, first_some, found_of, quarter};
 ghost use Rattle.reading.specs.Found.{reading_as, symbologies, upright_reading};
