@@ -1,14 +1,18 @@
 -- The bits that the walk over the modules writes.
-use Rattle.std.proofs.Common.{get_or, ◌≡◌, ℕ, zero, suc, ◌+◌, ◌-◌, ◌<◌, ◌≤◌, Bool, true, false, List, [], ◌∷◌, ◌++◌, ap, length, length-append, refl, sym, ◌∙◌, append_assoc, arith}
+use Rattle.std.proofs.Common.{get_or, set, min, inl, inr, ◌≡◌, ℕ, zero, suc, ◌+◌, ◌-◌, ◌<◌, ◌≤◌, Bool, true, false, List, [], ◌∷◌, ◌++◌, ap, length, length-append, refl, sym, ◌∙◌, append_assoc, arith}
 use Rattle.std.specs.Int.{from_bool}
-use Rattle.std.specs.Prelude.{bit_and, ◌*◌, ◌/◌, ◌%◌, ◌^◌}
+use Rattle.std.proofs.lemmas.Bool.{cases_eq}
+use Rattle.std.proofs.lemmas.Grind.{get_or-set_at}
+use Rattle.std.proofs.lemmas.List.{get_or-set_other}
+use Rattle.std.specs.Prelude.{◌==◌, if◌then◌else◌, bit_and, ◌*◌, ◌/◌, ◌%◌, ◌^◌}
 use Rattle.std.specs.List.{flat_map, range_with_len}
 use Rattle.qrdata.specs.Bits.{bits_of}
 use Rattle.qrdata.proofs.BitStringLaws.{bits_of-joined}
 use Rattle.qrmatrix.specs.Bits.{bit}
 use Rattle.qrmatrix.proofs.RowBitsLaws.{and_bit, shr_bit}
 use Rattle.qrmatrix.specs.Square.{value_at}
-use Rattle.qr_reading.specs.Private.Walking.{row_read}
+use Rattle.qrmatrix.specs.Private.Placing.{row_of}
+use Rattle.qr_reading.specs.Private.Walking.{module_in, row_read}
 
 -- what is written and what is to come, when one piece more is written
 pub next_walked : (f : ℕ → List Bool) (written : List Bool) (k count : ℕ) → k < count
@@ -158,10 +162,38 @@ by_four P a b c d (suc (suc zero)) l = c
 by_four P a b c d (suc (suc (suc zero))) l = d
 by_four P a b c d (suc (suc (suc (suc j)))) l = absurd (omega arith)
 
--- both modules of a row are free where the row's bits are ones
-pub both_free : (free : List (List Bool)) (w x y row : ℕ) → ((x : ℕ) → bit w x ≡ value_at free x y) → y ≡ row
-    → bit w x ≡ true → bit w (x + 1) ≡ true → (value_at free x row ≡ true) × (value_at free (x + 1) row ≡ true)
-both_free free w x y row bits e low high = (
-  ap (value_at free x) (sym e) ∙ sym (bits x) ∙ low,
-  ap (value_at free (x + 1)) (sym e) ∙ sym (bits (x + 1)) ∙ high,
-)
+-- a row more of those that have the columns that are free in four rows
+pub fours_more : (free : List (List Bool)) (fours : List ℕ) (next a b c d : ℕ) → next < length fours
+    → ((x : ℕ) → bit a x ≡ value_at free x next) → ((x : ℕ) → bit b x ≡ value_at free x (next + 1))
+    → ((x : ℕ) → bit c x ≡ value_at free x (next + 2)) → ((x : ℕ) → bit d x ≡ value_at free x (next + 3))
+    → ((x y : ℕ) → y < next → module_in fours x y ≡ true → (k : ℕ) → k < 4 → value_at free x (y + k) ≡ true)
+    → (x y : ℕ) → y < next + 1 → module_in (set fours next (bit_and (bit_and (bit_and a b) c) d)) x y ≡ true
+    → (k : ℕ) → k < 4 → value_at free x (y + k) ≡ true
+fours_more free fours next a b c d inside first second third fourth before x y early on k few = elim (cases_eq y next) [
+  | inl e ↦
+      let word = bit_and (bit_and (bit_and a b) c) d in
+      let each = in_each a b c d x (sym (ap (λ w. bit w x) (get_or-set_at fours next y word 0 e inside)) ∙ on) in
+      let none : next + 0 ≡ next = omega arith in
+      rw e (by_four (λ k. value_at free x (next + k) ≡ true) (rw none (sym (first x) ∙ each.0)) (sym (second x) ∙ each.1)
+      (sym (third x) ∙ each.2) (sym (fourth x) ∙ each.3) k few)
+  | inr other ↦
+      before x y (omega (arith, early, other))
+      (sym (ap (λ w. bit w x) (get_or-set_other fours next y (bit_and (bit_and (bit_and a b) c) d) 0 other)) ∙ on) k few
+]
+
+-- one of four rows of a strip, by the highest of them
+pub strip_row : (n number t j : ℕ) → t + 3 < n → j < 4
+    → (k : ℕ) × (k < 4) × (row_of n number (t + j) ≡ min (row_of n number t) (row_of n number (t + 3)) + k)
+strip_row n number t j inside few =
+    elim (number % 2 == 0) as (λ up. (k : ℕ) × (k < 4) × ((if up then n - 1 - (t + j) else t + j)
+    ≡ min (if up then n - 1 - t else t) (if up then n - 1 - (t + 3) else t + 3) + k)) [
+      | true ↦ (3 - j, omega arith, omega (arith, inside, few))
+      | false ↦ (j, few, omega arith)
+    ]
+
+pub strip_highest : (n number t : ℕ) → t + 3 < n → min (row_of n number t) (row_of n number (t + 3)) + 3 < n
+strip_highest n number t inside =
+    elim (number % 2 == 0) as (λ up. min (if up then n - 1 - t else t) (if up then n - 1 - (t + 3) else t + 3) + 3 < n) [
+      | true ↦ omega (arith, inside)
+      | false ↦ omega (arith, inside)
+    ]

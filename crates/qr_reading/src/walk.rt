@@ -1,6 +1,6 @@
 //! The bits of a symbol, read in the order of the walk over its modules (ISO/IEC 18004, 7.7.3 and 12): strip after strip, and
 //! four rows of a strip at once where all of their modules are free.
-ghost use Rattle.std.specs.Prelude.{◌≡◌, ◌≤◌, ◌<◌, ◌+◌, ◌-◌, ◌%◌, ◌++◌, [], ◌∷◌, ℕ, Bool, IsTrue, length, slice_index, true};
+ghost use Rattle.std.specs.Prelude.{◌≡◌, ◌≤◌, ◌<◌, ◌+◌, ◌-◌, ◌%◌, ◌++◌, [], ◌∷◌, ℕ, Bool, IsTrue, List, length, slice_index, true};
 ghost use Rattle.qrdata.specs.Private.BitsInCodewords.{bits_in};
 ghost use Rattle.qrdata.specs.Bits.{bits_of, codewords_of};
 ghost use Rattle.qrdata.specs.Versions.{side_of, total_codewords};
@@ -9,7 +9,7 @@ ghost use Rattle.qrmatrix.specs.Private.Drawing.{MarksFree};
 ghost use Rattle.qrmatrix.specs.Private.Placing.{row_of};
 ghost use Rattle.qrmatrix.specs.Reading.{read_bits};
 ghost use Rattle.qrmatrix.specs.Square.{value_at};
-ghost use Rattle.qr_reading.specs.Private.Walking.{bit_if, module_in, row_read, rows_read, unmasked};
+ghost use Rattle.qr_reading.specs.Private.Walking.{AreFourFree, bit_if, module_in, row_read, rows_read, unmasked};
 
 use qrdata::{Bits, Codewords, MAX_BITS, Mask, Version, are_bytes};
 use qrmatrix::{SIDE, Square, Strip, mask_row_bits};
@@ -23,16 +23,14 @@ fn unmasked(rows: &[u64], mask: Mask, y: usize) -> u64
     mask_row_bits(mask, y % 12) ^ rows[y]
 }
 
-/// Returns the modules of all rows with a mask taken off.
-fn unmasked_rows(rows: &[u64], mask: Mask) -> [u64; SIDE]
+/// Writes the modules of all rows with a mask taken off.
+fn write_unmasked(rows: &[u64], mask: Mask, modules: &mut [u64; SIDE])
     requires { length rows.now ≤ SIDE }
-    ensures { (x y : ℕ) → x < SIDE → y < length rows.now → module_in result x y ≡ unmasked rows.now mask x y }
+    ensures { (x y : ℕ) → x < SIDE → y < length rows.now → module_in modules.new x y ≡ unmasked rows.now mask x y }
 {
-    let mut modules = [0; SIDE];
     for y in 0..rows.len() {
         modules[y] = unmasked(rows, mask, y);
     }
-    modules
 }
 
 /// Returns whether a bit is set.
@@ -101,21 +99,28 @@ fn push_rows(
     }
 }
 
+/// Writes for each row the columns that are free in it and in the three rows below it.
+fn write_fours(side: usize, free: &Square, fours: &mut [u64; SIDE])
+    requires { (4 ≤ side) × (side ≤ SIDE) }
+    ensures { AreFourFree side free.now fours.new }
+{
+    for y in 0..side - 3 {
+        fours[y] = free.row(y) & free.row(y + 1) & free.row(y + 2) & free.row(y + 3);
+    }
+}
+
 /// Returns whether both modules of the strip are free in row `t` and in the next three that it reaches.
 #[inline(always)]
-fn are_four_free(strip: Strip, t: usize, free: &Square) -> bool
+fn are_four_free(strip: Strip, t: usize, fours: &[u64; SIDE]) -> bool
     requires side { strip.side ≤ SIDE }
     requires column { strip.x + 1 < SIDE }
     requires row { t + 3 < strip.side }
-    ensures { IsTrue result → (j : ℕ) → j < 4
-        → (value_at free.now strip.x (row_of strip.side strip.number (t + j)) ≡ true)
-        × (value_at free.now (strip.x + 1) (row_of strip.side strip.number (t + j)) ≡ true) }
+    ensures { IsTrue result → (free : List (List Bool)) → AreFourFree strip.side free fours.now → (j : ℕ) → j < 4
+        → (value_at free strip.x (row_of strip.side strip.number (t + j)) ≡ true)
+        × (value_at free (strip.x + 1) (row_of strip.side strip.number (t + j)) ≡ true) }
 {
-    let rows = free.row(strip.row(t))
-        & free.row(strip.row(t + 1))
-        & free.row(strip.row(t + 2))
-        & free.row(strip.row(t + 3));
-    pair_at(rows, strip.x) == 3
+    let highest = strip.row(t).min(strip.row(t + 3));
+    pair_at(fours[highest], strip.x) == 3
 }
 
 /// Returns the modules of a strip in row `t` and in the next three that it reaches as a number of eight bits.
@@ -138,15 +143,23 @@ fn four_rows(strip: Strip, t: usize, modules: &[u64; SIDE]) -> u32
 
 /// Appends the free modules of four rows of a strip, from row `t` on.
 #[inline(always)]
-fn push_four(strip: Strip, t: usize, free: &Square, modules: &[u64; SIDE], bits: &mut Bits)
+fn push_four(
+    strip: Strip,
+    t: usize,
+    free: &Square,
+    fours: &[u64; SIDE],
+    modules: &[u64; SIDE],
+    bits: &mut Bits,
+)
     requires side { strip.side ≤ SIDE }
+    requires fours { AreFourFree strip.side free.now fours.now }
     requires column { strip.x + 1 < SIDE }
     requires row { t + 3 < strip.side }
     requires room { length (bits_in bits.old)
         + length (rows_read strip (value_at free.now) (module_in modules.now) t 4) ≤ MAX_BITS }
     ensures { bits_in bits.new ≡ bits_in bits.old ++ rows_read strip (value_at free.now) (module_in modules.now) t 4 }
 {
-    if are_four_free(strip, t, free) {
+    if are_four_free(strip, t, fours) {
         bits.push_number(four_rows(strip, t, modules), 8);
     } else {
         push_rows(strip, t, t + 4, free, modules, bits);
@@ -155,8 +168,15 @@ fn push_four(strip: Strip, t: usize, free: &Square, modules: &[u64; SIDE], bits:
 
 /// Appends the free modules of a strip.
 #[inline(always)]
-fn push_strip(strip: Strip, free: &Square, modules: &[u64; SIDE], bits: &mut Bits)
+fn push_strip(
+    strip: Strip,
+    free: &Square,
+    fours: &[u64; SIDE],
+    modules: &[u64; SIDE],
+    bits: &mut Bits,
+)
     requires side { (strip.side ≤ SIDE) × (strip.side % 4 ≡ 1) }
+    requires fours { AreFourFree strip.side free.now fours.now }
     requires column { strip.x + 1 < SIDE }
     requires room { length (bits_in bits.old)
         + length (rows_read strip (value_at free.now) (module_in modules.now) 0 strip.side) ≤ MAX_BITS }
@@ -167,7 +187,7 @@ fn push_strip(strip: Strip, free: &Square, modules: &[u64; SIDE], bits: &mut Bit
     let begin = strip.number % 2;
     push_rows(strip, 0, begin, free, modules, bits);
     for block in 0..strip.side / 4 {
-        push_four(strip, begin + 4 * block, free, modules, bits);
+        push_four(strip, begin + 4 * block, free, fours, modules, bits);
     }
     push_rows(
         strip,
@@ -187,12 +207,27 @@ pub(crate) fn read_codewords(version: Version, free: &Square, rows: &[u64], mask
         (read_bits version mask (λ x y. bit (slice_index rows.now y) x)) }
 {
     let side = version.side();
-    let modules = unmasked_rows(rows, mask);
+    let mut modules = [0; SIDE];
+    write_unmasked(rows, mask, &mut modules);
+    let mut fours = [0; SIDE];
+    write_fours(side, free, &mut fours);
     let mut bits = Bits::new();
     // One strip goes up and one down, so that the compiler knows which.
     for pair in 0..(side - 1) / 4 {
-        push_strip(Strip::new(side, 2 * pair), free, &modules, &mut bits);
-        push_strip(Strip::new(side, 2 * pair + 1), free, &modules, &mut bits);
+        push_strip(
+            Strip::new(side, 2 * pair),
+            free,
+            &fours,
+            &modules,
+            &mut bits,
+        );
+        push_strip(
+            Strip::new(side, 2 * pair + 1),
+            free,
+            &fours,
+            &modules,
+            &mut bits,
+        );
     }
     are_bytes(&bits.codewords);
     bits.codewords

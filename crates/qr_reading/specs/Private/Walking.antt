@@ -1,5 +1,5 @@
 -- The walk over the modules, row by row of each strip (ISO/IEC 18004, 7.7.3).
-use Rattle.std.specs.Prelude.{◌≡◌, ◌<◌, ℕ, ◌+◌, ◌*◌, Bool, false, List, [], ◌∷◌, ◌++◌, if◌then◌else◌}
+use Rattle.std.specs.Prelude.{◌≡◌, ◌<◌, ℕ, ◌+◌, ◌*◌, Bool, false, true, List, [], ◌∷◌, ◌++◌, if◌then◌else◌}
 use Rattle.std.specs.Prelude.{not, ◌||◌, Some, slice_index}
 use Rattle.std.specs.Bool.{beq, xor}
 use Rattle.std.specs.List.{flat_map, list_all, range_with_len}
@@ -35,6 +35,11 @@ row_read free modules x y = bit_if (free (x + 1) y) (modules (x + 1) y) ++ bit_i
 abbrev pub rows_read : Strip → (free modules : ℕ → ℕ → Bool) → ℕ → ℕ → List Bool
 rows_read strip free modules t count =
     flat_map (λ t. row_read free modules strip.x (row_of strip.side strip.number t)) (range_with_len t count)
+
+-- where a bit of a row is set, the modules of that column are free in this row and in the three below it
+abbrev pub AreFourFree : ℕ → (free : List (List Bool)) → (fours : List ℕ) → Type 0
+AreFourFree n free fours =
+    (x y : ℕ) → y + 3 < n → module_in fours x y ≡ true → (k : ℕ) → k < 4 → value_at free x (y + k) ≡ true
 
 -- the level and the mask that the five highest bits of the format information name, the highest at place 0
 abbrev pub format_named : (ℕ → Bool) → Level × ℕ

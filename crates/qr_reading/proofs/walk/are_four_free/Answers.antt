@@ -1,30 +1,24 @@
-use Rattle.std.proofs.Common.{◌≡◌, ◌∙◌, ap, sym, ◌+◌, true, add-zero}
+use Rattle.std.proofs.Common.{◌≡◌, ◌<◌, ◌∙◌, ap, arith, min, sym, ◌+◌}
 use Rattle.std.proofs.lemmas.Bool.{eqb-true}
 use Rattle.qrdata.specs.Bits.{bits_of}
-use Rattle.qrmatrix.specs.Square.{value_at}
 use Rattle.qrmatrix.specs.Private.Placing.{row_of}
-use Rattle.qr_reading.proofs.WalkedBitLaws.{both_free, both_set, by_four, in_each}
+use Rattle.qr_reading.proofs.WalkedBitLaws.{both_set, strip_highest, strip_row}
 use Rattle.qr_reading.proofs.walk.are_four_free.Goals as goal
 
 pub returns : goal.returns
 returns c =
-    λ set.
-    let free = c.args.free.now in
+    λ set free are j few.
     let x = c.args.strip.x in
     let n = c.args.strip.side in
     let number = c.args.strip.number in
     let t = c.args.t in
     let three = eqb-true c.pair_at.result 3 set in
     let both = both_set _ x (ap (bits_of 2) (sym three) ∙ c.pair_at.ensures.bits) in
-    let low = in_each c.row-2.result c.row-4.result c.row-6.result c.row-8.result x both.1 in
-    let high = in_each c.row-2.result c.row-4.result c.row-6.result c.row-8.result (x + 1) both.0 in
-    by_four
-    (λ j. (value_at free x (row_of n number (t + j)) ≡ true) × (value_at free (x + 1) (row_of n number (t + j)) ≡ true))
-    (both_free free c.row-2.result x c.row.result (row_of n number (t + 0)) c.row-2.ensures.bits
-    (c.row.ensures.value ∙ ap (row_of n number) (sym (add-zero t))) low.0 high.0)
-    (both_free free c.row-4.result x c.row-3.result (row_of n number (t + 1)) c.row-4.ensures.bits c.row-3.ensures.value
-    low.1 high.1)
-    (both_free free c.row-6.result x c.row-5.result (row_of n number (t + 2)) c.row-6.ensures.bits c.row-5.ensures.value
-    low.2 high.2)
-    (both_free free c.row-8.result x c.row-7.result (row_of n number (t + 3)) c.row-8.ensures.bits c.row-7.ensures.value
-    low.3 high.3)
+    let highest : c.min-highest.result ≡ min (row_of n number t) (row_of n number (t + 3)) =
+    c.min-highest.ensures ∙ (λ i. min (c.row.ensures.value i) (c.row-2.ensures.value i)) in
+    let inside : c.min-highest.result + 3 < n = omega (arith, highest, strip_highest n number t c.requires.row) in
+    let row = strip_row n number t j c.requires.row few in
+    let place : row_of n number (t + j) ≡ c.min-highest.result + row.0 = row.2 ∙ ap (λ y. y + row.0) (sym highest) in (
+      rw place (are x c.min-highest.result inside both.1 row.0 row.1),
+      rw place (are (x + 1) c.min-highest.result inside both.0 row.0 row.1),
+    )

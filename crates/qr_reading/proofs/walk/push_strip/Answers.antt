@@ -1,10 +1,25 @@
-use Rattle.std.proofs.Common.{◌≡◌, ◌+◌, ◌-◌, ◌*◌, ◌%◌, ◌∙◌, ℕ, arith, length-append, sym}
+use Rattle.std.proofs.Common.{refl, ◌++◌, ◌≡◌, ◌+◌, ◌-◌, ◌*◌, ◌%◌, ◌∙◌, ℕ, arith, length-append, sym}
 use Rattle.qrdata.specs.Private.BitsInCodewords.{bits_in}
 use Rattle.qrmatrix.specs.Private.Placing.{row_of}
 use Rattle.qrmatrix.specs.Square.{value_at}
 use Rattle.qr_reading.specs.Private.Walking.{module_in, row_read, rows_read}
 use Rattle.qr_reading.proofs.WalkedBitLaws.{next_pieces, pieces_have_room}
 use Rattle.qr_reading.proofs.walk.push_strip.Goals as goal
+
+pub push_rows-requires-clause-room : goal.push_rows-requires-clause-room
+push_rows-requires-clause-room c =
+    let strip = c.args.strip in
+    let n = strip.side in
+    let free = value_at c.args.free.now in
+    let modules = module_in c.args.modules.now in
+    let read = λ (t : ℕ). row_read free modules strip.x (row_of strip.side strip.number t) in
+    let all = rows_read strip free modules 0 n in
+    let begin = strip.number % 2 in
+    let rows : begin - 0 ≡ begin = omega arith in
+    let whole : n - 0 ≡ n = omega arith in
+    rw rows (pieces_have_room read (bits_in c.args.bits.now) (bits_in c.args.bits.now ++ all) 0 begin n
+    (omega (arith, c.requires.side)) (rw whole refl)
+    (omega (arith, length-append (bits_in c.args.bits.now) all, c.requires.room)))
 
 pub loop-block-init : goal.loop-block-init
 loop-block-init c =

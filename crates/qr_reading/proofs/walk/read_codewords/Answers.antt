@@ -25,8 +25,8 @@ push_strip-requires-clause-room c =
     let rows = c.args.rows.now in
     let free = value_at c.args.free.now in
     let known = c.side-side.ensures.known in
-    let up = strip_is v c.new.result free c.unmasked_rows-modules.result rows c.args.mask (2 * c.loop-pair.pair)
-    (c.new.ensures.strip v known.0 known.1 c.side-side.ensures.value) c.new.ensures.number c.unmasked_rows-modules.ensures
+    let up = strip_is v c.new.result free c.write_unmasked.new.modules rows c.args.mask (2 * c.loop-pair.pair)
+    (c.new.ensures.strip v known.0 known.1 c.side-side.ensures.value) c.new.ensures.number c.write_unmasked.ensures
     c.requires.side in
     rw up (has_room (strip_read n free (unmasked rows c.args.mask)) (bits_in c.loop-pair.bits) _ (2 * c.loop-pair.pair)
     ((n - 1) / 2) (omega (arith, rw c.side-side.ensures.value at c.loop-pair-test.true)) c.loop-pair.invariant
@@ -41,12 +41,12 @@ push_strip-requires-in-loop-pair-clause-room c =
     let known = c.side-side.ensures.known in
     let k = 2 * c.loop-pair.pair in
     let read = strip_read n free (unmasked rows c.args.mask) in
-    let up = strip_is v c.new.result free c.unmasked_rows-modules.result rows c.args.mask k
-    (c.new.ensures.strip v known.0 known.1 c.side-side.ensures.value) c.new.ensures.number c.unmasked_rows-modules.ensures
+    let up = strip_is v c.new.result free c.write_unmasked.new.modules rows c.args.mask k
+    (c.new.ensures.strip v known.0 known.1 c.side-side.ensures.value) c.new.ensures.number c.write_unmasked.ensures
     c.requires.side in
-    let down = strip_is v c.new-in-loop-pair.result free c.unmasked_rows-modules.result rows c.args.mask (k + 1)
+    let down = strip_is v c.new-in-loop-pair.result free c.write_unmasked.new.modules rows c.args.mask (k + 1)
     (c.new-in-loop-pair.ensures.strip v known.0 known.1 c.side-side.ensures.value) c.new-in-loop-pair.ensures.number
-    c.unmasked_rows-modules.ensures c.requires.side in
+    c.write_unmasked.ensures c.requires.side in
     let more : k + 1 < (n - 1) / 2 = omega (arith, rw c.side-side.ensures.value at c.loop-pair-test.true) in
     let next = sym (next_walked read (bits_in c.loop-pair.bits) k ((n - 1) / 2) (omega (arith, more)))
     ∙ c.loop-pair.invariant in
@@ -62,12 +62,12 @@ loop-pair-preserved c =
     let known = c.side-side.ensures.known in
     let k = 2 * c.loop-pair.pair in
     let read = strip_read n free (unmasked rows c.args.mask) in
-    let up = strip_is v c.new.result free c.unmasked_rows-modules.result rows c.args.mask k
-    (c.new.ensures.strip v known.0 known.1 c.side-side.ensures.value) c.new.ensures.number c.unmasked_rows-modules.ensures
+    let up = strip_is v c.new.result free c.write_unmasked.new.modules rows c.args.mask k
+    (c.new.ensures.strip v known.0 known.1 c.side-side.ensures.value) c.new.ensures.number c.write_unmasked.ensures
     c.requires.side in
-    let down = strip_is v c.new-in-loop-pair.result free c.unmasked_rows-modules.result rows c.args.mask (k + 1)
+    let down = strip_is v c.new-in-loop-pair.result free c.write_unmasked.new.modules rows c.args.mask (k + 1)
     (c.new-in-loop-pair.ensures.strip v known.0 known.1 c.side-side.ensures.value) c.new-in-loop-pair.ensures.number
-    c.unmasked_rows-modules.ensures c.requires.side in
+    c.write_unmasked.ensures c.requires.side in
     let more : k + 1 < (n - 1) / 2 = omega (arith, rw c.side-side.ensures.value at c.loop-pair-test.true) in
     let next = sym (next_walked read (bits_in c.loop-pair.bits) k ((n - 1) / 2) (omega (arith, more)))
     ∙ c.loop-pair.invariant in

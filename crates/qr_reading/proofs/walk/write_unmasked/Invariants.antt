@@ -1,6 +1,6 @@
 use Rattle.std.proofs.Common.{◌≡◌, ◌<◌, ℕ, length}
 use Rattle.qr_reading.specs.Private.Walking.{module_in, unmasked}
-use Rattle.qr_reading.proofs.walk.unmasked_rows.Given as goal
+use Rattle.qr_reading.proofs.walk.write_unmasked.Given as goal
 
 -- the rows so far are written
 abbrev pub invariant-loop-y : goal.invariant-loop-y
