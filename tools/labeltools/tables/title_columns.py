@@ -46,9 +46,10 @@ def title_columns(columns: Mapping[int, ColumnSample], keys: Sequence[Sequence[s
     rest = [one for at, one in texts.items() if at not in found and not one.says("descriptions")]
     is_some = rest and not is_plain_title(texts[found[0]])
     is_part = first[:1] == (1,) and any(one.says("titles") for one in rest)  # as a family of plants
-    if len(found) != 1 or is_some or is_part:
+    is_role = len(parts) > 1 and not all(texts[at].says("persons") for at in found)
+    if len(found) != 1 or is_some or is_part or is_role:
         may_be = [at for at, one in texts.items() if one.says("titles") or at in best]
-        return Places(may_be if len(best) > 1 or is_part else [*texts])
+        return Places(may_be if len(best) > 1 or is_part or is_role else [*texts])
     may_be = [at for at, one in texts.items() if one.says(*TITLES) or at in found]
     return Places(may_be, found[0], variants_of=groups.get(found[0]))
 
