@@ -3,9 +3,9 @@
 
 - Each block of code is closed, and its language is one that a script reads: text, one of those below, and sh, sh kit
   and console on the pages alone that run_recipes.py runs.
-- Code is quoted as it is: each block of a program's language in docs/LIBRARY.md and docs/PROOF-REFERENCE.md, and each
-  block of text that begins with a clause (`ensures`), is in a file crates/*.rt or lib/* that the page names before it,
-  line by line, but for the spaces in front. A block below a line `Not checked:` is left out.
+- Code is quoted as it is: each block of a program's language in docs/LIBRARY.md and docs/PROOF-RUN.md, and each block
+  of text that begins with a clause (`ensures`), is in a file crates/*.rt or lib/* that the page names before it, line
+  by line, but for the spaces in front. A block below a line `Not checked:` is left out.
 - Each link from one file of the repository to another leads to a file and a heading.
 - Each name between backticks in the pages of NAMING, such as `Filter::feed`, is of words that the code has.
 - Each crate has a page of at most 40 lines. Each line of a block of Rust in it, but for imports and comments, is a
@@ -43,12 +43,16 @@ COMMANDS = {"sh", "sh kit", "console"}
 LANGUAGES = {"text", *COMMANDS, *QUOTED}
 # What a command of a session is behind.
 PROMPT = "$ "
-REFERENCE = "docs/PROOF-REFERENCE.md"
-QUOTING = ("docs/LIBRARY.md", REFERENCE)
+# The pages of the proof: what a run promises, whether contracts are strong enough, and what is only tested.
+PROMISES = "docs/PROOF-RUN.md"
+STRENGTH = "docs/PROOF-STRENGTH.md"
+TESTED = "docs/PROOF-TESTS.md"
+QUOTING = ("docs/LIBRARY.md", PROMISES)
 # The pages that name the code, and the files that have its words.
 NAMING = (
     *(f"docs/{name}.md" for name in ("ARCHITECTURE", "DEFINITIONS", "LIBRARY", "SPECIFICATION")),
-    *("docs/PROOF.md", "docs/PROOF-READING.md", REFERENCE),
+    *(f"docs/PROOF{name}.md" for name in ("", "-READING", "-CRATES", "-DAMAGE", "-LIBRARY")),
+    *(PROMISES, STRENGTH, TESTED),
 )
 CODE = (
     *("crates/*/src/**/*.rt", "crates/*/specs/*.antt", "crates/*/proofs/**/*.antt"),
@@ -69,16 +73,16 @@ OF_COMMAND = "crates/labels/src/main.rt"
 NOT_CHECKED = "Not checked:"
 # What pages say, with the step whose line in scripts/counts.txt has the number, and how it is found there.
 IN_PAGES = (
-    (REFERENCE, r"read\s+all\s+([\d,]+)\s+labels\s+back", "compare_symbols.py", r"(\d+) read back"),
-    (REFERENCE, r"drew\s+the\s+same\s+([\d,]+)\s+symbols", "compare_symbols.py", r"(\d+) of \1 as zint"),
-    (REFERENCE, r"of\s+([\d,]+)\s+simulated\s+out-of-memory", "refuse_each_growth.py", r"^(\d+) growths"),
-    (REFERENCE, r"read\s+all\s+([\d,]+)\s+symbols\s+of\s+five", "read_foreign.py", r"(\d+) read as asked"),
-    (REFERENCE, r"operator\s+of\s+([\d,]+)\s+believed\s+definitions", "believed_rows.py", r"of (\d+) definitions"),
-    (REFERENCE, r"one\s+at\s+a\s+time:\s+([\d,]+)\s+changes", "believed_rows.py", r"^(\d+) changes"),
-    (REFERENCE, r"contract\s+rests\s+on,\s+([\d,]+)", "believed_rows.py", r"(\d+) of \d+ behind the program"),
-    (REFERENCE, r"([\d,]+)\s+definitions\s+that\s+the", "believed_rows.py", r"of (\d+) behind the program"),
-    (REFERENCE, r"library's\s+[\d,]+,\s+([\d,]+)", "believed_rows.py", r"(\d+) of \d+ behind the library"),
-    (REFERENCE, r"of\s+the\s+library's\s+([\d,]+),", "believed_rows.py", r"of (\d+) behind the library"),
+    (TESTED, r"read\s+all\s+([\d,]+)\s+labels\s+back", "compare_symbols.py", r"(\d+) read back"),
+    (TESTED, r"drew\s+the\s+same\s+([\d,]+)\s+symbols", "compare_symbols.py", r"(\d+) of \1 as zint"),
+    (TESTED, r"of\s+([\d,]+)\s+simulated\s+out-of-memory", "refuse_each_growth.py", r"^(\d+) growths"),
+    (TESTED, r"read\s+all\s+([\d,]+)\s+symbols\s+of\s+five", "read_foreign.py", r"(\d+) read as asked"),
+    (STRENGTH, r"operator\s+of\s+([\d,]+)\s+believed\s+definitions", "believed_rows.py", r"of (\d+) definitions"),
+    (STRENGTH, r"one\s+at\s+a\s+time:\s+([\d,]+)\s+changes", "believed_rows.py", r"^(\d+) changes"),
+    (STRENGTH, r"contract\s+rests\s+on,\s+([\d,]+)", "believed_rows.py", r"(\d+) of \d+ behind the program"),
+    (STRENGTH, r"([\d,]+)\s+definitions\s+that\s+the", "believed_rows.py", r"of (\d+) behind the program"),
+    (STRENGTH, r"library's\s+[\d,]+,\s+([\d,]+)", "believed_rows.py", r"(\d+) of \d+ behind the library"),
+    (STRENGTH, r"of\s+the\s+library's\s+([\d,]+),", "believed_rows.py", r"of (\d+) behind the library"),
 )
 MARKDOWN = MarkdownIt().enable("table")
 

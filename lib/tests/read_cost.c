@@ -131,6 +131,8 @@ int main(int count, char **words) {
         put_finder(side);
     if (strcmp(name, "qr-corners") == 0)
         put_corners(side);
+    if (strstr(name, "-spot") != NULL)
+        put_dark(bits, width - 1, height - 1);
     for (int turns = atoi(name + strcspn(name, "123")); turns > 0; turns--)
         turn();
     labels_dots dots = {width, height, {0}};

@@ -11,15 +11,13 @@ FLAGS = ("-std=c11", "-O2", "-g", "-Wall", "-Wextra", "-Werror", f"-I{LIB}", f"-
 PICTURES = "blank row column dot last corner dark rows columns squares noise below".split()
 # Of the smallest QR version and of the largest, in each direction.
 SYMBOLS = [f"{symbol}-{turns}" for symbol in ("ean8", "qr", "large") for turns in range(4)]
-# A QR symbol with a finder pattern more, and one whose fixed modules are right in all four directions.
-WRONG = ("qr-finders", "qr-corners")
+# A QR symbol with a finder pattern more, one whose fixed modules are right in all four directions, and symbols that
+# are right but for the last dot.
+WRONG = ("qr-finders", "qr-corners", "ean8-spot", "qr-spot", "large-spot")
 # The number of divisors of a side is that of the scales that it has room for.
 MANY_DIVISORS, PRIME = 360, 359
+# No picture that we found costs more than `qr-corners` at scale 1: it is read up to its codewords in each direction.
 MOST_FOR_A_DOT = 75
-# In a QR symbol whose modules are single dots each of them is a bit that is read.
-MOST_FOR_A_MODULE = 120
-# Of `qr-corners` at scale 1, which is read up to its codewords in each direction: no picture that we found costs more.
-MOST_FOR_CORNERS = 210
 NOT_READ = 17
 
 
@@ -47,13 +45,12 @@ class Cost(WithLibrary):
                 self.assertLess(cost, MOST_FOR_A_DOT)
 
     def test_symbols_in_each_direction(self) -> None:
-        for scale, most_of_others in ((1, MOST_FOR_A_MODULE), (2, MOST_FOR_A_DOT), (8, MOST_FOR_A_DOT)):
+        for scale in (1, 2, 8):
             for picture in (*SYMBOLS, *WRONG):
-                most = MOST_FOR_CORNERS if (picture, scale) == ("qr-corners", 1) else most_of_others
                 with self.subTest(picture, scale=scale):
                     code, cost = self.counted(picture, scale)
                     self.assertEqual(code, NOT_READ if picture in WRONG else 0)
-                    self.assertLess(cost, most)
+                    self.assertLess(cost, MOST_FOR_A_DOT)
 
     def test_divisors_of_the_side_cost_nothing(self) -> None:
         for picture in ("blank", "row", "column"):

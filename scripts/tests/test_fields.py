@@ -56,7 +56,7 @@ LAWS = {
     "IsAlone.2": "IsAlone-read",
 }
 
-# Of these the prover does not find by itself what is left without them (docs/PROOF-REFERENCE.md): `refutes:` names
+# Of these the prover does not find by itself what is left without them (docs/PROOF-STRENGTH.md): `refutes:` names
 # them in a body.
 BESIDE = {"Shows.images", "RunsOver.runs", "RunsOver.whole", *(f"Ends.{case}" for case in range(1, 10))}
 

@@ -54,7 +54,7 @@ MOVED: dict[str, tuple[dict[str, str], ...]] = {
     "run_tests.py scripts/tests": ({"scripts/tests": "there is no folder scripts/tests"},),
 }
 NOQA = f"# {'noqa'}"
-REFERENCE = "docs/PROOF-REFERENCE.md"
+PROMISES, CRATES, STRENGTH = (f"docs/PROOF-{name}.md" for name in ("RUN", "CRATES", "STRENGTH"))
 END, HANDLES = "\n## ", "Handles allowed: none."
 # How many changes of definitions are judged, as a step and a page have it.
 (JUDGED,) = re.findall(r"(\d+) changes of", read(os.path.join(TOP, "scripts/counts.txt")))
@@ -79,11 +79,11 @@ CHANGED = {
         ("designs/README.md", "](jar-38x21.svg", "](jar.svg", "a link to no file: jar.svg"),
         ("docs/INPUT.md", END, f"\n~~~rust\nfn a() {{}}\n~~~\n{END}", "no script reads blocks of ~~~"),
         ("docs/INPUT.md", END, f"\n```\nlabels\n```\n{END}", "no script reads blocks of no language"),
-        (REFERENCE, "ensures whole {", "ensures half {", "this code is in no file"),
-        (REFERENCE, "src/streams.rt", "src/stream.rt", "this code is in no file"),
+        (PROMISES, "ensures whole {", "ensures half {", "this code is in no file"),
+        (PROMISES, "src/streams.rt", "src/stream.rt", "this code is in no file"),
         ("docs/INPUT.md", "```console\n$ ", "```console\n", "this session does not begin with a prompt"),
-        (REFERENCE, "`Buffered::prove_reached`", "`Buffered::nought`", "no `Buffered::nought` in the code"),
-        (REFERENCE, "believed definitions", "definitions", f"{REFERENCE}: no operator"),
+        (CRATES, "`Buffered::prove_reached`", "`Buffered::nought`", "no `Buffered::nought` in the code"),
+        (STRENGTH, "believed definitions", "definitions", f"{STRENGTH}: no operator"),
         ("scripts/counts.txt", f"{JUDGED} changes", f"{JUDGED}0 changes", f"one at a time: {int(JUDGED):,}"),
         (
             "README.md",

@@ -241,6 +241,8 @@ class German(unittest.TestCase):
                     for one in re.findall('"(.+)"', others[text]):
                         self.assertEqual(fields_of(one), fields_of(text), text)
                         self.assertEqual(judged_of(one), judged_of(text), text)
+                if language == "fr":  # no line may break before these signs
+                    self.assertNotRegex("".join(others.values()), "(?<!fc-list) [:;?!]")
 
     def test_a_text_that_says_another_thing_is_seen(self) -> None:
         """By its fields, a number or an option; that it means the opposite nobody sees but a reader."""
@@ -342,7 +344,7 @@ class German(unittest.TestCase):
             for language, first, second, last in (
                 (
                     "de",
-                    "Zeile 2: 4006381333932: eine Ziffer ist falsch (zu diesen Ziffern gehört als letzte 1)",
+                    "Zeile 2: 4006381333932: eine Ziffer ist falsch (zu diesen Ziffern gehört als letzte die 1)",
                     'Zeile 3: Spalte 3 ("Preis") hat "1E3", was kein Preis ist',
                     "1 Etikett aus 1 Zeile: 1 EAN-13; Preis 2,50; 1 Preis ohne Währung; "
                     "2 Zeilen übersprungen",
@@ -351,7 +353,7 @@ class German(unittest.TestCase):
                     "fr",
                     "ligne 2 : 4006381333932 : un chiffre est faux (avec ces chiffres, le dernier serait 1)",
                     'ligne 3 : colonne 3 ("Preis") a "1E3", qui n\'est pas un prix',
-                    "1 étiquette de 1 ligne : 1 EAN-13; prix 2,50; 1 prix sans devise; "
+                    "1 étiquette pour 1 ligne : 1 EAN-13; prix 2,50; 1 prix sans devise; "
                     "2 lignes ignorées",
                 ),
                 (

@@ -46,7 +46,7 @@ Honig Linde;4006381333931;3,50 €;2,99 €;4
 title code - price copies
 Artikelnr;Omschrijving;EAN;Inkoopprijs;Adviesprijs
 A1;Drop zoet;4006381333931;1,00;1,95
-- title code ?price ?price
+- title code - price
 Autor;Titel;ISBN;Ladenpreis
 K. Lenz;Herbstlicht;978-3-16-148410-0;24,00 €
 - title code price
@@ -73,7 +73,7 @@ Zolltarifnr.;EAN;Art.-Nr.
 - code -
 Code article;Jeans;EAN;PU TTC
 V12 Denim;Bleu nuit;4006381333931;39,90
-- title code ?price
+- title code price
 Bestellnummer;Artikelnummer;Ware
 4500012345;M-10023;Kugellager
 ?code ?code title
@@ -97,7 +97,7 @@ GTIN alt;GTIN neu;Artikel;Preis
 ?code ?code title price
 EAN Karton;EAN Stück;Artikel;EK;UVP
 4006381333931;4012345678901;Honig Linde;3,10;5,49
-?code ?code title - price
+- code title - price
 EAN;Seriennummer;Modell
 4006381333931;SN-20144;Kamera Reflex
 code - title
@@ -106,10 +106,10 @@ M-10023;SK-77120;Kugellager
 ?code ?code title
 N° billet;Place
 FR26-0099123;B14
-?code -
+code -
 Etikett;Eingang;Spender;Ort
 C00812;03.11.2026;Anna;Ulm
-?code - ?title ?title
+code - ?title ?title
 ID;SKU;GTIN, UPC, EAN, or ISBN;Name;Short description;Date sale price ends;Sale price;Regular price;Categories
 7;T-1;4006381333931;Shirt, blue;Soft and warm;;;19.95;Clothes
 - - code title - - - price -
@@ -160,7 +160,7 @@ Art.-Nr.;Artikel-Bezeichnung;EAN-Code;Verkaufs-Preis;Herstellkosten
 - title code price -
 ISBN13;Title;List Price;Our Price
 978-3-16-148410-0;Herbstlicht;24.00;19.95
-code title ?price ?price
+code title - price
 barcode;itemcallnumber;title;author;isbn
 39087001234567;QA-76;Herbstlicht;K. Lenz;978-3-16-148410-0
 code - title - -
@@ -169,7 +169,7 @@ ArtNr;KurzBez;Bez;EANNr;Vk0Brutto;Vk0Netto
 - - title code price -
 Copy Barcode;Title;ISBN;Price
 39087001234567;Herbstlicht;978-3-16-148410-0;24.00
-code title - ?price
+code title - -
 Order ID;Ticket code;Barcode URL;Name;First name;Event name
 ORD-20041;VK7Q1XH2A;https://t.example/1;Anna Adler;Anna;Autumn concert
 - code - title - -
@@ -229,7 +229,9 @@ class Guesses(unittest.TestCase):
         found = guessed(f"{names};Verkaufspreis\n{row};4,95 €\n")
         self.assertEqual(found.columns["price"], 3)
         found = guessed(f"{names};Apothekenpreis\n{row};4,95 €\n")  # a word that is not known
-        self.assertEqual(found.doubts, {"price": [2, 3]})
+        self.assertEqual(found.columns["price"], 3)
+        found = guessed(f"{names};Apothekenpreis;Kassapreis\n{row};4,95 €;5,95 €\n")
+        self.assertEqual(found.doubts, {"price": [3, 4]})
 
     def test_the_row_of_the_names(self) -> None:
         names, row = TABLES[:2]
@@ -238,6 +240,9 @@ class Guesses(unittest.TestCase):
             ("Preisliste;;;\n;;;\n", 3),
             ("Stand;Mai;;\n", 2),
             ("Liste;Stand:;01.11.2026;\n", 2),
+            ("fa;fb;fc;fd\n", 2),  # names that a program has for itself
+            ("Pflicht;Pflicht;Pflicht;Pflicht\n", 2),
+            (";".join(f"The {one} of the article, as in the shop" for one in "wxyz") + "\n", 2),
             ("Preisliste, Stand Mai\n", 2),  # one that has no delimiter, or another one
             ("Preisliste\nMai\n\nStand 1\n", 5),
         ):
@@ -300,7 +305,6 @@ class Guesses(unittest.TestCase):
             ("Nr", "400638133390 400638133391 400638133392", ["--without-check-digit", none]),
             ("EAN", "72651101016 72651101023", ["--fill-zeros", none]),
             ("EAN", "4006381 4006382 4006383", ["--without-check-digit", none]),
-            ("Barcode", "100201 100202 100203", [none]),
         ):
             with tempfile.TemporaryDirectory() as folder:
                 path = Path(folder, "table.csv")
@@ -315,6 +319,17 @@ class Guesses(unittest.TestCase):
                     self.assertNotIn(b"most codes", done.stderr)
                 done = support.run_here("label-table", *shlex.split(ways[0]), path)
                 self.assertIn(f"--code {name} {ways[0]} {path}", support.messages(done)[-1])
+
+    def test_codes_that_can_be_no_ean_are_not_asked_about(self) -> None:
+        """Of a length that none has, or numbers that a country gives to medicines."""
+        for name, codes in (
+            ("Barcode", "100201 100202 100203"),
+            ("Barcode", "0117320881 0117320882 0117320883"),
+            ("PZN", "01342116 04829126 07110246"),
+        ):
+            said, done = self.proposed_and_run("\n".join([name, *codes.split(), ""]))
+            self.assertNotIn("most codes", said)
+            self.assertEqual(done.stdout.count(b"code128 "), 3, name)
 
     def test_zeros_that_were_lost_are_proposed(self) -> None:
         """By their check digits, of three numbers at least, whether others have all digits."""
@@ -378,19 +393,23 @@ class Guesses(unittest.TestCase):
         for other in ("cap;;;;9.95;96385074", "shirt;Shirt;;;9.95;96385074"):
             said, _ = self.proposed_and_run("\n".join([names, *rows[:3], other, ""]))
             self.assertNotIn("--variants-of", said)  # the rows do not say it
+        units = [f"{'Jar' if row[0] == 'c' else 'Box'};{row.partition(';')[2]}" for row in rows]
+        said, _ = self.proposed_and_run("\n".join([names.replace("Handle", "Unit"), *units, ""]))
+        self.assertNotIn("--variants-of", said)  # these are no names of articles
 
     def test_a_first_and_a_last_name_are_one_title(self) -> None:
         """The one of a guest, not that of the buyer; what has the first name in it is the whole."""
         rows = ["T-1001;Adler;Anna;Becker;Ben;8.00", "T-1002;Becker;Ben;Becker;Ben;8.00", ""]
         names = "Ticket code;Last name;First name;Buyer last name;Buyer first name;Price"
         said, done = self.proposed_and_run("\n".join([names, *rows]))
-        self.assertIn("--price may be Price", said)  # whether a ticket has it nobody else knows
+        self.assertIn("as a ticket or a copy: give --price if there is one: Price\n", said)
         self.assertIn("--code 'Ticket code' --title 'Last name' --title 'First name' --sym", said)
         self.assertIn(b'"title":"Adler\\nAnna"', done.stdout)
         for names, row, wanted, second in (
             ("Ticket code;Nom;Prénom", "T-1001;Adler;Anna", {"code": 0, "title": 1}, 2),
             ("Ticket code;Nom;Prénom", "T-1001;Anna Adler;Anna", {"code": 0, "title": 1}, None),
             ("Ticket code;Vorname;Nachname;Buch", "T-1001;Anna;Adler;Herbst", {"code": 0}, None),
+            ("Barcode;FamilyName;CalcName", "T-1001;Rosaceae;Rosa canina", {"code": 0}, None),
         ):
             found = guessed(f"{names}\n{row}\n")
             self.assertEqual((found.columns, found.beside.get("title")), (wanted, second), row)
@@ -415,6 +434,10 @@ class Guesses(unittest.TestCase):
             ("Штрихкод;Наименование;Цена", "Мыло", "cp1251", "cp1251"),
             ("Barcode;Περιγραφή;Τιμή", "Τσάι", "cp1253", "cp1253"),
             (english, "Füller, weiß", "cp1252", "cp1252"),
+            ("JANコード;商品名;販売価格", "緑茶", "cp932", "cp932"),
+            ("条码;商品名称;零售价", "绿茶", "gb18030", "gb18030"),
+            ("條碼;商品名稱;售價", "綠茶", "big5", "big5"),
+            ("바코드;상품명;판매가", "녹차", "cp949", "cp949"),
             (english, "Łosoś, żółty, mąka", "cp1250", "cp1250"),
             (english, "Crème", "cp1252", ""),  # or Crčme
             (english, "Kőr", "cp1250", ""),  # or Kõr
@@ -439,22 +462,25 @@ class Guesses(unittest.TestCase):
                 self.assertEqual((done.returncode, done.stdout), (1, b""), title)
                 self.assertIn(b" is not UTF-8, as line ", done.stderr)
 
-    def test_a_price_that_may_be_none_is_asked_about(self) -> None:
-        """Tickets, copies of books and things of an inventory have a price, and may be lent."""
+    def test_single_things_get_no_price(self) -> None:
+        """Tickets, copies of books and things of an inventory; what is sold gets its price."""
         for names, row in (
             ("Asset Tag ID;Description;Price", "AT-1001;Chair, red;9.00"),
             ("Ticket code;First name;Last name;Price", "T-1001;Anna;Adler;9.00"),
             ("Barcode;ISBN;Title;Price", "AB-1001;978-3-16-148410-0;Herbstlicht;9.00"),
         ):
             found = guessed(f"{names}\n{row}\n")
-            self.assertEqual(found.doubts["price"], [names.count(";")], names)
+            self.assertEqual(found.others["price"], [names.count(";")], names)
             self.assertNotIn("price", found.columns)
+            self.assertNotIn("price", found.doubts)
         found = guessed("PLU;Article;Price\n4100;Pears;9.00\n")  # which a shop sells
         self.assertEqual(found.columns.get("price"), 2)
 
-        for more, is_asked in (("Custodian", True), ("Emprunteur", True), ("Colour", False)):
+        for more, is_single in (("Custodian", True), ("Emprunteur", True), ("Colour", False)):
             found = guessed(f"SKU;Name;Price;{more}\nAB-1001;Chair, red;9.00;Anna\n")
-            self.assertEqual("price" in found.doubts, is_asked, more)
+            self.assertEqual("price" not in found.columns, is_single, more)
+        found = guessed("SKU;Name;Selling price;Asset\nAB-1001;Chair, red;9.00;1400\n")
+        self.assertEqual(found.columns.get("price"), 2)
 
     def test_codes_of_tickets_are_their_own_numbers(self) -> None:
         """Twelve digits without the right check digit, beside a first and a last name."""
@@ -498,6 +524,10 @@ class Guesses(unittest.TestCase):
         self.assertEqual(guess(carton, 1).doubts, {"code": [1, 0]})
         plain = [["Item no", *NUMBERS[1]], ["EAN", *CODES], ["Carton EAN", *CODES[::-1]]]
         self.assertEqual(guess(plain, 1).columns, {"code": 1})
+        both = [["Inventory number", *NUMBERS[1]], ["EAN", *CODES]]  # which a shop may have, too
+        self.assertEqual(guess(both, 1).columns, {"code": 1})
+        both = [["Ticket number", *NUMBERS[1]], ["Barcode", *NUMBERS[0]]]
+        self.assertEqual(guess(both, 1).columns, {"code": 1})
         few = [["Item no", *NUMBERS[1]], ["EAN", CODES[0], "", ""]]
         self.assertEqual(guess(few, 1).doubts, {"code": [1, 0]})
         old = [["Book no", *NUMBERS[1]], ["ISBN", CODES[0], "", ""]]
@@ -510,7 +540,11 @@ class Guesses(unittest.TestCase):
         self.assertEqual(guess(shop, 1).doubts, {"code": [1]})
         library = [["Accession no", "1201", "1202", "1203"], ["Barcode", *NUMBERS[0]]]
         self.assertEqual(guess([*library, ["ISBN", *CODES]], 1).columns, {"code": 1})
-        books = [["ISBN", *CODES], ["ISBN-10", "180615904X", "0062890964", "0301198063"]]
+        for isbn, wanted in (([CODES[1], CODES[1], CODES[0]], 0), ([*CODES[:2], ""], None)):
+            found = guess([["Book no", *NUMBERS[1]], ["ISBN", *isbn]], 1)  # of copies, of old books
+            self.assertEqual(found.columns.get("code"), wanted)
+        tens = ("180615904X", "0062890964", '="0301198063"')
+        books = [["ISBN", *(f'="{code}"' for code in CODES)], ["ISBN-10", *tens]]
         self.assertEqual(guess(books, 1).columns, {"code": 0})
         urls = [
             ["code", "1201", "1202", "1203"],
@@ -535,6 +569,7 @@ class Guesses(unittest.TestCase):
             ("EAN;Preis;x", '"0,8 €";y', "--price-as '0,00 ¤'", "0,80 €"),
             ("EAN;Price;x", "0.8;y", "", "0.8"),
             ("EAN;Price (EUR);x", "0.80;y", "", "0.80"),
+            ("EAN;Price;x", "3.44850000;y", "--price-as 0.00", "3.45"),  # which is too long
         ):
             said, done = self.proposed_and_run(f"{names}\n4006381333931;{price}\n")
             self.assertIn(proposed, said)
@@ -649,7 +684,7 @@ PRICES = (
     ("Pflanze;EAN;Gärtnerpreis;Abgabepreis", 0),
     ("Titre;EAN;Prix éditeur;Prix occasion", 0),
     ("Libellé;EAN13;PVC TTC;Prix remisé", 0),
-    ("Name;EAN;Our price;Staff price", 0),
+    ("Name;EAN;Our price;Staff price", 3),
     ("Name;EAN;Purchase price;Price", 4),
     ("Name;EAN;purchaseprice;price", 4),
     ("Name;EAN;Lieferantenpreis;VK", 4),
@@ -696,7 +731,7 @@ class Codes(unittest.TestCase):
             both = [[name, *numbers] for name, numbers in zip(names.split(";"), NUMBERS)]
             found = guess([["Title", "Tea", "Book", "Gum"], *both], 1)
             self.assertEqual((found.doubts, "code" in found.columns), ({"code": [1, 2]}, False))
-        for name, is_asked in (("Artikelnummer", False), ("SKU", False), ("Kennung", True)):
+        for name, is_asked in (("Artikelnummer", False), ("Kennung", False), ("Telefon", True)):
             found = guess([["Title", "Tea", "Book", "Gum"], [name, *NUMBERS[0]]], 1)
             self.assertEqual("code" in found.doubts, is_asked, name)
 
@@ -736,7 +771,9 @@ class Codes(unittest.TestCase):
             ("Name;Description", [1]),
             ("Kurzbeschreibung;Titel", [2]),
             ("Item;Description", []),
-            ("Bezeichnung 1;Bezeichnung 2", []),
+            ("Bezeichnung 1;Bezeichnung 2", [1]),
+            ("Name DE;Name EN", []),
+            ("Name;Name EN", [1]),
             ("Aufdruck;Merkmal", []),
         ):
             columns = [[name, *texts] for name in names.split(";")]
@@ -744,6 +781,11 @@ class Codes(unittest.TestCase):
             said = [found.columns["title"]] if "title" in found.columns else []
             self.assertEqual(said, wanted, names)
             self.assertEqual(found.doubts.get("title", [1, 2]), [1, 2], names)
+
+    def test_a_title_that_few_rows_have_is_asked_about_beside_another_one(self) -> None:
+        few, all_of_them = ["Name", "Tea", "", ""], ["Web name", "Tea 1", "Tea 2", "Tea 3"]
+        found = guess([["EAN", *CODES], few, all_of_them], 1)
+        self.assertEqual(found.doubts, {"title": [1, 2]})
 
     def test_names_that_are_there_again_are_no_articles(self) -> None:
         found = guessed("PLU;Artikel\n101;Gurke\nPLU;Artikel\n102;Tomate\nPLU;Artikel\n")
@@ -800,6 +842,26 @@ class Prices(unittest.TestCase):
             found = guess([codes, ["Netto", *LOW, "1,00"], ["Preis", *cells]], 1)
             self.assertEqual(found.doubts, {"price": [1, 2]}, cells)
 
+    def test_of_prices_that_are_the_same_the_plainest_is_meant(self) -> None:
+        codes, cost, sale = ["EAN", *CODES], ["Cost", *LOW], ["Sale price", *HIGH]
+        found = guess([codes, cost, sale, ["Takeaway price", *HIGH]], 1)
+        self.assertEqual(found.columns.get("price"), 2)
+        found = guess([codes, cost, sale, ["Takeaway price", *LOW]], 1)
+        self.assertEqual(found.doubts, {"price": [2, 3]})
+
+    def test_a_price_beside_own_codes_is_asked_about(self) -> None:
+        """For such things may be kept, and not sold; numbers of articles are those of a shop."""
+        different, alike = ("Drill", "Ladder", "Saw"), ("Drill", "Drill", "Drill")
+        for code, titles, price, is_sure in (
+            ("Barcode", different, "Price", False),
+            ("Barcode", different, "Selling price", True),
+            ("SKU", different, "Price", True),
+            ("SKU", alike, "Price", False),
+        ):
+            found = guess([[code, *NUMBERS[1]], ["Name", *titles], [price, *HIGH]], 1)
+            self.assertEqual("price" in found.columns, is_sure, (code, titles, price))
+            self.assertEqual("price" in found.doubts, not is_sure)
+
     def test_prices_in_several_currencies_are_asked_about(self) -> None:
         """Though only one of them is plain: a book is sold in three countries."""
         prices = [["Preis EUR (D)", *HIGH], ["Preis EUR (A)", *HIGH], ["Preis CHF", *HIGH]]
@@ -813,17 +875,16 @@ class Prices(unittest.TestCase):
         codes, name = ["EAN", *CODES], ["Name", "Tea", "Book", "Gum"]
         for names, first, second, wanted in (
             ("Retail price;Unit price", ["0.00"] * 3, HIGH, {"price": [3]}),
-            ("Brutto;Our price", ["0,25", "0,35", "1,05"], HIGH, {"price": [2, 3]}),
+            ("Brutto;Web price", ["0,25", "0,35", "1,05"], HIGH, {"price": [2, 3]}),
             ("Price;Cost price", [""] * 3, [""] * 3, {}),
-            ("Price;Deal", LOW, ["1,43", "10,00", "2,44"], {"price": [2, 3]}),
         ):
             one, other = names.split(";")
             found = guess([codes, name, [one, *first], [other, *second]], 1)
             self.assertNotIn("price", found.columns, names)
             self.assertEqual(found.doubts, wanted, names)
-        for regular, is_sure in (("Ordinary price", True), ("Shop price", False)):
-            found = guess([codes, name, ["Price", *LOW], [regular, "2,40", "", ""]], 1)
-            self.assertEqual(found.columns.get("price"), 2 if is_sure else None, regular)
+        for few in ("Ordinary price", "Shop price"):  # which are named beside it
+            found = guess([codes, name, ["Price", *LOW], [few, "2,40", "", ""]], 1)
+            self.assertEqual(found.columns.get("price"), 2, few)
         found = guess([codes, name, ["Preço", *LOW], ["PVP", *HIGH]], 1)  # which has the tax
         self.assertEqual(found.columns.get("price"), 3)
 
@@ -836,7 +897,7 @@ class Prices(unittest.TestCase):
             self.assertEqual(other.doubts, {"price": [1, 2]}, advised)
 
     def test_an_advised_price_yields_to_what_the_shop_sells_for(self) -> None:
-        """But not if that is far below, as what other shops pay is."""
+        """But not if that is far below or of odd cents, as what other shops pay is."""
         for sold, advised in (
             ("VK", "UVP"),
             ("Prix de vente", "Prix conseillé"),
@@ -846,29 +907,28 @@ class Prices(unittest.TestCase):
         ):
             found = guess([["EAN", *CODES], [sold, *LOW], [advised, "1,49", "9,90", "2,50"]], 1)
             self.assertEqual(found.columns.get("price"), 1, sold)
-            found = guess([["EAN", *CODES], [sold, *LOW], [advised, "2,90", "19,90", "4,50"]], 1)
-            self.assertEqual(found.doubts, {"price": [1, 2]}, sold)
+            for other, dear in ((LOW, ("2,90", "19,90", "4,50")), (("1,23", "8,41", "2,06"), HIGH)):
+                found = guess([["EAN", *CODES], [sold, *other], [advised, *dear]], 1)
+                self.assertEqual(found.doubts, {"price": [1, 2]}, sold)
 
-    def test_amounts_say_which_price_has_the_tax(self) -> None:
-        """By up to three taxes in a table; and nothing is said by a few rows, or an old price."""
-        codes, taxes = ["EAN", *(f"{CODES[0]}{n}" for n in range(6))], (19, 19, 19, 7, 7, 7)
-        bare = ["10.00", "20.00", "5.00", "30.00", "8.00", "12.00"]
-        whole = [f"{float(one) * (100 + tax) / 100:.2f}" for one, tax in zip(bare, taxes)]
+    def test_a_sum_is_the_price_if_its_amounts_are_those_with_a_tax(self) -> None:
+        """Else it is a sum of several, and where no name says it the keeper knows it."""
+        codes = ["EAN", *CODES, "96385074"]
+        bare, whole = ["10.00", "20.00", "5.00", "8.00"], ["11.90", "23.80", "5.35", "8.00"]
         for names, wanted in (
             ("Precio base;Precio total", 2),
             ("Prix;Prix total", 2),
             ("Cena;Cena razem", 2),
-            ("Price;Retail price", 2),
-            ("Price;Regular price", None),
-            ("Price;Sale price", None),
             ("Price;Total value", 1),
+            ("Price;Retail price", None),
+            ("Price;Sale price", None),
         ):
             one, other = names.split(";")
             found = guess([codes, [one, *bare], [other, *whole]], 1)
             self.assertEqual(found.columns.get("price"), wanted, names)
-        found = guess([codes[:3], ["Price", *bare[:2]], ["Retail price", *whole[:2]]], 1)
-        self.assertEqual(found.doubts, {"price": [1, 2]})
-        whole = ["189", "259", "199", "189", "349", "59"]  # without decimals
+        of_stock = ["Total price", "10.00", "240.00", "5.00", "16.00"]
+        self.assertEqual(guess([codes, ["Price", *bare], of_stock], 1).columns.get("price"), 1)
+        whole = ["189", "259", "199", "349"]  # without decimals
         found = guess([codes, ["Prodejní", *bare], ["Prodejní s DPH", *whole]], 1)
         self.assertEqual(found.columns.get("price"), 2)
 
@@ -885,13 +945,17 @@ class Prices(unittest.TestCase):
             found = guess([codes, price, [name, "1", "2", "3"]], 1)
             self.assertEqual("price" in found.columns, is_sure, name)
 
-    def test_a_sale_of_one_article_is_asked_about(self) -> None:
-        """Programs write nothing, or zero, where there is none."""
+    def test_a_sale_of_most_articles_is_asked_about(self) -> None:
+        """Programs write nothing, or zero, where there is none. What few rows have is named."""
         codes, price = ["EAN", *CODES], ["Price", *HIGH]
         for sales, is_sure in (("", True), ("0.00", True), ("9.99", False)):
-            found = guess([codes, price, ["Sale price", "0.00", sales, ""]], 1)
+            found = guess([codes, price, ["Sale price", "0.99", sales, ""]], 1)
             self.assertEqual("price" in found.columns, is_sure, sales)
             self.assertEqual(found.doubts.get("price", [1, 2]), [1, 2])
+        none = ["Price", "", "", ""]
+        self.assertEqual(guess([codes, none, ["Sale price", *HIGH]], 1).columns, {"code": 0})
+        found = guess([codes, ["Cost", *LOW], ["Sale price", *HIGH]], 1)  # what the shop sells for
+        self.assertEqual(found.columns.get("price"), 2)
 
     def test_a_column_that_is_named_as_prices_has_prices(self) -> None:
         for name in ("Tarif", "Preis", "Price"):

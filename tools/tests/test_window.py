@@ -437,7 +437,7 @@ PRESSED: tuple[tuple[str | bytes, dict[str, Any], str, str], ...] = (
     (xlsx(DAYS, formats=[14]), {"title": "2"}, "As 31.12.2026", "--date-as dd.mm.yyyy"),
     (
         xlsx(rows(NAMED, [LINK, "Gum", "1,00"], ["B7", "Tea", "2,00"])),
-        {"symbology": "qr"},
+        {"symbology": "qr", "price": "3"},
         "Draw the address",
         "--symbology qr --links",
     ),
@@ -555,6 +555,7 @@ class Remedies(Keeper):
                 self.until(lambda: self.window.has_labels)
                 self.assertEqual(self.window.choices()["for-print"], words)
                 self.assertIn("sent to", self.confirmed())
+                self.until(lambda: not self.window.ways.waiting)  # the next one is not told of it
                 paper = ("--paper", f"60x{size}", "--dpi", "300")
                 edge = words.replace("--paper-as-given", "").split()  # a file has no paper
                 self.assertEqual(self.saved("a.pdf"), self.by_commands(*paper, *edge))
@@ -638,7 +639,7 @@ class WindowTest(Keeper):
             tray, (active, has_media), put = found
             self.assertEqual(tray, ["as the printer is set", "Auto", "Manual"])
             self.assertEqual((active, has_media), (before, False))
-            self.assertIn("Put 1 sheet Avery L7160 into the tray.", put)
+            self.assertIn("Put 1 sheet of Avery L7160 into the tray.", put)
             job = self.window.events.event.about
             with sending_cups.refusals("trays") as cups:
                 self.assertEqual(cups.getJobAttributes(job.number)["InputSlot"], "Manual")
@@ -1246,16 +1247,29 @@ class WindowTest(Keeper):
         code = "import test_window; test_window.load(); one = test_window.window.Window(); "
         code += "test_window.work.Work.stop(one.work); one.on_stop(None); "
         code += "(name,) = one.price_as.list_mnemonic_labels(); "
-        code += "print(one.print_button.get_label(), name.get_text(), one.bar_text.get_text())"
-        for language, texts in (
-            ("en", "_Print… Prices as Stopped: nothing was printed"),
-            ("de", "_Drucken … Preise als Abgebrochen: es wurde nichts gedruckt"),
-            ("fr", "_Imprimer… Format des prix Arrêté : rien n'a été imprimé"),
+        code += "print(one.print_button.get_label(), name.get_text(), one.bar_text.get_text()); "
+        code += "one.stock.set_text('L7169'); print(one.sheets[0][1])"
+        for language, texts, sheet in (
+            (
+                "en",
+                "_Print… Prices as Stopped: nothing was printed",
+                "Avery L7169: 4 labels of 99.1 by 139 mm on 210 by 297 mm",
+            ),
+            (
+                "de",
+                "_Drucken … Preise als Abgebrochen: es wurde nichts gedruckt",
+                "Avery L7169: 4 Etiketten von 99,1 mal 139 mm auf 210 mal 297 mm",
+            ),
+            (
+                "fr",
+                "_Imprimer… Format des prix Arrêté : rien n'a été imprimé",
+                "Avery L7169 : 4 étiquettes de 99,1 sur 139 mm, page de 210 sur 297 mm",
+            ),
         ):
             environment = support.speaking(language, self.folder / "locale")
             how: Any = {"cwd": support.TESTS, "env": environment, "capture_output": True}
             ran = subprocess.run([sys.executable, "-c", code], text=True, check=True, **how)
-            self.assertEqual(ran.stdout.replace("\u00a0", " "), f"{texts}\n")
+            self.assertEqual(ran.stdout.replace("\u00a0", " "), f"{texts}\n{sheet}\n")
 
     def test_a_driverless_printer(self) -> None:
         scheduler.add_driverless("home")
@@ -1447,6 +1461,18 @@ class WindowTest(Keeper):
         self.remade(lambda: self.pressed(first))
         self.assertTrue(self.window.print_button.is_sensitive())
 
+    def test_a_question_is_scrolled_to(self) -> None:
+        self.open()
+        self.window.more_of_table.set_expanded(True)
+        self.window.resize(800, 500)
+        settle(0.3)
+        self.window.questions.ask("printer", "What?", [("Labels", bool), ("Receipts", bool)])
+        settle(0.3)
+        scroll = self.window.panel.get_ancestor(Gtk.ScrolledWindow).get_vadjustment()
+        area = self.window.ask_printer.get_allocation()
+        self.assertGreater(area.y + area.height, scroll.get_page_size())
+        self.assertLessEqual(area.y + area.height, scroll.get_value() + scroll.get_page_size())
+
     def tab(self) -> Any:
         """The names of the controls of the panel that the Tab key reaches, in order."""
         found: list[Any] = []
@@ -1498,6 +1524,29 @@ class WindowTest(Keeper):
             height, width = map(int, ran.stdout.split())
             self.assertLessEqual(height, 554, language)
             self.assertLessEqual(width, 420, language)
+
+    def test_large_text_fits_a_low_screen(self) -> None:
+        """In each language, on a roll, with the list of what is skipped and buttons that help;
+        lists of choices are as wide as their texts.
+        """
+        self.table.write_text(TABLE + "A-17;A-17;No number;2,00 €;1;1\n5;96385074;Gum;soon;1;1\n")
+        code = "import sys; from pathlib import Path; import test_window as t; t.load(); "
+        code += "t.gtk.add_style(); settings = t.Gtk.Settings.get_default(); "
+        code += "settings.set_property('gtk-xft-dpi', 144 * 1024); "
+        code += "one = t.window.Window(); one.present(); one.roll.set_active(True); "
+        code += "one.open(Path(sys.argv[1])); t.settle(3); assert one.has_labels; "
+        code += "one.fold.set_active(True); t.settle(0.3); print(one.get_preferred_width()[0], "
+        code += "one.get_preferred_height()[0], len(one.helps.get_children()), "
+        code += "*(list.get_popup_accessible().get_widget().get_size_request()[0] "
+        code += "for list in (one.printer, one.title)))"
+        for language in ("en", "de", "fr"):
+            environment = support.speaking(language, self.folder / "locale")
+            how: Any = {"cwd": support.TESTS, "env": environment, "capture_output": True}
+            words = [sys.executable, "-c", code, str(self.table)]
+            ran = subprocess.run(words, text=True, check=True, **how)
+            width, height, buttons, *lists = map(int, ran.stdout.split())
+            self.assertEqual((width <= 1024, height <= 600, buttons), (True, True, 3), language)
+            self.assertGreater(min(lists), 200, language)
 
     def test_rows_are_chosen_in_a_list(self) -> None:
         """By marks, all that are looked for at once, or those that were not printed yet."""

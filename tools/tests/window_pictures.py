@@ -23,6 +23,7 @@ import cairo
 
 import support
 from printers import Printer as TestPrinter
+from workbooks import rows, xlsx
 
 NAMES = ("Pencil, red", "Pencil, blue", "Soap", "Gum", "Atlas of the sea", "Tea 100 g", "Candle")
 SHOP = "EAN;Name;Price;Labels\n"
@@ -34,6 +35,7 @@ A-17;No number;2,00 €;1
 ;Nothing;1,00 €;1
 """
 TWO_PRICES = "EAN;Name;Preis A;Preis B\n"
+GOODS = rows(["EAN", "Name", "Price"], ["96385074", "Gum", "1,00"])
 NUMBERED = (  # the widgets at the steps of the page, and where beside them the number is
     ("recent_button", 1.6, 0.5),
     ("ask_code", 0.0, 0.0),
@@ -41,12 +43,11 @@ NUMBERED = (  # the widgets at the steps of the page, and where beside them the 
     ("printer", 1.0, 0.5),
     ("stock", 1.0, 0.5),
     ("paper", 0.08, -0.04),
-    ("fold", 0.93, -0.3),
+    ("fold", 0.8, 0.35),
     ("print_button", 0.5, 1.1),
 )
 RED = (0.78, 0.1, 0.1)
 RADIUS = 13  # pixels
-HEAD = 46  # pixels of the bar with the title, which GTK adds to the height
 MOST = 60.0  # seconds of a wait
 
 
@@ -75,12 +76,12 @@ class Camera:
         if is_large:
             gtk.Gtk.Settings.get_default().set_property("gtk-xft-dpi", 144 * 1024)
         self.window: Any = window.Window()
-        self.window.set_default_size(size[0], size[1] - HEAD)
-        self.window.set_size_request(-1, -1)
         self.window.present()
         self.settle(0.5)
-        self.window.resize(size[0], size[1] - HEAD)
+        head = self.window.head.get_allocated_height()  # GTK adds it to the height
+        self.window.resize(size[0], size[1] - head)
         self.window.move(0, 0)
+        self.window.get_window().focus(0)  # else no list is shown beside what is typed
         screen = gtk.Gdk.Screen.get_default()
         pointer = gtk.Gdk.Display.get_default().get_default_seat().get_pointer()
         pointer.warp(screen, size[0] - 1, size[1] - 1)
@@ -146,6 +147,17 @@ class Camera:
         button.set_active(True)
         self.shot(name)
         button.set_active(False)
+
+    def type(self, text: str) -> None:
+        """Types a text where the focus is: GTK shows no list beside one that is set."""
+        gdk = self.gtk.Gdk
+        for letter in text:
+            event = gdk.Event.new(gdk.EventType.KEY_PRESS)
+            event.window = self.window.get_window()
+            event.keyval = gdk.unicode_to_keyval(ord(letter))
+            event.set_device(gdk.Display.get_default().get_default_seat().get_keyboard())
+            self.gtk.Gtk.main_do_event(event)
+        self.settle(1)
 
     def numbered(self, name: str) -> None:
         """Writes a picture with the numbers of the steps of the page."""
@@ -219,6 +231,10 @@ def show_tables(camera: Camera) -> None:
     window.more_of_paper.set_expanded(True)
     camera.shot("more")
     window.more_of_table.set_expanded(False)
+    scroll = window.panel.get_ancestor(camera.gtk.Gtk.ScrolledWindow).get_vadjustment()
+    camera.settle(0.3)
+    scroll.set_value(scroll.get_upper())
+    camera.shot("more-below")
     window.more_of_paper.set_expanded(False)
     show_questions(camera)
 
@@ -230,6 +246,8 @@ def show_questions(camera: Camera) -> None:
     camera.shot("doubt")
     camera.open("EAN;Name\n96385074;Füller, blau\n".encode("cp1252"))
     camera.shot("file")
+    camera.open(xlsx(GOODS, ("Tea", "visible", GOODS)), "Price list.xlsx")
+    camera.shot("asking")
     camera.open(shop_table() + WRONG)
     window.fold.set_active(True)
     camera.shot("many-errors")
@@ -251,6 +269,10 @@ def show_printers(camera: Camera) -> None:
     window.printer.popup()
     camera.shot("printers")
     window.printer.popdown()
+    window.of_printers.choose("/dev/usb/lp0")
+    camera.shot("language")
+    window.of_printers.choose("laser")
+    camera.until(lambda: window.has_labels)
     options = {
         TRAY: {"1": "Tray 1", "Manual": "Manual feed"},
         MEDIA: {"Plain": "Plain paper", "Labels": "Labels"},
@@ -263,9 +285,8 @@ def show_printers(camera: Camera) -> None:
     camera.while_asked("rows", lambda: rows.choose(labels, "2-4, 9"))
     camera.while_asked("naming", window.presets.ask)
     window.stock.grab_focus()
-    window.stock.set_text("Avery L71")
-    window.completion.complete()
-    camera.settle(2)
+    window.stock.set_text("")
+    camera.type("Avery L71")
     camera.shot("sheets")
     window.stock.set_text("Avery L7160")
     window.print_button.grab_focus()

@@ -1,5 +1,6 @@
 -- What a symbol is read as, by its side, the first modules of row 8, its patterns and the walk.
-use Rattle.std.proofs.Common.{◌≡◌, ℕ, ◌-◌, ◌*◌, ◌/◌, ◌<◌, ◌≤◌, refl, sym, ap, subst, ◌∙◌, arith, Bool, true, false}
+use mathlib.Core.Path.{fun_ext}
+use Rattle.std.proofs.Common.{◌≡◌, ℕ, ◌+◌, ◌-◌, ◌/◌, ◌<◌, ◌≤◌, refl, sym, ap, subst, ◌∙◌, arith, Bool, true, false}
 use Rattle.std.proofs.Common.{List, [], ◌∷◌, ◌++◌, length, map, Option, Some, None, ◌&&◌, ◌==◌}
 use Rattle.std.specs.Prelude.{All, find, if◌then◌else◌, nat_le, nat_lt, option_and_then, slice_index_or}
 use mathlib.Core.Bool.{xor}
@@ -7,7 +8,8 @@ use Rattle.std.specs.List.{filter, flat_map, list_all, range_with_len}
 use Rattle.std.proofs.lemmas.Bool.{and_parts, eqb-true, leb-true, ltb-true}
 use Rattle.std.proofs.Math.Bool.{and-false}
 use Rattle.std.proofs.lemmas.Bool.Decides.{nat_tests}
-use Rattle.std.proofs.lemmas.List.{length-map}
+use Rattle.std.proofs.lemmas.List.{length-map, map-append}
+use Rattle.std.proofs.lemmas.List.Elements.{filter-append}
 use Rattle.std.proofs.lemmas.List.Elements.{recursion_from_All}
 use Rattle.qrdata.specs.declared.level.Level.{Level}
 use Rattle.gf256.specs.BinaryPolynomial.{binary_remainder}
@@ -23,8 +25,12 @@ use Rattle.qrmatrix.specs.Placement.{remainder_bits}
 use Rattle.qrmatrix.specs.Square.{value_at}
 use Rattle.qrmatrix.specs.Private.Drawing.{MarksFree}
 use Rattle.qrmatrix.specs.Reading.{read_bits, read_format, read_matrix, read_with, shows_functions, shows_version, walk}
-use Rattle.qr_reading.specs.Private.Walking.{DrawsPatterns, bit_if, format_named, place_at, shows_row, walked_bit}
+use Rattle.qrmatrix.specs.declared.placement.Strip.{Strip}
+use Rattle.qrmatrix.specs.Private.Placing.{IsStrip, right_column, row_of}
+use Rattle.qr_reading.specs.Private.Walking.{DrawsPatterns, bit_if, format_named, module_in, row_read, rows_read, shows_row}
+use Rattle.qr_reading.specs.Private.Walking.{unmasked}
 use Rattle.qr_reading.proofs.PatternReadingLaws.{patterns_shown}
+use Rattle.qr_reading.proofs.WalkedBitLaws.{same_pieces}
 use Rattle.qrmatrix.proofs.ComputedLaws.{by_version, same_at}
 use Rattle.qrmatrix.proofs.FoundLaws.{IsFormat-of, find_in_range, format_of, reading_of}
 use Rattle.qrmatrix.proofs.ReadingLaws.{format_shown, version_is_shown}
@@ -33,32 +39,78 @@ use Rattle.qrmatrix.proofs.WordDistanceLaws.{format_word}
 
 -- ---- the walk
 
+-- the two modules of a row of a strip, the right one first
+abbrev pair_of : ℕ → ℕ → List (ℕ × ℕ)
+pair_of x y = (x + 1, y) ∷ (x, y) ∷ []
+
+-- the modules of a strip
+abbrev places_of : ℕ → ℕ → List (ℕ × ℕ)
+places_of n number = flat_map (λ t. pair_of (right_column n number - 1) (row_of n number t)) (range_with_len 0 n)
+
 walk_is : (v : ℕ) → 1 ≤ v → v ≤ 10
-    → walk (side_of v) ≡ map (place_at (side_of v)) (range_with_len 0 ((side_of v - 1) / 2 * (2 * side_of v)))
+    → walk (side_of v) ≡ flat_map (places_of (side_of v)) (range_with_len 0 ((side_of v - 1) / 2))
 unfolding walk
 walk_is = by_version (λ v. walk (side_of v))
-    (λ v. map (place_at (side_of v)) (range_with_len 0 ((side_of v - 1) / 2 * (2 * side_of v)))) refl
+    (λ v. flat_map (places_of (side_of v)) (range_with_len 0 ((side_of v - 1) / 2))) refl
 
--- the free modules at places of the walk
-kept : (n : ℕ) (free modules : ℕ → ℕ → Bool) (ks : List ℕ)
-    → map (λ (p : ℕ × ℕ). modules p.0 p.1) (filter (λ (p : ℕ × ℕ). free p.0 p.1) (map (place_at n) ks))
-    ≡ flat_map (walked_bit n free modules) ks
-kept n free modules [] = refl
-kept n free modules (k ∷ ks) =
-    let p = place_at n k in
-    let others = filter (λ (p : ℕ × ℕ). free p.0 p.1) (map (place_at n) ks) in
-    let rest = kept n free modules ks in
-    elim (free p.0 p.1) as (λ is_free. map (λ (p : ℕ × ℕ). modules p.0 p.1) (if is_free then p ∷ others else others)
-    ≡ bit_if is_free (modules p.0 p.1) ++ flat_map (walked_bit n free modules) ks) [
-      | true ↦ ap (λ l. modules p.0 p.1 ∷ l) rest
-      | false ↦ rest
-    ]
+-- the free modules of a strip
+abbrev pub strip_read : ℕ → (free modules : ℕ → ℕ → Bool) → ℕ → List Bool
+strip_read n free modules number =
+    flat_map (λ t. row_read free modules (right_column n number - 1) (row_of n number t)) (range_with_len 0 n)
+
+module _ (free modules : ℕ → ℕ → Bool) where
+  -- the free modules at places
+  abbrev kept : List (ℕ × ℕ) → List Bool
+  kept places = map (λ (p : ℕ × ℕ). modules p.0 p.1) (filter (λ (p : ℕ × ℕ). free p.0 p.1) places)
+
+  pair_kept : (x y : ℕ) → kept (pair_of x y) ≡ row_read free modules x y
+  pair_kept x y = at (free (x + 1) y) (free x y)
+    where
+      at : (right left : Bool)
+          → map (λ (p : ℕ × ℕ). modules p.0 p.1) (if right then (x + 1, y) ∷ (if left then (x, y) ∷ [] else [])
+          else (if left then (x, y) ∷ [] else [])) ≡ bit_if right (modules (x + 1) y) ++ bit_if left (modules x y)
+      at true true = refl
+      at true false = refl
+      at false true = refl
+      at false false = refl
+
+  all_kept : (places : ℕ → List (ℕ × ℕ)) (ks : List ℕ) → kept (flat_map places ks) ≡ flat_map (λ k. kept (places k)) ks
+  all_kept places [] = refl
+  all_kept places (k ∷ ks) =
+      let is_left = λ (p : ℕ × ℕ). free p.0 p.1 in
+      let module_at = λ (p : ℕ × ℕ). modules p.0 p.1 in
+      let rest = flat_map places ks in
+      ap (map module_at) (filter-append is_left (places k) rest)
+      ∙ map-append module_at (filter is_left (places k)) (filter is_left rest)
+      ∙ ap (λ l. kept (places k) ++ l) (all_kept places ks)
+
+  strips_kept : (n : ℕ) (ks : List ℕ) → kept (flat_map (places_of n) ks) ≡ flat_map (strip_read n free modules) ks
+  strips_kept n ks =
+      all_kept (places_of n) ks ∙ ap (λ f. flat_map f ks) (fun_ext (λ number.
+      all_kept (λ t. pair_of (right_column n number - 1) (row_of n number t)) (range_with_len 0 n)
+      ∙ ap (λ f. flat_map f (range_with_len 0 n)) (fun_ext (λ t.
+      pair_kept (right_column n number - 1) (row_of n number t)))))
+
+-- a strip of rows that have the modules of others with a mask taken off
+pub strip_is : (v : ℕ) (strip : Strip) (free : ℕ → ℕ → Bool) (modules rows : List ℕ) (mask number : ℕ) → IsStrip v strip
+    → strip.number ≡ number → ((x y : ℕ) → x < 57 → y < length rows → module_in modules x y ≡ unmasked rows mask x y)
+    → length rows ≡ side_of v
+    → rows_read strip free (module_in modules) 0 strip.side ≡ strip_read (side_of v) free (unmasked rows mask) number
+strip_is v strip free modules rows mask number is e same high_rows =
+    let n = side_of v in
+    let column : strip.x ≡ right_column n strip.number - 1 = omega (arith, is.column) in
+    rw (is.side, column, ← e) (same_pieces _ _ 0 n (λ t low high.
+    let y = row_of n strip.number t in
+    let x = right_column n strip.number - 1 in
+    let inside : y < length rows = grind (arith, high, high_rows) in
+    let wide : x + 1 < 57 = grind (arith, is.most, is.number) in
+    rw (same (x + 1) y wide inside, same x y (omega (arith, wide)) inside) refl))
 
 module _ (v : ℕ) (least : 1 ≤ v) (most : v ≤ 10) where
   -- the walk reads the free modules with the mask taken off
   pub walk_read : (mask : ℕ) (free : List (List Bool)) (m : ℕ → ℕ → Bool) → MarksFree v free
-      → flat_map (walked_bit (side_of v) (value_at free) (λ x y. xor (is_flipped mask x y) (m x y)))
-      (range_with_len 0 ((side_of v - 1) / 2 * (2 * side_of v))) ≡ read_bits v mask m
+      → flat_map (strip_read (side_of v) (value_at free) (λ x y. xor (is_flipped mask x y) (m x y)))
+      (range_with_len 0 ((side_of v - 1) / 2)) ≡ read_bits v mask m
   unfolding read_bits
   walk_read mask free m marks =
       let n = side_of v in
@@ -67,8 +119,7 @@ module _ (v : ℕ) (least : 1 ≤ v) (most : v ≤ 10) where
       let same = same_filter is_left chosen (is_walked n)
       (λ p i. marks.inside p.0 p.1 (grind (arith, nat_tests)) (grind (arith, nat_tests))) (walk n) (walked v least most) in
       let module_at = λ (p : ℕ × ℕ). xor (is_flipped mask p.0 p.1) (m p.0 p.1) in
-      sym (kept n (value_at free) (λ x y. xor (is_flipped mask x y) (m x y))
-      (range_with_len 0 ((n - 1) / 2 * (2 * n))))
+      sym (strips_kept (value_at free) (λ x y. xor (is_flipped mask x y) (m x y)) n (range_with_len 0 ((n - 1) / 2)))
       ∙ ap (λ places. map module_at (filter is_left places)) (sym (walk_is v least most)) ∙ ap (map module_at) same
 
   few_bits : (nat_le (room v) 2775 && nat_lt (remainder_bits v) 8) ≡ true

@@ -1,9 +1,11 @@
 //! The data of blocks, which are taken back out of interleaved codewords and tested (ISO/IEC 18004, 7.5, 7.6 and 12).
 ghost use Rattle.arrayvec.specs.ArrayVec.{array_vec_len};
 ghost use Rattle.gf256.specs.ErrorCorrection.{IsEcCodewordCount};
-ghost use Rattle.qrdata.specs.Reading.{data_in, has_roots, interleaving_place};
+ghost use Rattle.qrdata.specs.Reading.{data_in, has_roots, interleaving_place, segments_at};
+ghost use Rattle.qrdata.specs.Segments.{byte_bits};
 ghost use Rattle.qr_reading.specs.Private.Blocks.{block_at, sound_blocks};
-ghost use Rattle.std.specs.Prelude.{◌≡◌, ◌+◌, ◌<◌, ◌≤◌, All, IfSome, length, option_map};
+ghost use Rattle.qr_reading.specs.declared.bits.TheConstants.{MAX_DATA_BITS};
+ghost use Rattle.std.specs.Prelude.{◌≡◌, ◌+◌, ◌*◌, ◌<◌, ◌≤◌, [], All, IfSome, length, option_map};
 ghost use Rattle.std.specs.Prelude.{replicate, slice_index, sum};
 
 use crate::bits::bits_of_codewords;
@@ -19,6 +21,10 @@ fn interleaving_place(lengths: &[usize], block: usize, place: usize) -> usize
     requires block { (block ≤ length lengths.now) × (length lengths.now ≤ 8) }
     ensures { result ≡ interleaving_place lengths.now block place }
 {
+    // A block alone has its codewords in the order of their places.
+    if lengths.len() == 1 && block == 0 {
+        return place.min(lengths[0]);
+    }
     let before: usize = lengths.iter().map(|size| place.min(*size)).sum();
     let here = lengths[..block]
         .iter()
@@ -27,19 +33,18 @@ fn interleaving_place(lengths: &[usize], block: usize, place: usize) -> usize
     before + here
 }
 
-/// Returns a block of interleaved codewords.
-fn block_at(lengths: &[usize], codewords: &[u8], block: usize) -> Codewords
+/// Writes a block of interleaved codewords into an empty list.
+fn write_block(lengths: &[usize], codewords: &[u8], block: usize, out: &mut Codewords)
     requires block { (block < length lengths.now) × (length lengths.now ≤ 8) }
     requires short { slice_index lengths.now block ≤ 255 }
-    ensures block { result.items ≡ block_at lengths.now codewords.now block }
-    ensures len { array_vec_len result ≡ slice_index lengths.now block }
+    requires empty { out.old.items ≡ [] }
+    ensures block { out.new.items ≡ block_at lengths.now codewords.now block }
+    ensures len { array_vec_len out.new ≡ slice_index lengths.now block }
 {
-    let mut out = Codewords::new();
     for place in 0..lengths[block] {
         let at = interleaving_place(lengths, block, place);
         out.push(codewords.get(at).copied().unwrap_or(0));
     }
-    out
 }
 
 /// Returns whether a block is a multiple of the generator with its error correction codewords: whether these are the
@@ -77,14 +82,27 @@ fn sound_blocks(
     let generator = Generator::new(count);
     let mut message = Codewords::new();
     for block in 0..lengths.len() {
-        let data = block_at(lengths, codewords, block);
-        let remainder = block_at(ec_lengths, ec_codewords, block);
+        let mut data = Codewords::new();
+        write_block(lengths, codewords, block, &mut data);
+        let mut remainder = Codewords::new();
+        write_block(ec_lengths, ec_codewords, block, &mut remainder);
         if !is_multiple(&generator, count, &data, &remainder) {
             return None;
         }
         push_codewords(&mut message, &data);
     }
     Some(message)
+}
+
+/// Reads the segments that the codewords of blocks hold. Their bits take much room, which a function that is inlined would
+/// clear for each symbol, whether its blocks are sound or not.
+#[inline(never)]
+fn read_message(version: Version, message: &[u8]) -> Option<SymbolData>
+    requires { 8 * length message.now ≤ MAX_DATA_BITS }
+    ensures { option_map (λ bytes. bytes.items) result
+        ≡ segments_at version (length (byte_bits message.now)) (byte_bits message.now) }
+{
+    read_segments(version, &bits_of_codewords(message))
 }
 
 /// Reads the data that the codewords of a symbol hold, with no correction (ISO/IEC 18004, 12). They are in the order in
@@ -103,6 +121,8 @@ pub(crate) fn read_data(version: Version, level: Level, codewords: &[u8]) -> Opt
     let (data, ec_codewords) = codewords.split_at(version.data_codewords(level));
     let mut ec_lengths = Lengths::new();
     push_lengths(&mut ec_lengths, lengths.len(), count);
-    let message = sound_blocks(count, &lengths, &ec_lengths, data, ec_codewords)?;
-    read_segments(version, &bits_of_codewords(&message))
+    let Some(message) = sound_blocks(count, &lengths, &ec_lengths, data, ec_codewords) else {
+        return None;
+    };
+    read_message(version, &message)
 }

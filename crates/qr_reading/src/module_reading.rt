@@ -3,6 +3,7 @@ ghost use Rattle.std.specs.Prelude.{◌≡◌, ◌≤◌, ◌<◌, ◌==◌, IfS
 ghost use Rattle.std.specs.List.{find, list_all, range_with_len};
 ghost use Rattle.qrdata.specs.Versions.{side_of};
 ghost use Rattle.qrmatrix.specs.Bits.{bit};
+ghost use Rattle.qrmatrix.specs.Private.Squares.{IsBlank};
 ghost use Rattle.qrmatrix.specs.Reading.{read_square};
 ghost use Rattle.qrmatrix.specs.Square.{value_at};
 ghost use Rattle.qr_reading.specs.Private.Walking.{DrawsPatterns, format_named, shows_row};
@@ -50,17 +51,15 @@ fn format_in(rows: &[u64]) -> (Level, Mask)
     (level, Mask::of(high + low))
 }
 
-/// Draws the patterns of a symbol with its format information: returns the modules that the codewords choose, and those
-/// of the others that are dark.
+/// Draws the patterns of a symbol with its format information on two blank squares: the modules that the codewords choose,
+/// and those of the others that are dark.
 #[tactic(auto, using(crate::proofs::PatternReadingLaws::role_drawn), unfolding(qrmatrix::specs::Functions::fixed_module, qrmatrix::specs::Functions::is_free))]
-fn patterns(version: Version, level: Level, mask: Mask) -> (Square, Square)
-    ensures { DrawsPatterns version level mask result.0 result.1 }
+fn draw_patterns(version: Version, level: Level, mask: Mask, free: &mut Square, dark: &mut Square)
+    requires { IsBlank free.old × IsBlank dark.old }
+    ensures { DrawsPatterns version level mask free.new dark.new }
 {
-    let mut free = Square::new();
-    let mut dark = Square::new();
-    draw_functions(version, &mut free, &mut dark);
-    draw_format(version, level, mask, &mut dark);
-    (free, dark)
+    draw_functions(version, free, dark);
+    draw_format(version, level, mask, dark);
 }
 
 /// Returns whether a row has the patterns.
@@ -69,7 +68,10 @@ fn is_row_shown(free: &Square, dark: &Square, rows: &[u64], y: usize) -> bool
     ensures { result ≡ shows_row (length rows.now) (bit (slice_index rows.now y)) (λ x. value_at free.now x y)
         (λ x. value_at dark.now x y) }
 {
-    (0..rows.len()).all(|x| free.get(x, y) || dark.get(x, y) == is_dark(rows, x, y))
+    let free = free.row(y);
+    let dark = dark.row(y);
+    let inside = (1 << rows.len()) - 1;
+    (rows[y] ^ dark) & !free & inside == 0
 }
 
 /// Returns whether rows have the patterns.
@@ -92,7 +94,9 @@ pub fn read(rows: &[u64]) -> Option<SymbolData>
 {
     let version = version_of_side(rows.len())?;
     let (level, mask) = format_in(rows);
-    let (free, dark) = patterns(version, level, mask);
+    let mut free = Square::new();
+    let mut dark = Square::new();
+    draw_patterns(version, level, mask, &mut free, &mut dark);
     if !are_shown(&free, &dark, rows) {
         return None;
     }

@@ -51,6 +51,37 @@ twice : (a b : Bool) → (a && (a && b)) ≡ (a && b)
 twice true b = refl
 twice false b = refl
 
+-- what passes in two parts of a range
+parts_pass : (test : ℕ → Bool) (a m k : ℕ)
+    → list_all test (range_with_len a (m + k)) ≡ (list_all test (range_with_len a m) && list_all test (range_with_len (a + m) k))
+parts_pass test a zero k =
+    let none : 0 + k ≡ k = omega arith in let here : a + 0 ≡ a = omega arith in rw (none, here) refl
+parts_pass test a (suc m) k =
+    let more : suc m + k ≡ suc (m + k) = omega arith in
+    let later : a + suc m ≡ a + 1 + m = omega arith in
+    rw (more, later) (ap (λ b. test a && b) (parts_pass test (a + 1) m k)
+    ∙ and_later (test a) (list_all test (range_with_len (a + 1) m)) (list_all test (range_with_len (a + 1 + m) k)))
+  where
+    and_later : (a b c : Bool) → (a && (b && c)) ≡ ((a && b) && c)
+    and_later a b c = grind arith
+
+always_true : (a n : ℕ) → list_all (λ x. true) (range_with_len a n) ≡ true
+always_true a zero = refl
+always_true a (suc n) = always_true (a + 1) n
+
+beq-same : (b : Bool) → beq b b ≡ true
+beq-same true = refl
+beq-same false = refl
+
+-- two tests agree on a range
+same_from : (p q : ℕ → Bool) (a m : ℕ) → ((k : ℕ) → a ≤ k → k < a + m → p k ≡ q k)
+    → list_all p (range_with_len a m) ≡ list_all q (range_with_len a m)
+same_from p q a zero each = refl
+same_from p q a (suc m) each = rw (
+  each a (omega arith) (omega arith),
+  same_from p q (a + 1) m (λ k low high. each k (omega (arith, low)) (omega (arith, high))),
+) refl
+
 module _ (p : Picture) (scale : ℕ) (zone : QuietZone) (some : 0 < scale) where
   -- the first pixel of the cell of a pixel is inside
   first_inside : (length x : ℕ) → x < length → x / scale * scale < length
@@ -125,3 +156,82 @@ module _ (p : Picture) (scale : ℕ) (zone : QuietZone) (some : 0 < scale) where
           | inr inner ↦ absurd (inner first)
         ]
       ]
+
+  -- ---- a row, cell by cell
+
+  -- the colour of a cell in a row
+  abbrev pub colour : ℕ → ℕ → Bool
+  colour column y =
+      is_module zone (p.width / scale) (p.height / scale) column (y / scale) && p.dark (column * scale) (y / scale * scale)
+
+  -- a cell decides, and those after it
+  pub cell_decides : (column y : ℕ) (dark : Bool) → column < p.width / scale → dark ≡ colour column y
+      → list_all (λ x. is_of_cell p scale zone x y) (range_with_len (column * scale) (p.width - column * scale))
+      ≡ (list_all (λ x. beq (p.dark x y) dark) (range_with_len (column * scale) scale)
+      && list_all (λ x. is_of_cell p scale zone x y)
+      (range_with_len ((column + 1) * scale) (p.width - (column + 1) * scale)))
+  cell_decides column y dark inside is =
+      let test = λ (x : ℕ). is_of_cell p scale zone x y in
+      let last : suc column * scale ≤ p.width = (le-div_iff_mul-le some).0 inside in
+      let size : p.width - column * scale ≡ scale + (p.width - (column + 1) * scale) = omega (arith, last) in
+      let place : column * scale + scale ≡ (column + 1) * scale = omega arith in
+      rw size (parts_pass test (column * scale) scale (p.width - (column + 1) * scale)
+      ∙ rw place (ap (λ b. b && list_all test (range_with_len ((column + 1) * scale) (p.width - (column + 1) * scale)))
+      (same_from test (λ x. beq (p.dark x y) dark) (column * scale) scale (λ x low high.
+      let cell : x / scale ≡ column = cell_of column x low (omega (arith, high)) in
+      rw (cell, is) refl))))
+    where
+      cell_of : (column x : ℕ) → column * scale ≤ x → x < column * scale + scale → x / scale ≡ column
+      cell_of column x low high =
+          let least : column ≤ x / scale = (le-div_iff_mul-le some).1 low in
+          let most : x / scale < column + 1 = (div-lt_iff_lt-mul some).1 (omega (arith, high)) in
+          omega (arith, least, most)
+
+  -- what is left beside the cells is of no module
+  pub rest_is : (from y : ℕ) → from ≡ p.width / scale * scale
+      → list_all (λ x. beq (p.dark x y) false) (range_with_len from (p.width - from))
+      ≡ list_all (λ x. is_of_cell p scale zone x y) (range_with_len from (p.width - from))
+  rest_is from y e = same_from (λ x. beq (p.dark x y) false) (λ x. is_of_cell p scale zone x y) from (p.width - from)
+      (λ x low high.
+      let past : p.width / scale ≤ x / scale = (le-div_iff_mul-le some).1 (omega (arith, low, e)) in
+      let outside : is_module zone (p.width / scale) (p.height / scale) (x / scale) (y / scale) ≡ false =
+      grind (arith, nat_tests, past) in
+      rw outside refl)
+
+  -- a row of modules of one dot: the zone beside them is light
+  pub singles_row : (y : ℕ) → scale ≡ 1
+      → (nat_le zone.top (y / scale) && nat_lt (y / scale + zone.bottom) (p.height / scale)) ≡ true
+      → zone.left + zone.right ≤ p.width
+      → (list_all (λ x. beq (p.dark x y) false) (range_with_len 0 zone.left)
+      && list_all (λ x. beq (p.dark x y) false) (range_with_len (p.width - zone.right) zone.right))
+      ≡ list_all (λ x. is_of_cell p scale zone x y) (range_with_len 0 p.width)
+  singles_row y one inner fits =
+      let test = λ (x : ℕ). is_of_cell p scale zone x y in
+      let light = λ (x : ℕ). beq (p.dark x y) false in
+      let middle = p.width - zone.left - zone.right in
+      let parts : p.width ≡ zone.left + (middle + zone.right) = omega (arith, fits) in
+      let place : 0 + zone.left + middle ≡ p.width - zone.right = omega (arith, fits) in
+      let first : list_all test (range_with_len 0 zone.left) ≡ list_all light (range_with_len 0 zone.left) =
+      same_from test light 0 zone.left (λ x low high. outside x (grind (arith, nat_tests, high, one))) in
+      let last : list_all test (range_with_len (p.width - zone.right) zone.right)
+      ≡ list_all light (range_with_len (p.width - zone.right) zone.right) =
+      same_from test light (p.width - zone.right) zone.right
+      (λ x low high. outside x (grind (arith, nat_tests, low, one, fits))) in
+      let inside : list_all test (range_with_len (0 + zone.left) middle) ≡ true =
+      same_from test (λ x. true) (0 + zone.left) middle (λ x low high. own x
+      (grind (arith, nat_tests, low, high, one, inner, fits))) ∙ always_true (0 + zone.left) middle in
+      sym (ap (λ n. list_all test (range_with_len 0 n)) parts
+      ∙ parts_pass test 0 zone.left (middle + zone.right)
+      ∙ ap (λ b. list_all test (range_with_len 0 zone.left) && b) (parts_pass test (0 + zone.left) middle zone.right)
+      ∙ rw (first, inside, place, last) refl)
+    where
+      outside : (x : ℕ) → is_module zone (p.width / scale) (p.height / scale) (x / scale) (y / scale) ≡ false
+          → is_of_cell p scale zone x y ≡ beq (p.dark x y) false
+      outside x e = rw e refl
+
+      own : (x : ℕ) → is_module zone (p.width / scale) (p.height / scale) (x / scale) (y / scale) ≡ true
+          → is_of_cell p scale zone x y ≡ true
+      own x e =
+          let column : x / scale * scale ≡ x = grind (arith, one) in
+          let row : y / scale * scale ≡ y = grind (arith, one) in
+          rw (e, column, row) (beq-same (p.dark x y))

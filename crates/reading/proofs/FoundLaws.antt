@@ -1,6 +1,10 @@
 -- The first answer, and the scale of what is found.
-use Rattle.std.proofs.Common.{◌≡◌, ◌≤◌, ◌+◌, ℕ, zero, suc, min, false, Option, Some, None, List, [], ◌∷◌, ◌∙◌, refl, sym, subst, arith}
+use Rattle.std.proofs.Common.{ap, drop, get_or, length, Bool, ◌<◌, ◌≡◌, ◌≤◌, ◌+◌, ℕ, zero, suc, min, false, true, Option, Some, None, List, [], ◌∷◌, ◌∙◌, refl, sym, subst, arith}
 use Rattle.std.specs.Option.{is_some, option_map, option_or}
+use Rattle.std.specs.Bool.{then_some}
+use Rattle.std.specs.Prelude.{if◌then◌else◌, unwrap_or}
+use Rattle.std.proofs.lemmas.Option.{none-some}
+use Rattle.std.proofs.lemmas.List.{drop_more}
 use Rattle.std.proofs.lemmas.Bool.{false≢true}
 use Rattle.std.specs.Prelude.{IfSome}
 use Rattle.labelcore.specs.declared.symbology.Symbology.{Symbology}
@@ -12,18 +16,39 @@ use Rattle.reading.specs.Labels.{read_dots}
 use Rattle.reading.specs.declared.found.Reading.{Reading}
 use Rattle.reading.proofs.ScaleLaws.{scale_within}
 
-pub or_later : {A : Type 0} (a b c : Option A) → option_or (option_or a b) c ≡ option_or a (option_or b c)
-or_later (Some x) b c = refl
-or_later None b c = refl
-
 pub or_none : {A : Type 0} (a : Option A) → option_or a None ≡ a
 or_none (Some x) = refl
 or_none None = refl
 
-pub or_absent : {B D : Type 0} (told : D → B) (o : Option D) (a : Option B) → is_some o ≡ false
-    → option_or (option_map told o) a ≡ a
-or_absent told None a none = refl
-or_absent told (Some d) a none = absurd (false≢true (sym none))
+-- an answer that is not there leaves the others
+pub or_absent : {B D : Type 0} (told : D → B) (o : Option D) (a rest : Option B) → option_map told o ≡ a
+    → is_some o ≡ false → option_or a rest ≡ rest
+or_absent told None a rest is none = λ i. option_or (sym is i) rest
+or_absent told (Some d) a rest is none = absurd (false≢true (sym none))
+
+-- an answer that is there is the first one
+pub or_present : {B D : Type 0} (told : D → B) (o : Option D) (a rest : Option B) → option_map told o ≡ a
+    → is_some o ≡ true → option_map told o ≡ option_or a rest
+or_present told (Some d) a rest is some = λ i. option_or (is i) rest
+or_present told None a rest is some = absurd (false≢true some)
+
+-- the first answer to what is still to be asked
+pub next_asked : {B : Type 0} (ask : Symbology → Option B) (xs : List Symbology) (place : ℕ) (d : Symbology)
+    → place < length xs
+    → first_some ask (drop place xs) ≡ option_or (ask (get_or xs place d)) (first_some ask (drop (place + 1) xs))
+next_asked ask xs place d inside = rw (drop_more xs place d inside) refl
+
+-- what is asked at the scale that is found
+pub at_scale : {B : Type 0} (begins : Bool) (n scale : ℕ) (ask : ℕ → Option B) → then_some begins n ≡ Some scale
+    → (if begins then ask n else None) ≡ ask scale
+at_scale true n scale ask e = ap (λ o. ask (unwrap_or o n)) e
+at_scale false n scale ask e = absurd (none-some scale e)
+
+-- without a scale nothing is asked
+pub at_no_scale : {B : Type 0} (begins : Bool) (n : ℕ) (ask : ℕ → Option B) → then_some begins n ≡ None
+    → (if begins then ask n else None) ≡ None
+at_no_scale true n ask e = absurd (none-some n (sym e))
+at_no_scale false n ask e = refl
 
 -- what holds of each answer holds of the first one
 first_has : {A B : Type 0} (P : B → Type 0) (ask : A → Option B) → ((x : A) → IfSome (ask x) P) → (xs : List A)

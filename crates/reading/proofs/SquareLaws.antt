@@ -1,8 +1,8 @@
 -- Modules that are a square, and what they are read as.
 use mathlib.Core.Path.{fun_ext}
 use Rattle.std.proofs.Common.{◌≡◌, ◌≢◌, ℕ, zero, suc, ◌+◌, ◌<◌, ◌≤◌, refl, sym, ap, ◌∙◌, arith, Bool, true, false, inl, inr}
-use Rattle.std.proofs.Common.{List, Option, [], None, length, map, take, get_or, ◌&&◌, ◌||◌, ◌==◌, ◌*◌, ◌^◌, ◌%◌}
-use Rattle.std.specs.Prelude.{bit_or, nat_lt, option_and_then, slice_index}
+use Rattle.std.proofs.Common.{◌-◌, ◌/◌, List, Option, [], None, length, map, take, get_or, ◌&&◌, ◌==◌, ◌*◌, ◌^◌, ◌%◌}
+use Rattle.std.specs.Prelude.{bit_and, nat_lt, option_and_then, slice_index}
 use Rattle.std.specs.Int.{from_bool}
 use Rattle.std.specs.List.{list_all, range_with_len}
 use Rattle.std.proofs.lemmas.Bool.{cases_eq, cases_lt, eq-eqb, ne_eqb}
@@ -12,13 +12,21 @@ use Rattle.std.proofs.lemmas.List.FromFn.{get_or-map-range_with_len, length-map-
 use Rattle.qrdata.specs.Reading.{data_in}
 use Rattle.qrmatrix.specs.Bits.{bit}
 use Rattle.qrmatrix.specs.Reading.{Reading, read_matrix, read_square}
-use Rattle.qrmatrix.proofs.RowBitsLaws.{above_bit, or_bit, two_bits}
+use Rattle.qrmatrix.proofs.RowBitsLaws.{above_bit, shr_bit}
 use Rattle.qrmatrix.specs.Square.{value_at}
 use Rattle.qr_reading.proofs.SymbolReadingLaws.{wide_side}
 use Rattle.picture.specs.Picture.{Picture}
 use Rattle.picture.specs.Reading.{raster}
 use Rattle.picture.specs.Text.{pixel_row}
 use Rattle.picture.proofs.SampleLaws.{value_at-raster}
+use Rattle.std.proofs.Math.Pow.{pow_mono}
+use Rattle.std.proofs.lemmas.Nat.{pow-add}
+use Rattle.std.proofs.lemmas.Nat.Bits.{bit_at-lt, bit_at_cat_high, shr_and_one}
+use Rattle.std.specs.Int.{bit_at}
+use Rattle.reading.specs.Found.{quarter}
+use Rattle.filter.specs.Symbol.{quiet_zone}
+use Rattle.reading.specs.Private.{Packs, are_whole_cells, modules_in}
+use Rattle.reading.specs.declared.packed.Packed.{Packed}
 use Rattle.labelcore.specs.declared.symbology.Symbology.TheVariants.{Qr}
 use Rattle.filter.specs.Reading.{read_modules}
 
@@ -83,19 +91,6 @@ module _ (p : Picture) where
 
 -- ---- words
 
--- one module more in a word
-pub module_added : (line : ℕ → Bool) (row b k x : ℕ) → k < 57 → b ≡ from_bool (line k)
-    → bit row x ≡ (nat_lt x k && line x) → bit (bit_or row (b * 2 ^ k % 2 ^ 64)) x ≡ (nat_lt x (k + 1) && line x)
-module_added line row b k x few is before =
-    or_bit row (b * 2 ^ k % 2 ^ 64) x ∙ ap (λ z. bit row x || z) (at (line k) is) ∙ rw before (elim (cases_eq x k) [
-      | inl e ↦ rw e (grind (arith, nat_tests))
-      | inr ne ↦ grind (arith, nat_tests)
-    ])
-  where
-    at : (dark : Bool) → b ≡ from_bool dark → bit (b * 2 ^ k % 2 ^ 64) x ≡ (x == k && dark)
-    at true on = rw (on, two_bits 1 k x (omega arith) (omega arith)) (grind arith)
-    at false off = rw (off, two_bits 0 k x (omega arith) (omega arith)) (grind arith)
-
 -- words that have the rows of a square are read as the square
 pub square_of_words : (p : Picture) (rows : List ℕ) (n : ℕ) → p.width ≡ n → p.height ≡ n → n ≤ length rows
     → ((x y : ℕ) → y < n → bit (get_or rows y 0) x ≡ (nat_lt x p.width && p.dark x y))
@@ -114,3 +109,134 @@ square_of_words p rows n wide high long is =
           ap (λ w. bit w x) (get_or_past (take n rows) y 0 (omega (arith, past, length-take-le n rows long)))
           ∙ above_bit 0 0 x (omega arith) (omega arith) ∙ sym (pixel_at p x y ∙ grind (arith, nat_tests))
     ]
+
+-- one row more in a word of a column
+pub column_added : (line : ℕ → Bool) (column b y : ℕ) → b < 2 → (b == 1) ≡ line y
+    → ((i : ℕ) → bit column i ≡ (nat_lt i y && line (y - 1 - i)))
+    → (i : ℕ) → bit (2 * column + b) i ≡ (nat_lt i (y + 1) && line (y + 1 - 1 - i))
+column_added line column b y small is seen zero =
+    let low : (2 * column + b) / 2 ^ 0 % 2 ≡ b = omega (arith, small) in
+    let last : y + 1 - 1 - 0 ≡ y = omega arith in
+    let some : nat_lt 0 (y + 1) ≡ true = grind (arith, nat_tests) in
+    ap (λ z. z == 1) low ∙ is ∙ rw (last, some) refl
+column_added line column b y small is seen (suc i) =
+    let high = bit_at_cat_high column 1 b (suc i) small (omega arith) in
+    let same : 2 * column + b ≡ column * 2 ^ 1 + b = omega arith in
+    let before : suc i - 1 ≡ i = omega arith in
+    let place : y + 1 - 1 - suc i ≡ y - 1 - i = omega arith in
+    let test : nat_lt (suc i) (y + 1) ≡ nat_lt i y = grind (arith, nat_tests) in
+    ap (λ z. z == 1) (ap (λ n. bit_at n (suc i)) same ∙ high ∙ ap (bit_at column) before) ∙ seen i ∙ rw (place, test) refl
+
+-- the first y rows of a column as a number, the last one lowest
+pub record SeesColumn (rows : List ℕ) (x y column : ℕ) : Type 0 where
+  pub small : column < 2 ^ y
+  pub seen : (i : ℕ) → bit column i ≡ (nat_lt i y && bit (slice_index rows (y - 1 - i)) x)
+
+-- no row is read yet
+pub no_row : (rows : List ℕ) (x : ℕ) → SeesColumn rows x 0 0
+no_row rows x = record {
+  small = omega arith;
+  seen = λ i. at i;
+}
+  where
+    at : (i : ℕ) → bit 0 i ≡ (nat_lt i 0 && bit (slice_index rows (0 - 1 - i)) x)
+    at i = let none : nat_lt i 0 ≡ false = grind (arith, nat_tests) in
+        rw none (above_bit 0 0 i (omega arith) (omega arith))
+
+-- one row more
+pub row_seen : (rows : List ℕ) (x y column b : ℕ) → SeesColumn rows x y column
+    → b < 2 → (b == 1) ≡ bit (slice_index rows y) x → SeesColumn rows x (y + 1) (2 * column + b)
+row_seen rows x y column b sees few is =
+    let power = pow-add 2 y 1 in
+    record {
+      small = omega (arith, sees.small, few, power);
+      seen = column_added (λ y. bit (slice_index rows y) x) column b y few is sees.seen;
+    }
+
+-- a bit of a row that is moved down
+pub moved_bit : (row x k : ℕ) → (bit_and (row / 2 ^ x / 2 ^ k) 1 < 2) × ((bit_and (row / 2 ^ x / 2 ^ k) 1 == 1) ≡ bit row (x + k))
+moved_bit row x k =
+    let one = shr_and_one (row / 2 ^ x) k in
+    let few = bit_at-lt (row / 2 ^ x) k in
+    let place : k + x ≡ x + k = omega arith in
+    (omega (arith, one, few), ap (λ z. z == 1) one ∙ shr_bit row x k ∙ ap (bit row) place)
+
+-- a sum that fits
+pub column_fits : (rows : List ℕ) (x y column : ℕ) → SeesColumn rows x y column → y ≤ 56 → column < 2 ^ 56
+column_fits rows x y column sees few = let most : 2 ^ y ≤ 2 ^ 56 = pow_mono few in omega (arith, sees.small, most)
+
+-- a fact on each number below four
+pub by_four : (P : ℕ → Type 0) → P 0 → P 1 → P 2 → P 3 → (k : ℕ) → k < 4 → P k
+by_four P a b c d zero few = a
+by_four P a b c d (suc zero) few = b
+by_four P a b c d (suc (suc zero)) few = c
+by_four P a b c d (suc (suc (suc zero))) few = d
+by_four P a b c d (suc (suc (suc (suc k)))) few = absurd (omega (arith, few))
+
+-- a column whose rows are all read
+pub column_seen : (rows : List ℕ) (x x' y side column : ℕ) → x' ≡ x → y ≡ side → SeesColumn rows x y column → (i : ℕ)
+    → bit column i ≡ (nat_lt i side && bit (slice_index rows (side - 1 - i)) x')
+column_seen rows x x' y side column place last sees i = rw (place, ← last) (sees.seen i)
+
+-- a module of a square that is turned
+pub turned_module : (p : Picture) (packed : Packed) → Packs p packed → (rows : List ℕ) (x y : ℕ) → y < packed.side
+    → bit (slice_index rows y) x ≡ (nat_lt x packed.side && bit (slice_index packed.rows (packed.side - 1 - x)) y)
+    → bit (slice_index rows y) x ≡ (nat_lt x packed.side && (quarter p).dark x y)
+turned_module p packed packs rows x y inside is = is ∙ elim (cases_lt x packed.side) [
+  | inl wide ↦
+      let place : p.height - 1 - x ≡ packed.side - 1 - x = ap (λ n. n - 1 - x) packs.high in
+      let pixel = packs.modules y (packed.side - 1 - x) (omega (arith, wide)) in
+      let test : nat_lt y packed.side ≡ true = grind (arith, nat_tests) in
+      rw (pixel, test, place) refl
+  | inr past ↦ let test : nat_lt x packed.side ≡ false = grind (arith, nat_tests) in rw test refl
+]
+
+-- the modules of a turned picture at scale 1 are those of the picture, turned
+pub singles_turned : (p : Picture) (packed : Packed) → are_whole_cells p 1 (quiet_zone Qr) ≡ true
+    → Packs (quarter (modules_in p 1 (quiet_zone Qr))) packed
+    → (are_whole_cells (quarter p) 1 (quiet_zone Qr) ≡ true) × Packs (modules_in (quarter p) 1 (quiet_zone Qr)) packed
+singles_turned p packed whole packs = (
+  grind (arith, nat_tests),
+  record {
+    wide = packs.wide;
+    high = packs.high;
+    count = packs.count;
+    modules = λ x y inside. packs.modules x y inside ∙ elim (cases_lt x packed.side) [
+      | inl wide ↦
+          let place : (4 + (p.height / 1 - 4 - 4 - 1 - x)) * 1 ≡ p.height - 1 - (4 + x) * 1 =
+          omega (arith, wide, packs.wide) in
+          ap (λ row. nat_lt x packed.side && p.dark ((4 + y) * 1) row) place
+      | inr past ↦ let test : nat_lt x packed.side ≡ false = grind (arith, nat_tests) in rw test refl
+    ];
+  },
+)
+
+-- ---- rows, from the last column on
+
+pub no_bits : (i : ℕ) (b : Bool) → bit 0 i ≡ (nat_lt i 0 && b)
+no_bits i b =
+    let none : nat_lt i 0 ≡ false = grind (arith, nat_tests) in
+    rw none (above_bit 0 0 i (omega arith) (omega arith))
+
+-- a colour as a number
+pub dark_as_number : (dark : Bool) (b : ℕ) → b ≡ from_bool dark → (b < 2) × ((b == 1) ≡ dark)
+dark_as_number true b e = rw e (omega arith, refl)
+dark_as_number false b e = rw e (omega arith, refl)
+
+-- one bit more
+pub number_fits : (row b y : ℕ) → row < 2 ^ y → b < 2 → 2 * row + b < 2 ^ (y + 1)
+number_fits row b y small few = let power = pow-add 2 y 1 in omega (arith, small, few, power)
+
+-- all columns
+pub whole_row : (line : ℕ → Bool) (row place width w : ℕ) → place ≡ w → width ≡ w
+    → ((i : ℕ) → bit row i ≡ (nat_lt i place && line (width - 1 - (place - 1 - i))))
+    → (x : ℕ) → bit row x ≡ (nat_lt x w && line x)
+whole_row line row place width w last e written x = written x ∙ elim (cases_lt x w) [
+  | inl inside ↦
+      let here : width - 1 - (place - 1 - x) ≡ x = omega (arith, last, e, inside) in
+      rw (here, last) refl
+  | inr past ↦
+      let none : nat_lt x place ≡ false = grind (arith, nat_tests, past, last) in
+      let none_later : nat_lt x w ≡ false = grind (arith, nat_tests, past) in
+      rw (none, none_later) refl
+]

@@ -1,6 +1,6 @@
 -- Definitions that only the contracts of private functions cite: nothing here has to be believed.
 use Rattle.std.specs.Prelude.{◌≡◌, ◌≢◌, ◌⊎◌, ◌<◌, ℕ, ◌+◌, ◌-◌, ◌*◌, ◌/◌, ◌%◌, ◌==◌, ◌&&◌, nat_le, nat_lt, not, Bool, true, false}
-use Rattle.std.specs.Prelude.{Option, None, if◌then◌else◌}
+use Rattle.std.specs.Prelude.{IfSome, Option, None, if◌then◌else◌, length, slice_index}
 use Rattle.std.specs.Bool.{beq}
 use Rattle.std.specs.List.{list_all}
 use Rattle.labelcore.specs.declared.symbology.Symbology.{Symbology}
@@ -10,7 +10,10 @@ use Rattle.picture.specs.Picture.{Picture}
 use Rattle.picture.specs.Reading.{is_module}
 use Rattle.picture.specs.Text.{below}
 use Rattle.picture.specs.declared.quiet_zone.QuietZone.{QuietZone}
+use Rattle.qrmatrix.specs.Bits.{bit}
+use Rattle.qrmatrix.specs.declared.square.TheConstants.{SIDE}
 use Rattle.reading.specs.Found.{Found, reading_as}
+use Rattle.reading.specs.declared.packed.Packed.{Packed}
 
 -- a row before another is of the same cells as the one before it, or no quiet zone is above and below
 abbrev pub IsAgain : ℕ → QuietZone → ℕ → ℕ → Type 0
@@ -74,3 +77,20 @@ can_begin p x y symbology =
 abbrev pub reading_from : ℕ → Picture → ℕ → ℕ → Symbology → Option Found
 reading_from turns p x y symbology =
     if can_begin p x y symbology then reading_as turns p (x / (quiet_zone symbology).left) symbology else None
+
+-- a picture is no square, or a wider one than any symbol
+abbrev pub IsNoSquare : Picture → Type 0
+IsNoSquare p = (p.width ≢ p.height) ⊎ (SIDE < p.width)
+
+-- words have the pixels of a square
+pub record Packs (p : Picture) (packed : Packed) : Type 0 where
+  pub wide : p.width ≡ packed.side
+  pub high : p.height ≡ packed.side
+  pub count : length packed.rows ≡ SIDE
+  pub modules : (x y : ℕ) → y < packed.side
+      → bit (slice_index packed.rows y) x ≡ (nat_lt x packed.side && p.dark x y)
+
+-- words, if there are any, have the modules of a QR symbol at scale 1
+abbrev pub ShowsSingles : Picture → Option Packed → Type 0
+ShowsSingles p singles =
+    IfSome singles (λ packed. (are_whole_cells p 1 (quiet_zone Qr) ≡ true) × (Packs (modules_in p 1 (quiet_zone Qr)) packed))

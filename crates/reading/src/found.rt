@@ -1,18 +1,20 @@
 //! Labels read from dots of which nothing is told.
 ghost use Rattle.std.specs.Prelude.{◌≡◌, ◌<◌, ◌≤◌, ◌/◌, IfSome, MatchOption, min, option_map, true};
 ghost use Rattle.std.specs.Bool.{then_some};
-ghost use Rattle.std.specs.Option.{option_or};
 ghost use Rattle.filter.specs.Symbol.{quiet_zone};
 ghost use Rattle.reading.specs.Found.{ReadingIsAlone, any_reading, first_some, found_of, quarter};
 ghost use Rattle.reading.specs.Found.{reading_as, symbologies, upright_reading};
 ghost use Rattle.reading.specs.Private.{AreLightBefore, IsFirst, IsLightBefore, can_begin, is_second_light};
-ghost use Rattle.reading.specs.Private.{reading_from};
+ghost use Rattle.picture.specs.Picture.{Picture};
+ghost use Rattle.reading.specs.Private.{ShowsSingles, reading_from};
 
-use crate::labels::read;
+use crate::labels::{read, read_singles, singles_of};
+use crate::packed::Packed;
 use filter::zone_of;
 use labelcore::Symbology;
 use picture::Grid;
 use qr_reading::SymbolData;
+use qrmatrix::QUIET_ZONE;
 
 /// What dots are read as: the symbology, how many dots wide a module is, after how many quarter turns clockwise, and the
 /// full data.
@@ -24,12 +26,26 @@ pub struct Reading {
     pub data: SymbolData,
 }
 
-/// Reads dots as a symbol of a symbology at a scale.
-fn read_as<G: Grid>(symbology: Symbology, dots: &G, turns: u8, scale: usize) -> Option<Reading>
-    requires { 0 < scale }
+/// Reads dots as a symbol of a symbology at a scale. `singles`: the modules of a QR symbol at scale 1, if they are packed.
+#[inline(never)]
+fn read_as<G: Grid>(
+    symbology: Symbology,
+    dots: &G,
+    turns: u8,
+    scale: usize,
+    singles: &Option<Packed>,
+) -> Option<Reading>
+    requires some { 0 < scale }
+    requires singles { ShowsSingles (G.picture dots.now) singles.now }
     ensures { option_map found_of result ≡ reading_as turns (G.picture dots.now) scale symbology }
 {
-    let data = read(symbology, dots, scale)?;
+    let data = match (symbology, singles) {
+        (Symbology::Qr, Some(modules)) if scale == 1 => read_singles(dots, modules),
+        _ => read(symbology, dots, scale),
+    };
+    let Some(data) = data else {
+        return None;
+    };
     Some(Reading {
         symbology,
         scale,
@@ -104,40 +120,68 @@ fn scale_from<G: Grid>(symbology: Symbology, dots: &G, first: First) -> Option<u
     can_begin.then_some(scale)
 }
 
-/// Reads dots as a symbol of a symbology whose first module is at the first dark dot.
-fn read_from<G: Grid>(symbology: Symbology, dots: &G, turns: u8, first: First) -> Option<Reading>
-    requires { IsFirst (G.picture dots.now) first.x first.y }
-    ensures { option_map found_of result ≡ reading_from turns (G.picture dots.now) first.x first.y symbology }
-{
-    let scale = scale_from(symbology, dots, first)?;
-    read_as(symbology, dots, turns, scale)
-}
+/// The symbologies, in the order in which they are tried.
+const SYMBOLOGIES: [Symbology; 5] = [
+    Symbology::Ean13,
+    Symbology::Ean8,
+    Symbology::UpcA,
+    Symbology::Code128,
+    Symbology::Qr,
+];
 
 /// Reads dots as they lie, by the first symbology that reads them.
-fn read_first<G: Grid>(dots: &G, turns: u8, first: First) -> Option<Reading>
-    requires { IsFirst (G.picture dots.now) first.x first.y }
+fn read_first<G: Grid>(
+    dots: &G,
+    turns: u8,
+    first: First,
+    singles: &Option<Packed>,
+) -> Option<Reading>
+    requires first { IsFirst (G.picture dots.now) first.x first.y }
+    requires singles { ShowsSingles (G.picture dots.now) singles.now }
     ensures { option_map found_of result
         ≡ first_some (reading_from turns (G.picture dots.now) first.x first.y) symbologies }
 {
-    read_from(Symbology::Ean13, dots, turns, first)
-        .or_else(|| read_from(Symbology::Ean8, dots, turns, first))
-        .or_else(|| read_from(Symbology::UpcA, dots, turns, first))
-        .or_else(|| read_from(Symbology::Code128, dots, turns, first))
-        .or_else(|| read_from(Symbology::Qr, dots, turns, first))
+    for place in 0..SYMBOLOGIES.len() {
+        if let Some(scale) = scale_from(SYMBOLOGIES[place], dots, first) {
+            let found = read_as(SYMBOLOGIES[place], dots, turns, scale, singles);
+            if found.is_some() {
+                return found;
+            }
+        }
+    }
+    None
 }
 
-/// Returns what was read, or else reads dots as they lie.
-fn or_upright<G: Grid>(found: Option<Reading>, dots: &G, turns: u8) -> Option<Reading>
-    ensures { option_map found_of result
-        ≡ option_or (option_map found_of found) (upright_reading turns (G.picture dots.now)) }
+/// Packs the modules of a QR symbol at scale 1, if its first module is at the first dark dot and they are not packed yet.
+fn pack_singles<G: Grid>(dots: &G, first: First, singles: &mut Option<Packed>)
+    requires { ShowsSingles (G.picture dots.now) singles.old }
+    ensures { ShowsSingles (G.picture dots.now) singles.new }
 {
-    if found.is_some() {
-        return found;
+    if singles.is_none() && first.x == QUIET_ZONE && first.y == QUIET_ZONE {
+        *singles = singles_of(dots);
     }
-    match first_dark(dots) {
-        Some(first) => read_first(dots, turns, first),
-        None => None,
+}
+
+/// Turns packed modules clockwise by a quarter turn.
+fn turn_singles(singles: &mut Option<Packed>)
+    ensures { (p : Picture) → ShowsSingles p singles.old → ShowsSingles (quarter p) singles.new }
+{
+    if let Some(modules) = singles {
+        modules.turn();
     }
+}
+
+/// Reads dots as they lie. `singles`: the modules of a QR symbol at scale 1, if they are packed.
+fn read_upright<G: Grid>(dots: &G, turns: u8, singles: &mut Option<Packed>) -> Option<Reading>
+    requires { ShowsSingles (G.picture dots.now) singles.old }
+    ensures read { option_map found_of result ≡ upright_reading turns (G.picture dots.now) }
+    ensures singles { ShowsSingles (G.picture dots.now) singles.new }
+{
+    let Some(first) = first_dark(dots) else {
+        return None;
+    };
+    pack_singles(dots, first, singles);
+    read_first(dots, turns, first, singles)
 }
 
 /// A picture, turned clockwise by a quarter turn.
@@ -175,11 +219,27 @@ pub fn read_any<G: Grid>(dots: &G) -> Option<Reading>
     let Some(first) = first_dark(dots) else {
         return None;
     };
+    let mut singles = None;
+    pack_singles(dots, first, &mut singles);
+    let found = read_first(dots, 0, first, &singles);
+    if found.is_some() {
+        return found;
+    }
     let once = Quarter { dots };
+    turn_singles(&mut singles);
+    let found = read_upright(&once, 1, &mut singles);
+    if found.is_some() {
+        return found;
+    }
     let twice = Quarter { dots: &once };
+    turn_singles(&mut singles);
+    let found = read_upright(&twice, 2, &mut singles);
+    if found.is_some() {
+        return found;
+    }
     let thrice = Quarter { dots: &twice };
-    let found = or_upright(read_first(dots, 0, first), &once, 1);
-    or_upright(or_upright(found, &twice, 2), &thrice, 3)
+    turn_singles(&mut singles);
+    read_upright(&thrice, 3, &mut singles)
 }
 
 /// What is read upright is read as that, by [`read_any`]. It does nothing when it runs.

@@ -4,9 +4,12 @@ ghost use Rattle.filter.specs.Reading.{read_modules};
 ghost use Rattle.filter.specs.Symbol.{quiet_zone, symbol_of};
 ghost use Rattle.picture.specs.Picture.{enlargement, with_quiet_zone};
 ghost use Rattle.picture.specs.Reading.{raster};
+ghost use Rattle.labelcore.specs.declared.symbology.Symbology.TheVariants.{Qr};
 ghost use Rattle.reading.specs.Labels.{ModulesAreRead, read_dots, read_short};
+ghost use Rattle.reading.specs.Private.{ShowsSingles};
 
 use crate::bars::read_bars;
+use crate::packed::Packed;
 use crate::sampled::{Sampled, are_cells};
 use crate::squares::read_square;
 use filter::zone_of;
@@ -41,6 +44,24 @@ pub fn read<G: Grid>(symbology: Symbology, dots: &G, scale: usize) -> Option<Sym
     let modules = Sampled::new(dots, scale, zone)?;
     let data = read_modules(symbology, &modules)?;
     are_cells(dots, scale, &zone).then_some(data)
+}
+
+/// Packs the modules of a QR symbol at scale 1. `None`: the dots have the size of no such symbol.
+pub fn singles_of<G: Grid>(dots: &G) -> Option<Packed>
+    ensures { ShowsSingles (G.picture dots.now) result }
+{
+    Packed::of(&Sampled::new(dots, 1, zone_of(Symbology::Qr))?)
+}
+
+/// Reads dots as a QR symbol at scale 1, as [`read`] does, by its modules.
+pub fn read_singles<G: Grid>(dots: &G, modules: &Packed) -> Option<SymbolData>
+    requires { ShowsSingles (G.picture dots.now) (Some modules.now) }
+    ensures { option_map (λ bytes. bytes.items) result ≡ read_dots Qr 1 (raster (G.picture dots.now)) }
+{
+    let Some(data) = modules.read() else {
+        return None;
+    };
+    are_cells(dots, 1, &zone_of(Symbology::Qr)).then_some(data)
 }
 
 /// Modules in their quiet zone, at any scale, are read as the modules are. It does nothing when it runs.

@@ -10,6 +10,7 @@ mod dots;
 mod equal_rows;
 mod found;
 mod labels;
+mod packed;
 mod sampled;
 mod squares;
 

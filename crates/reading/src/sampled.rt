@@ -1,8 +1,9 @@
 //! Modules that dots show.
-ghost use Rattle.std.specs.Prelude.{◌≡◌, ◌+◌, ◌*◌, ◌/◌, ◌%◌, ◌<◌, ◌≤◌, ◌&&◌, nat_le, nat_lt, false, true, MatchOption};
-ghost use Rattle.std.specs.List.{list_all};
+ghost use Rattle.std.specs.Prelude.{◌≡◌, ◌+◌, ◌-◌, ◌*◌, ◌/◌, ◌%◌, ◌<◌, ◌≤◌, ◌&&◌, nat_le, nat_lt, false, true, MatchOption};
+ghost use Rattle.std.specs.Bool.{beq};
+ghost use Rattle.std.specs.List.{list_all, range_with_len};
 ghost use Rattle.picture.specs.Text.{below};
-ghost use Rattle.reading.specs.Private.{IsAgain, are_whole_cells, is_of_cell, is_row_of_cells};
+ghost use Rattle.reading.specs.Private.{IsAgain, are_whole_cells, is_row_of_cells};
 ghost use Rattle.reading.specs.Private.{modules_in};
 
 use picture::{Grid, QuietZone};
@@ -25,47 +26,79 @@ fn is_between(before: usize, after: usize, cells: usize, cell: usize) -> bool
     before <= cell && cells > after && cell < cells - after
 }
 
-/// Returns whether the dot at `x` and `y` has the colour of its cell, a square of dots: light in the quiet zone, and
-/// else that of the cell's first dot. `top` is the first row of the cell. `is_inner`: no cell of the row is of the zone
-/// above or below.
+/// Returns whether the dots of the row `y` from `from` on and before `end` have the colour of their cell, which is that of
+/// its first dot in a module, and else light. `top` is the first row of the cell.
 #[inline(always)]
-fn is_of_cell<G: Grid>(
+fn is_row_of_cell<G: Grid>(
     dots: &G,
-    scale: usize,
-    zone: &QuietZone,
-    columns: usize,
+    is_module: bool,
+    from: usize,
+    end: usize,
     top: usize,
-    is_inner: bool,
-    x: usize,
     y: usize,
 ) -> bool
-    requires some { 0 < scale }
-    requires columns { columns ≡ (G.picture dots.now).width / scale }
-    requires top { top ≡ y / scale * scale }
-    requires inner { is_inner ≡ (nat_le zone.now.top (y / scale)
-        && nat_lt (y / scale + zone.now.bottom) ((G.picture dots.now).height / scale)) }
-    requires wide { x < (G.picture dots.now).width }
-    requires high { y < (G.picture dots.now).height }
-    ensures { result ≡ is_of_cell (G.picture dots.now) scale zone.now x y }
+    requires wide { (from < end) × (end ≤ (G.picture dots.now).width) }
+    requires high { (y < (G.picture dots.now).height) × (top ≤ y) }
+    ensures { result ≡ list_all (λ x. beq ((G.picture dots.now).dark x y) (is_module && (G.picture dots.now).dark from top))
+        (range_with_len from (end - from)) }
 {
-    let column = x / scale;
-    if !is_inner || !is_between(zone.left, zone.right, columns, column) {
-        return !dots.dark(x, y);
-    }
-    // A module of one dot has its colour.
-    scale == 1 || dots.dark(x, y) == dots.dark(column * scale, top)
+    let dark = is_module && dots.dark(from, top);
+    (from..end).all(|x| dots.dark(x, y) == dark)
 }
 
-/// Returns whether each dot of the row `y` has the colour of its cell.
+/// Returns whether the dots of the row `y` from `from` on and before `end` are light.
+fn are_light<G: Grid>(dots: &G, from: usize, end: usize, y: usize) -> bool
+    requires wide { end ≤ (G.picture dots.now).width }
+    requires high { y < (G.picture dots.now).height }
+    ensures { result ≡ list_all (λ x. beq ((G.picture dots.now).dark x y) false) (range_with_len from (end - from)) }
+{
+    (from..end).all(|x| !dots.dark(x, y))
+}
+
+/// Returns whether the `left` first dots of a row and the `right` last ones are light.
+fn is_light_beside<G: Grid>(dots: &G, left: usize, right: usize, y: usize) -> bool
+    requires wide { left + right ≤ (G.picture dots.now).width }
+    requires high { y < (G.picture dots.now).height }
+    ensures { result ≡ (list_all (λ x. beq ((G.picture dots.now).dark x y) false) (range_with_len 0 left)
+        && list_all (λ x. beq ((G.picture dots.now).dark x y) false)
+        (range_with_len ((G.picture dots.now).width - right) right)) }
+{
+    let width = dots.width();
+    are_light(dots, 0, left, y) && are_light(dots, width - right, width, y)
+}
+
+/// Returns whether a quiet zone is no wider than this.
+#[inline(always)]
+fn is_as_wide(zone: &QuietZone, width: usize) -> bool
+    ensures { result ≡ nat_le (zone.now.left + zone.now.right) width }
+{
+    zone.left <= width && zone.right <= width - zone.left
+}
+
+/// Returns whether each dot of the row `y` has the colour of its cell, a square of dots: light in the quiet zone, and else
+/// that of the cell's first dot.
 fn is_row_of_cells<G: Grid>(dots: &G, scale: usize, zone: &QuietZone, y: usize) -> bool
     requires some { 0 < scale }
     requires high { y < (G.picture dots.now).height }
     ensures { result ≡ is_row_of_cells (G.picture dots.now) scale zone.now y }
 {
-    let columns = dots.width() / scale;
+    let width = dots.width();
+    let columns = width / scale;
     let top = y / scale * scale;
     let is_inner = is_between(zone.top, zone.bottom, dots.height() / scale, y / scale);
-    (0..dots.width()).all(|x| is_of_cell(dots, scale, zone, columns, top, is_inner, x, y))
+    // Modules of one dot have their colours, and the zone beside them is looked at alone.
+    if scale == 1 && is_inner & is_as_wide(zone, width) {
+        return is_light_beside(dots, zone.left, zone.right, y);
+    }
+    for column in 0..columns {
+        let is_module = is_inner & is_between(zone.left, zone.right, columns, column);
+        let from = column * scale;
+        if !is_row_of_cell(dots, is_module, from, from + scale, top, y) {
+            return false;
+        }
+    }
+    // What is left is no whole cell, and no module.
+    are_light(dots, columns * scale, width, y)
 }
 
 /// Returns whether the row `y`, where it has the dots of the row before it, as those before `equal` have, has the colours

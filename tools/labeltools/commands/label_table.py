@@ -53,6 +53,9 @@ ROW_NUMBER = re.compile("[1-9][0-9]{0,6}")
 SIGNS = {"comma": ",", "point": ".", ",": ",", ".": "."}
 MOST_PROPOSED = 3  # commands
 MOST_NAMED = 8  # columns of which one is meant
+NO_PRICE = Text(
+    "no price is proposed, since each label is for a single thing, such as a ticket or a copy"
+)
 OF_KINDS = {"code": Text("the code"), "title": Text("the title"), "price": Text("the price")}
 MOST_ALIKE = 50  # messages about rows that differ in their cells alone
 AS_IN_TABLE = Remedy("price-as", says=Text("As in the table"), is_less=True)
@@ -370,12 +373,16 @@ def guess_of_sheets(data: bytes, name: str, options: TableOptions) -> tuple[str,
 
 
 def say_of_others(guess: Guess) -> None:
-    """Writes which column is proposed where others are named alike."""
+    """Writes which column is proposed where others are named alike, and which price was not."""
     for kind, name in OF_KINDS.items():
         if guess.others.get(kind):
-            found = words_for(guess, [guess.columns[kind]])
             others = words_for(guess, guess.others[kind])
-            write_message(TOOL, Text("{} is {}; others: {}", name, found, others))
+            if kind in guess.columns:
+                found = words_for(guess, [guess.columns[kind]])
+                write_message(TOOL, Text("{} is {}; others: {}", name, found, others))
+            elif kind == "price":
+                hint = Text("give {} if there is one: {}", Remedy("price"), others)
+                write_message(TOOL, sentence(NO_PRICE, hint.in_window(NOTHING)))
 
 
 def words_for(guess: Guess, places: Sequence[int]) -> str:

@@ -376,7 +376,8 @@ def trouble_of(queue: str, printer: Mapping[str, Any]) -> Trouble | None:
 
 def lets_go_on(line: str) -> Text:
     """Returns what to do about a queue or job that waits for a command."""
-    return Text("{} lets it go on", line).in_window(Text("the settings of printers let it go on"))
+    there = Text("let it go on in the settings of printers")
+    return Text("{} lets it go on", line).in_window(there)
 
 
 def queue_of(name: str, chosen: Mapping[str, str] = NOTHING_CHOSEN) -> Queue:

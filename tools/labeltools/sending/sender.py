@@ -191,7 +191,7 @@ class Sender:
         elif self.is_lost:
             hints = [Text("{} may be on paper", place), error.hint]
         else:
-            look = Text("{} may be on paper: look there", place)
+            look = Text("{} may be on paper: look there", place).in_window(NOTHING)  # it asks
             hints = [error.hint or self.may_be_missing(), look, self.way_on()]
         told = Unfinished(what, joined("; ", filter(None, hints)), error.status)
         told.printer, told.done = self.outlet.name, self.done
@@ -217,7 +217,7 @@ class Sender:
             return NOTHING
         labels = self.named(self.on_way)
         if self.journal is None:
-            look = Text("{} may be missing: look at the last one on paper", labels)
+            look = Text("{} may be missing: look which label came out last", labels)
             return Text(
                 "{} may be missing: look at the last one on paper, and print what follows it with "
                 "{}",

@@ -74,6 +74,11 @@ def known_encoding(data: bytes) -> str:
     return "utf-8"
 
 
+def is_old(data: bytes) -> bool:
+    """Returns whether a text has other letters than ASCII, and surely is in none of Unicode."""
+    return not (known_encoding(data) or data.isascii() or b"\0" in data)
+
+
 def refuse_other(known: str, codec: str, encoding: str | None, name: str) -> None:
     """Raises `ToolError` where another encoding was given than the one that is known."""
     if known and known not in codec and codec not in known:
@@ -146,7 +151,7 @@ def other_words(data: bytes, codecs: Iterable[str]) -> dict[tuple[str, ...], lis
     >>> other_words("Käse Käse für".encode("cp1252"), ["cp1252", "cp850", "cp1250"])
     {('Käse', 'für'): ['cp1252', 'cp1250'], ('Kõse', 'f³r'): ['cp850']}
     """
-    if known_encoding(data) or data.isascii() or b"\0" in data:
+    if not is_old(data):
         return {}
     sample = b" ".join(dict.fromkeys(OTHER_BYTES.findall(data)))
     found: dict[tuple[str, ...], list[str]] = {}

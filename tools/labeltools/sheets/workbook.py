@@ -133,7 +133,8 @@ def chosen(sheets: Iterable[Worksheet], wanted: str | None) -> Iterator[Row]:
     if len(found) != 1:
         count = counted("{} visible sheet", "{} visible sheets", len(found))
         what = count if wanted is None else Text("no sheet {}", quoted(wanted))
-        hint = give(*(Remedy("sheet", one, Text("{}", one)) for one in found or names))
+        remedies = (Remedy("sheet", one, Text("{}", one)) for one in found or names)
+        hint = give(*remedies).in_window(Text("which one has your articles?"))
         raise ToolError(Text("has {} with data", what), hint, BAD_ARGUMENTS)
 
 

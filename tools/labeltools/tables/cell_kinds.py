@@ -16,16 +16,11 @@ ARTICLE = re.compile(
 AMOUNT = re.compile("[0-9]{1,6}(?:[.,][0-9]+)?")
 ABOVE_ZERO = re.compile("[1-9]")
 COUNT = re.compile("[0-9]{1,3}")
+ERROR = re.compile("#.+|Err:.+")  # of a spreadsheet, in place of a number
 FIGURES = re.compile(r"[\W_]*[0-9][\W\d_]*")  # a date or an amount, which is no name
 LETTER = re.compile(r"[^\W\d_]")
 LETTERS = re.compile(r"(?:[^\W\d][\W\d]*){3}")  # those that a title has
 TAG = re.compile(r"\s*<[a-z][^<>]*>.*", re.DOTALL | re.IGNORECASE)  # what HTML begins with
-# percents of value added tax, of many countries
-TAXES = [Decimal(one) for one in "5 5.5 6 7 8 8.1 9 10 12 13 13.5 14 15 16 17 18 19 20".split()]
-TAXES += [Decimal(one) for one in "21 22 23 24 25 25.5 27".split()]
-CENT = Decimal("0.011")  # what is rounded
-FEW = 3  # amounts that have the same tax by chance
-MOST_TAXES = 3  # in one table
 
 
 def has_letters(text: str) -> bool:
@@ -49,6 +44,13 @@ def is_paid(text: str) -> bool:
     return ABOVE_ZERO.search(text) is not None and is_amount(text)
 
 
+def is_charged(text: str) -> bool:
+    """Returns whether a text may be a price that is not zero, or an error in place of one; raises
+    `RowError`.
+    """
+    return ERROR.fullmatch(text) is not None or is_paid(text)
+
+
 def has_currency(text: str) -> bool:
     """Returns whether a text is a price with a currency; raises `RowError`."""
     return bool(parse(text).currency)
@@ -67,20 +69,3 @@ def amounts_of(some: Sequence[str], others: Sequence[str]) -> set[tuple[Decimal,
         with suppress(RowError):
             pairs.add((parse(one).value, parse(other).value))
     return pairs
-
-
-def is_taxed(bare: Sequence[str], whole: Sequence[str]) -> bool:
-    """Returns whether amounts are others with their tax, of which a table has few.
-
-    >>> is_taxed(["10.00", "20.00", "5.00", "x"], ["11.90", "23.80", "5.95", ""])
-    True
-    >>> is_taxed(["10.00", "20.00", "5.00"], ["11.90", "23.80", "6.00"])
-    False
-    """
-    left = {(a, b) for a, b in amounts_of(bare, whole) if a != b}  # the others have no tax
-    count, taxes = len(left), 0
-    while left and taxes < MOST_TAXES:
-        factors = (1 + percent / 100 for percent in TAXES)
-        left = min(({(a, b) for a, b in left if abs(b - a * x) > CENT} for x in factors), key=len)
-        taxes += 1
-    return not left and count >= FEW * max(1, taxes)

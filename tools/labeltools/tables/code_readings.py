@@ -18,7 +18,8 @@ LEAST = 0.5  # the part of the cells of a column that are of its kind
 MOST_CHANCE = 3  # numbers whose check digits agree by chance, all of them, in one case of 1000
 WITH_ZEROS = CodeRules(fill_zeros=True)
 # how numbers that are no EAN or UPC as they are may be meant
-OTHER_WAYS = (WITH_ZEROS, CodeRules(without_check_digit=True), CodeRules(CODE128.name))
+ANY_TEXT = CodeRules(CODE128.name)
+OTHER_WAYS = (WITH_ZEROS, CodeRules(without_check_digit=True), ANY_TEXT)
 
 
 @dataclass(frozen=True)
@@ -48,9 +49,10 @@ def reading_of(texts: Sequence[str], is_named: bool) -> CodeReading:
     if not is_own and (is_named or passing_share(texts, has_length) >= LEAST):
         ways = ((one, partial(code_of, rules=one)) for one in OTHER_WAYS)
         rules = [one for one, read in ways if passing_share(texts, read) >= LEAST]
-        return CodeReading(rules or [CodeRules()], problem_of(texts))
+        if rules != [ANY_TEXT] or passing_share(texts, has_length) >= LEAST:
+            return CodeReading(rules or [CodeRules()], problem_of(texts))
     is_long = passing_share(texts, NO_BARS.fullmatch) >= LEAST
-    return CodeReading([CodeRules(QR.name if is_long else CODE128.name)])
+    return CodeReading([CodeRules(QR.name) if is_long else ANY_TEXT])
 
 
 def has_lost_zeros(texts: Sequence[str]) -> bool:

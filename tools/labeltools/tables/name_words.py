@@ -11,28 +11,32 @@ from labeltools.common.word_lists import lists_by_section, lists_of
 COLUMN_WORDS = Path(__file__).with_name("columns.list")
 HUMP = re.compile("(?<=[a-z]{2})(?=[A-Z])|(?<=[A-Z]{2})(?=[A-Z][a-z]{2})")  # as in `salePrice`
 # letters that Unicode does not take apart, and one that is a letter of its own
-FOLDED = str.maketrans({**dict(zip("łøđðı", "loddi")), "å": "aa", "º": "o", "%": " percent "})
+FOLDED = str.maketrans(
+    {**dict(zip("łøđðı", "loddi")), "å": "aa", "º": "o", "%": " percent ", "+": " plus "}
+)
 MOST_IN_ONE = 4  # words that count as one
 SHORT = 5  # letters of a word that is never written as several
 FOREIGN = "English"  # whose words are in the names of columns everywhere
 
 
 def folded(text: str) -> str:
-    """Returns a text in small letters without accents.
+    """Returns a text in small letters without accents and other marks.
 
     >>> folded("Prix RÉDUIT"), folded("Κωδικός"), folded("Påris")
     ('prix reduit', 'κωδικοσ', 'paaris')
     """
     letters = unicodedata.normalize("NFD", text.casefold().translate(FOLDED))
-    bare = "".join(one for one in letters if not unicodedata.combining(one))
+    bare = "".join(one for one in letters if not unicodedata.category(one).startswith("M"))
     return unicodedata.normalize("NFC", bare)
 
 
 class Words:
-    """Words of the names of columns: `ab-` is how one begins, `-ab` how one ends."""
+    """Words of the names of columns: `ab-` is how one begins, `-ab` how one ends. What stands
+    together is one word, without what is between.
+    """
 
     def __init__(self, words: Sequence[str]) -> None:
-        self.all = frozenset(map(folded, words))
+        self.all = frozenset(folded(word).replace("_", "") for word in words)
         self.starts = tuple(word[:-1] for word in self.all if word[-1] == "-")
         self.ends = tuple(word[1:] for word in self.all if word[0] == "-")
 
@@ -48,10 +52,10 @@ def column_words() -> Mapping[str, Words]:
 
 
 @cache
-def joined_words() -> Mapping[str, str]:
-    """Returns the words that may be written as several, by their letters."""
-    words = (word for kind in column_words().values() for word in kind.all if "-" not in word)
-    return {word.replace("_", ""): word for word in words if "_" in word or len(word) > SHORT}
+def joined_words() -> frozenset[str]:
+    """Returns the words that may be written as several."""
+    words = (word for kind in lists_of(COLUMN_WORDS).values() for word in kind if "-" not in word)
+    return Words([word for word in words if "_" in word or len(word) > SHORT]).all
 
 
 @cache
@@ -63,7 +67,7 @@ def words_of_languages() -> Mapping[str, Words]:
     }
     common = parts.pop(FOREIGN)
     return {
-        part: Words([one for one in words.all if not common.has(one)])
+        part: Words([one for one in words.all if not common.has(one.strip("-"))])
         for part, words in parts.items()
     }
 
@@ -72,13 +76,12 @@ def words_in(name: str) -> Iterator[str]:
     """Yields the words of the name of a column; some that stand together are one.
 
     >>> [*words_in("Prix de réf. (inkl. MwSt)")], [*words_in("Code à barres")]
-    (['prix', 'de', 'ref', 'inkl_mwst'], ['code_a_barres'])
+    (['prix', 'de', 'ref', 'inklmwst'], ['codeabarres'])
     """
     words = re.findall(r"[^\W\d_]+", folded(HUMP.sub(" ", name)))
     while words:
         count = MOST_IN_ONE
         while count > 1 and "".join(words[:count]) not in joined_words():
             count -= 1
-        letters = "".join(words[:count])
-        yield joined_words().get(letters, letters)
+        yield "".join(words[:count])
         del words[:count]

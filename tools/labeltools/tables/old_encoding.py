@@ -12,13 +12,22 @@ from pathlib import Path
 from labeltools.common.messages import quoted, Silence, ToolError
 from labeltools.common.text import joined, Remedy, Text
 from labeltools.common.word_lists import lists_by_section
-from labeltools.sheets.encoding import is_odd, LONGEST_WORD, other_words, SIGNS, text_by
+from labeltools.sheets.encoding import (
+    is_odd,
+    is_old,
+    LONGEST_WORD,
+    OTHER_WORD,
+    other_words,
+    SIGNS,
+    text_by,
+)
 from labeltools.tables.guess import guess_of
 from labeltools.tables.name_words import words_in, words_of_languages
 from labeltools.tables.table_options import TableOptions
 
 SECTIONS = lists_by_section(Path(__file__).with_name("languages.list"))
 LANGUAGES = {name: one for name, one in SECTIONS.items() if "group" in one}
+OF_SEVERAL_BYTES = {name: one["several"] for name, one in SECTIONS.items() if "several" in one}
 GROUPS = {name: one["encodings"] for name, one in SECTIONS.items() if "encodings" in one}
 # whose old encodings are taken for those of others
 NEAR = [name for name, one in LANGUAGES.items() if {"western", "central"} & {*one["group"]}]
@@ -26,6 +35,8 @@ OF_WINDOWS = {encodings[0] for encodings in GROUPS.values()}
 MOST_ODD = 0.05  # the part of the words of a sensible reading that nobody writes
 MOST_TRIED = 2000  # words
 MOST_SHOWN = 3
+LEAST_NAMES = 2  # of columns, that are known words of a language by no chance
+LAST_LATIN = "\u024f"
 # signs that stand at letters where these were read badly
 AT_LETTERS = re.compile(
     r"""´|(?<=[^\W\d_])[‚„]|(?<=[^\W\d_])[–‘](?=[^\W\d_])
@@ -110,6 +121,9 @@ def old_encoding(data: bytes, name: str, options: TableOptions) -> OldEncoding |
     """Returns the encoding of a table that is not UTF-8; None where several readings are sensible,
     or none.
     """
+    several = in_several_bytes(data, name, options)
+    if several:
+        return several
     codecs = dict.fromkeys(one for encodings in GROUPS.values() for one in encodings)
     tried = (Reading(own, words) for words, own in other_words(data, codecs).items())
     every = [one for one in tried if one.is_sensible]
@@ -122,6 +136,21 @@ def old_encoding(data: bytes, name: str, options: TableOptions) -> OldEncoding |
     if text.count("«") != text.count("»") or text.count("„") > sum(map(text.count, "“”")):
         return None
     return OldEncoding(encoding, shown_words(reading)) if text else None
+
+
+def in_several_bytes(data: bytes, name: str, options: TableOptions) -> OldEncoding | None:
+    """Returns the encoding of a table in which a letter has several bytes; None if the names of its
+    columns are no words of such a language in any.
+    """
+    best, most = None, LEAST_NAMES - 1
+    for language, encodings in OF_SEVERAL_BYTES.items():
+        for encoding in encodings if is_old(data) else ():
+            words = OTHER_WORD.findall(text_by(data, encoding))
+            names = names_by(data, name, options, encoding) if words else ()
+            known = sum(map(words_of_languages()[language].has, names))
+            if known > most:
+                best, most = OldEncoding(encoding, words[:MOST_SHOWN]), known
+    return best
 
 
 def the_one(every: Sequence[Reading], languages: Collection[str]) -> tuple[str, Reading] | None:
@@ -153,15 +182,22 @@ def languages_of(
     """
     best: dict[int, set[str]] = {}
     for reading in readings:
-        file = replace(options.file, encoding=reading.encodings[0])
-        with suppress(ToolError):
-            names = guess_of(data, name, replace(options, file=file), Silence()).names
-            words = {word for one in names for word in words_in(one)}
+        words = names_by(data, name, options, reading.encodings[0])
+        if words:
             for language, known in words_of_languages().items():
                 count = sum(map(known.has, words))
                 best.setdefault(count, set()).add(language)
     most = max(best, default=0)
     return best[most] & LANGUAGES.keys() if most else ()
+
+
+def names_by(data: bytes, name: str, options: TableOptions, encoding: str) -> Collection[str]:
+    """Returns the words of the names of the columns, as an encoding reads them."""
+    file = replace(options.file, encoding=encoding)
+    with suppress(ToolError):
+        names = guess_of(data, name, replace(options, file=file), Silence()).names
+        return {word for one in names for word in words_in(one)}
+    return ()
 
 
 def shown_words(reading: Reading) -> Sequence[str]:
@@ -176,15 +212,15 @@ def shown_words(reading: Reading) -> Sequence[str]:
 
 
 def is_strange(word: str) -> bool:
-    """Returns whether nobody writes a word, or only a bad reading has it: a letter stands alone in
-    it, or a sign stands at letters that is for numbers or between words.
+    """Returns whether nobody writes a word, or only a bad reading has it: a Latin letter stands
+    alone in it, or a sign stands at letters that is for numbers or between words.
 
-    >>> [is_strange(one) for one in ("Käse", "50€", "Ø20", "L’Oréal", "1º")]
-    [False, False, False, False, False]
+    >>> [is_strange(one) for one in ("Käse", "50€", "Ø20", "L’Oréal", "1º", "л")]
+    [False, False, False, False, False, False]
     >>> [is_strange(one) for one in ("50Ä", "Espa–a", "œ", "´itný", "aº")]
     [True, True, True, True, True]
     """
     letters = [sign for sign in word if sign.isalpha() and sign not in SIGNS]
-    if len(letters) == 1 and not letters[0].isascii() and letters[0] not in ALONE:
+    if len(letters) == 1 and "\x7f" < letters[0] <= LAST_LATIN and letters[0] not in ALONE:
         return True
     return AT_LETTERS.search(word) is not None or is_odd(word)

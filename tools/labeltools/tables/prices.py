@@ -13,6 +13,7 @@ from labeltools.tables.money import (
     is_same,
     LOOKS,
     Money,
+    MOST_DECIMALS,
     NotMoney,
     parse,
     PER_UNIT,
@@ -335,7 +336,7 @@ def are_currencies(texts: Sequence[str]) -> bool:
 def pattern_for(texts: Sequence[str], name: str, has_codes: bool) -> str:
     """Returns the format of prices that are as programs write numbers, empty where they are not, or
     the currency is not known: their column has it in each cell or in its name, or another one has
-    its code.
+    its code. Prices that cannot be printed as they stand get two decimals without it.
 
     >>> pattern_for(["0.8", "49.9"], "Price (EUR)", False), pattern_for(["0,8"], "Preis", True)
     ('0.00 EUR', '0,00 ¤')
@@ -343,6 +344,8 @@ def pattern_for(texts: Sequence[str], name: str, has_codes: bool) -> str:
     ('0.00 ¤', '')
     >>> pattern_for(["0.80", "49"], "Price (EUR)", False)
     ''
+    >>> pattern_for(["0.80000000"], "Price", False)
+    '0.00'
     """
     prices = []
     for text in texts:
@@ -350,10 +353,12 @@ def pattern_for(texts: Sequence[str], name: str, has_codes: bool) -> str:
             prices.append(parse(text, most_decimals=PROGRAM_DECIMALS))
     odd = [one for one in prices if one.decimals not in USUAL_DECIMALS and not one.unit]
     named = WORDS["codes"].intersection(re.findall("[A-Z]{3}", name))
-    are_known = has_codes or bool(prices) and all(one.currency for one in prices)
-    if not odd or not are_known and len(named) != 1:
+    if has_codes or prices and all(one.currency for one in prices):
+        named = frozenset("¤")
+    is_long = any(one.decimals > MOST_DECIMALS for one in odd)
+    if not odd or len(named) != 1 and not is_long:
         return ""
-    return f"0{odd[0].point}00 {'¤' if are_known else min(named)}"
+    return f"0{odd[0].point}00 {min(named) if len(named) == 1 else ''}".rstrip()
 
 
 def check_currencies(text: str, front: str, end: str) -> None:

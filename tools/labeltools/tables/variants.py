@@ -2,6 +2,7 @@
 of the other sizes and colours have none.
 """
 
+import re
 from collections.abc import Sequence
 from contextlib import suppress
 from dataclasses import dataclass, field
@@ -13,10 +14,14 @@ from labeltools.tables.columns import Column
 from labeltools.tables.once import Once
 from labeltools.tables.table_options import Columns
 
+# what programs call an article: no word as people write it
+KEY = re.compile(r"(?=(?:.*[0-9]){3})[\w/:#-]+|(?=.*[a-z])[a-z0-9._-]+")
+
 
 def variants_in(titles: Sequence[str], columns: Sequence[Sequence[str]]) -> int | None:
-    """Returns the place of the column that says which rows are variants of one article: of each the
-    first row has a title, and no other one. None where each row has its title, or no column is so.
+    """Returns the place of the column that says which rows are variants of one article, by words as
+    programs write them: of each the first row has a title, and no other one. None where each row
+    has its title, or no column is so.
 
     >>> variants_in(["Shirt", "", "Cap"], [["red", "blue", "red"], ["a-1", "a-1", "b-2"]])
     1
@@ -26,11 +31,12 @@ def variants_in(titles: Sequence[str], columns: Sequence[Sequence[str]]) -> int 
         for place, cells in enumerate(columns):
             first: set[str] = set()
             for title, cell in zip(titles, cells):
-                if not cell or bool(title) == (cell in first):
+                if not KEY.fullmatch(cell) or bool(title) == (cell in first):
                     break
                 first.add(cell)
             else:
-                return place if first else None
+                if first:
+                    return place
     return None
 
 

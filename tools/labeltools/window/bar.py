@@ -13,7 +13,7 @@ ERROR, WARNING, SUCCESS, INFO = "error", "warning", "success", "info"
 KINDS = {
     ERROR: (Gtk.MessageType.ERROR, "dialog-error-symbolic"),
     WARNING: (Gtk.MessageType.WARNING, "dialog-warning-symbolic"),
-    SUCCESS: (Gtk.MessageType.OTHER, "emblem-ok-symbolic"),
+    SUCCESS: (Gtk.MessageType.INFO, "emblem-ok-symbolic"),
     INFO: (Gtk.MessageType.INFO, "dialog-information-symbolic"),
 }
 BAD = (ERROR, WARNING)
@@ -83,7 +83,8 @@ class Bar:
         image = Gtk.Image(icon_name=KINDS[event.kind][1])
         image.get_style_context().add_class(f"is-{event.kind}")
         text = Gtk.Label(label=event.sentence, xalign=0, wrap=True, max_width_chars=48)
-        for part in (image, Gtk.Label(label=time.strftime("%H:%M"), valign=Gtk.Align.START), text):
+        for part in (image, Gtk.Label(label=time.strftime("%H:%M")), text):
+            part.set_valign(Gtk.Align.START)
             line.add(part)
         line.show_all()
         rows.insert(line, 0)

@@ -25,10 +25,13 @@ __all__ = [
     "add_actions",
     "add_style",
     "leave_wheel",
+    "widen",
     "within",
 ]
 LETTERS = 14  # that a choice shows at least
-SIDE = 120  # pixels of an answer that is beside another one
+BESIDE = 60  # pixels of an icon beside the texts of a list, and of what is between them
+WIDEST = 600  # pixels of a list
+SIDE = 90  # pixels of an answer that is beside another one
 # the colours of events and questions, of the desktop's theme; a list of choices opens as a list,
 # since a menu of them has arrows to scroll by where the window is low
 STYLE = b"""
@@ -40,6 +43,8 @@ infobar label, infobar image { color: @theme_fg_color; text-shadow: none; }
 .ask { background: mix(@theme_bg_color, @warning_color, .22); padding: 8px;
   border: 1px solid @warning_color; border-radius: 4px; }
 .working progressbar { color: @theme_fg_color; font-size: inherit; }
+.working progress { min-height: 4px; border: none;
+  background: mix(@theme_selected_bg_color, @theme_fg_color, .4); }
 .working { padding: 8px; background: mix(@theme_bg_color, @theme_selected_bg_color, .12); }
 button.fold:checked { background: none; border-color: transparent; box-shadow: none; }
 combobox { -GtkComboBox-appears-as-list: 1; }
@@ -79,7 +84,25 @@ def leave_wheel(control: Any, _event: Any) -> None:
 def shorten(choice: Any) -> None:
     """Lets a long row of a choice end with an ellipsis."""
     (letters,) = choice.get_cells()
-    letters.set_properties(ellipsize=Pango.EllipsizeMode.END, width_chars=LETTERS)
+    longest = max((len(row[0]) for row in choice.get_model()), default=LETTERS)
+    letters.set_properties(ellipsize=Pango.EllipsizeMode.END, width_chars=min(LETTERS, longest))
+
+
+def reveal(part: Any, area: Any) -> None:
+    """Scrolls to a part that has its place."""
+    part.get_ancestor(Gtk.ScrolledWindow).get_vadjustment().clamp_page(area.y, area.y + area.height)
+
+
+def widen(choice: Any, *columns: int) -> None:
+    """Makes the list of a choice as wide as what these columns of it say, which the choice itself
+    may end with an ellipsis.
+    """
+    shown = choice.get_popup_accessible().get_widget()
+    if isinstance(shown, Gtk.TreeView):  # and not yet a menu
+        texts = ([row[column] for row in choice.get_model()] for column in columns)
+        drawn = (map(shown.create_pango_layout, column) for column in texts)
+        widths = (max((one.get_pixel_size()[0] for one in part), default=0) for part in drawn)
+        shown.set_size_request(min(sum(widths) + BESIDE, WIDEST), -1)
 
 
 def within(widget: Any) -> Iterator[Any]:
@@ -114,6 +137,7 @@ class Question(Gtk.Box):
         super().__init__(**properties)
         self.set_properties(orientation=Gtk.Orientation.VERTICAL, spacing=6, no_show_all=True)
         self.get_style_context().add_class("ask")
+        self.connect("size-allocate", reveal)
         self.text = Gtk.Label(xalign=0, wrap=True, max_width_chars=30, width_chars=20)
         self.answers = Gtk.Box(spacing=6, homogeneous=True)
         icon = Gtk.Image(icon_name="dialog-question-symbolic", valign=Gtk.Align.START)
@@ -128,7 +152,10 @@ class Question(Gtk.Box):
         self.answers.foreach(Gtk.Widget.destroy)
         widest = 0
         for shown, act in answers:
-            label = Gtk.Label(label=shown, ellipsize=Pango.EllipsizeMode.END, max_width_chars=30)
+            label = Gtk.Label(label=shown, wrap=True, lines=2, max_width_chars=30)
+            label.set_properties(
+                ellipsize=Pango.EllipsizeMode.END, justify=Gtk.Justification.CENTER
+            )
             widest = max(widest, self.create_pango_layout(shown).get_pixel_size()[0])
             button = Gtk.Button(child=label)
             button.connect("clicked", lambda _button, act=act: act())
@@ -178,7 +205,9 @@ class Choice(Gtk.ComboBoxText):
         super().__init__(**properties)
         self.connect("scroll-event", leave_wheel)
         self.set_hexpand(True)
+        self.set_popup_fixed_width(False)
         self.connect("show", shorten)
+        self.connect("map", widen, 0)
 
 
 class Caption(Gtk.Label):

@@ -24,7 +24,7 @@ from labeltools.sending.printers import (
     USB,
 )
 from labeltools.sending.sender import send_to
-from labeltools.window.gtk import GLib, Gtk
+from labeltools.window.gtk import GLib, Gtk, widen
 from labeltools.window.memory import PRINTERS
 from labeltools.window.questions import said
 from labeltools.window.shop import Choices, WindowTalk
@@ -82,6 +82,7 @@ class Printers:
         rows.append((_("Save a file…"), "document-save-symbolic", "", FILE))
         with self.window.filling():
             show_rows(self.window.printers, rows)
+            widen(self.window.printer, 0, 2)
             self.window.printer.set_active_id(self.wanted or None)
 
     @property

@@ -107,16 +107,16 @@ class Printing:
         prints, job = wanted.labels.prints, wanted.labels.job
         self.window.printing.set_response_sensitive(Gtk.ResponseType.OK, bool(prints))
         count = job.pages_of(len(prints))
-        stock = job.options.stock or ""
+        stock = job.options.stock or _("labels")
         text = ngettext(
-            "Put {count} sheet {stock} into the tray.",
-            "Put {count} sheets {stock} into the tray.",
+            "Put {count} sheet of {stock} into the tray.",
+            "Put {count} sheets of {stock} into the tray.",
             count,
         )
         if wanted.is_trial:
             text = _("Put plain paper into the tray.")
         is_sheet = not (job.form.is_roll or job.plan.sheet.is_single)
-        put = text.format(count=count, stock=stock).replace("  ", " ") if is_sheet else ""
+        put = text.format(count=count, stock=stock) if is_sheet else ""
         count = self.window.made.left_out
         left_out = whole(skipped(count)) if count else ""
         self.window.print_put.set_text("\n".join(filter(None, (put, left_out))))

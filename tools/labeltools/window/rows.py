@@ -93,6 +93,6 @@ class Rows:
     def count(self) -> None:
         """Shows how many rows have a mark."""
         count = sum(row[MARK] for row in self.window.rows)
-        text = ngettext("{count} row is marked", "{count} rows are marked", count)
+        text = ngettext("{count} row is ticked", "{count} rows are ticked", count)
         self.window.rows_count.set_text(text.format(count=count))
         self.window.choosing.set_response_sensitive(Gtk.ResponseType.OK, count > 0)

@@ -8,7 +8,8 @@ from typing import Any
 import cairo
 
 from labeltools.common.messages import ToolError
-from labeltools.paper.stock import glabels_sheet, list_stock, parts, Sheet
+from labeltools.common.text import counted, Text, translated
+from labeltools.paper.stock import glabels_sheet, list_stock, parts, Sheet, size_text
 from labeltools.window.gtk import Gdk
 
 SIDE = 40  # pixels of the longer side of a picture
@@ -24,7 +25,13 @@ def offer_sheets(model: Any, typed: str) -> None:
     with suppress(ToolError):  # glabels, which has the sheets, is not there
         lines = list_stock(typed) if len(typed) > 1 else ()
         for line in sorted(lines, key=lambda line: not line.lower().startswith(typed)):
-            model.append([line.partition(": ")[0], line])
+            name = line.partition(": ")[0]
+            sheet = glabels_sheet(keys()[name])
+            sizes = size_text(sheet.cell), size_text(sheet.page)
+            text = counted(
+                "{} label of {} on {}", "{} labels of {} on {}", len(sheet.places), *sizes
+            )
+            model.append([name, translated(Text("{}: {}", name, text))])
 
 
 def show_picture(_layout: Any, renderer: Any, model: Any, row: Any, _data: Any) -> None:

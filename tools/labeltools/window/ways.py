@@ -153,7 +153,7 @@ class WaysOut:
             count = len(labels.prints)
             name = path.name
             text = counted("{} label is saved as {}.", "{} labels are saved as {}.", count, name)
-            return Sent(None, text, count)
+            return Sent(None, text, count, SUCCESS)
 
         self.send(way, self.window.made.labels)
 

@@ -6,6 +6,7 @@ from collections.abc import Callable, Iterable, Iterator, Mapping, Sequence
 from contextlib import contextmanager, suppress
 from dataclasses import replace
 from functools import partial
+from itertools import chain
 from pathlib import Path
 from typing import Any
 
@@ -34,6 +35,7 @@ from labeltools.window.gtk import (
     GLib,
     Gtk,
     leave_wheel,
+    widen,
     within,
 )
 from labeltools.window.presets import Presets
@@ -121,7 +123,9 @@ class Window(Gtk.ApplicationWindow):
         """Sets up what window.ui does not say."""
         for name, (lowest, highest) in RANGES.items():
             self.control(name).set_range(lowest, highest)
-        for part in (self.head, self.get_child()):
+        dialogs = (self.printing, self.adding, self.choosing)
+        inner = ((one.get_header_bar(), one.get_content_area()) for one in dialogs)
+        for part in (self.head, self.get_child(), *chain(*inner)):
             part.show_all()
         for part in (self.bar, self.notes_box, self.result, self.working):
             part.foreach(Gtk.Widget.show_all)  # but not the part itself
@@ -311,7 +315,7 @@ class Window(Gtk.ApplicationWindow):
     def fill(self, table: Table) -> None:
         """Fills the choices of columns for a table."""
         guess = table.guess
-        self.columns.append([_("none"), ""])
+        self.columns.append([_("no column"), ""])
         for number, (name, example) in enumerate(zip(guess.names, guess.examples), 1):
             name = name or _("column {number}").format(number=number)
             self.columns.append([with_example(name, example), str(number)])
@@ -322,6 +326,8 @@ class Window(Gtk.ApplicationWindow):
         is_same = self.chosen and guess.names == self.names
         own = self.chosen if is_same else {**table.paper, "for-print": "", **table.kept, "first": 1}
         self.names = guess.names
+        for name in COLUMNS:
+            widen(self.control(name), 0)
         self.take({"symbology": guess.rules.symbology, **own})
         self.of_printers.recall(own)
         self.offer_patterns(table)

@@ -1,8 +1,8 @@
--- The walk over the modules, row by row of a strip (ISO/IEC 18004, 7.7.3).
-use Rattle.std.specs.Prelude.{◌≡◌, ◌<◌, ℕ, ◌+◌, ◌-◌, ◌*◌, ◌/◌, ◌%◌, Bool, false, List, [], ◌∷◌, if◌then◌else◌}
+-- The walk over the modules, row by row of each strip (ISO/IEC 18004, 7.7.3).
+use Rattle.std.specs.Prelude.{◌≡◌, ◌<◌, ℕ, ◌+◌, ◌*◌, Bool, false, true, List, [], ◌∷◌, ◌++◌, if◌then◌else◌}
 use Rattle.std.specs.Prelude.{not, ◌||◌, Some, slice_index}
 use Rattle.std.specs.Bool.{beq, xor}
-use Rattle.std.specs.List.{list_all, range_with_len}
+use Rattle.std.specs.List.{flat_map, list_all, range_with_len}
 use Rattle.qrdata.specs.declared.level.Level.{Level}
 use Rattle.qrdata.specs.declared.level.Level.TheVariants.{L, M, Q, H}
 use Rattle.qrdata.specs.Versions.{side_of}
@@ -10,27 +10,36 @@ use Rattle.qrmatrix.specs.Bits.{bit}
 use Rattle.qrmatrix.specs.Functions.{fixed_module, is_free}
 use Rattle.qrmatrix.specs.Masks.{is_flipped}
 use Rattle.qrmatrix.specs.Private.Counting.{one_if}
-use Rattle.qrmatrix.specs.Private.Placing.{right_column, row_of}
+use Rattle.qrmatrix.specs.Private.Placing.{row_of}
 use Rattle.qrmatrix.specs.Private.Drawing.{MarksFree}
 use Rattle.qrmatrix.specs.Square.{value_at}
+use Rattle.qrmatrix.specs.declared.placement.Strip.{Strip}
 
 -- the module at a place of rows, with a mask taken off
 abbrev pub unmasked : List ℕ → ℕ → ℕ → ℕ → Bool
 unmasked rows mask x y = xor (is_flipped mask x y) (bit (slice_index rows y) x)
 
--- the place that the walk reaches after k others: it goes along strips, in each row the right module first
-abbrev pub place_at : ℕ → ℕ → ℕ × ℕ
-place_at n k =
-    (right_column n (k / (2 * n)) - k % 2, row_of n (k / (2 * n)) (k % (2 * n) / 2))
+-- the module at a place of rows
+abbrev pub module_in : List ℕ → ℕ → ℕ → Bool
+module_in rows x y = bit (slice_index rows y) x
 
 -- a module, if it is free
 abbrev pub bit_if : (is_free dark : Bool) → List Bool
 bit_if is_free dark = if is_free then dark ∷ [] else []
 
--- the module of the walk after k others, if it is free
-abbrev pub walked_bit : ℕ → (free modules : ℕ → ℕ → Bool) → ℕ → List Bool
-walked_bit n free modules k =
-    let place = place_at n k in bit_if (free place.0 place.1) (modules place.0 place.1)
+-- the free modules of a row in a column and in the next one, which is read first
+abbrev pub row_read : (free modules : ℕ → ℕ → Bool) → ℕ → ℕ → List Bool
+row_read free modules x y = bit_if (free (x + 1) y) (modules (x + 1) y) ++ bit_if (free x y) (modules x y)
+
+-- those of `count` rows of a strip, from row t on
+abbrev pub rows_read : Strip → (free modules : ℕ → ℕ → Bool) → ℕ → ℕ → List Bool
+rows_read strip free modules t count =
+    flat_map (λ t. row_read free modules strip.x (row_of strip.side strip.number t)) (range_with_len t count)
+
+-- where a bit of a row is set, the modules of that column are free in this row and in the three below it
+abbrev pub AreFourFree : ℕ → (free : List (List Bool)) → (fours : List ℕ) → Type 0
+AreFourFree n free fours =
+    (x y : ℕ) → y + 3 < n → module_in fours x y ≡ true → (k : ℕ) → k < 4 → value_at free x (y + k) ≡ true
 
 -- the level and the mask that the five highest bits of the format information name, the highest at place 0
 abbrev pub format_named : (ℕ → Bool) → Level × ℕ

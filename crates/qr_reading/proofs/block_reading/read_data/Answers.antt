@@ -32,9 +32,9 @@ sound_blocks-requires-clause-few c =
       omega (arith, ap sum lengths, holds.0, sound.all, sound.few_codewords),
     )
 
-pub bits_of_codewords-requires : goal.bits_of_codewords-requires
-bits_of_codewords-requires c =
-    let size = c.in_ok-message.ensures.len ∙ ap sum (c.deref.ensures.0 ∙ c.lengths-lengths.ensures)
+pub read_message-requires : goal.read_message-requires
+read_message-requires c =
+    let size = c.in-Some.ensures.len ∙ ap sum (c.deref.ensures.0 ∙ c.lengths-lengths.ensures)
     ∙ (lengths_hold c.args.version c.args.level).0 in
     omega (
       arith,
@@ -49,12 +49,13 @@ returns c =
     let k = ec_codewords_per_block version level in
     let lengths = block_lengths version level in
     let size = data_codewords version level in
-    let sound : Some c.in_ok-message.message.items
+    let sound : Some c.in-Some.message.items
     ≡ sound_blocks k lengths (replicate (length lengths) k) (take size codewords) (drop size codewords) = search rules in
-    let bits = c.deref-4.ensures.0 ∙ c.bits_of_codewords.ensures ∙ ap byte_bits c.deref-3.ensures.0 in
-    let all = c.in_ok-message.ensures.len ∙ ap sum (c.deref.ensures.0 ∙ c.lengths-lengths.ensures)
+    let message = c.deref-3.ensures.0 in
+    let all = c.in-Some.ensures.len ∙ ap sum (c.deref.ensures.0 ∙ c.lengths-lengths.ensures)
     ∙ (lengths_hold version level).0 in
-    let many : length c.deref-4.result.now ≡ 8 * size =
-    omega (arith, ap length bits, length-byte_bits c.in_ok-message.message.items, all) in
+    let many : length (byte_bits c.in-Some.message.items) ≡ 8 * size =
+    omega (arith, length-byte_bits c.in-Some.message.items, all) in
     rw (← data_in-blocks version level codewords (c.if-codewords-total_codewords.false ∙ c.total_codewords.ensures), ← sound)
-    (c.read_segments.ensures ∙ (λ i. segments_at version (many i) (bits i)))
+    (c.read_message.ensures ∙ ap (λ l. segments_at version (length (byte_bits l)) (byte_bits l)) message
+    ∙ ap (λ n. segments_at version n (byte_bits c.in-Some.message.items)) many)

@@ -23,15 +23,15 @@ loop-block-preserved c =
     record {
       all = rw pushed (sym (one_block c.args.count c.args.lengths.now c.args.ec_lengths.now c.args.codewords.now
           c.args.ec_codewords.now message _ _ c.loop-block.block _ c.loop-block-test.true
-          (c.deref.ensures.0 ∙ c.block_at-data.ensures.block)
-          (c.deref-in-loop-block.ensures.0 ∙ c.block_at-remainder.ensures.block)
+          (c.deref.ensures.0 ∙ c.write_block.ensures.block)
+          (c.deref-in-loop-block.ensures.0 ∙ c.write_block-in-loop-block.ensures.block)
           (search rules))) ∙ c.loop-block.invariant.all;
       room = omega (
         arith,
         ap length pushed,
         length-append message c.deref.result.now,
         ap length c.deref.ensures.0,
-        c.block_at-data.ensures.len,
+        c.write_block.ensures.len,
         sum_by-drop_more (λ x. x) c.args.lengths.now c.loop-block.block 0 c.loop-block-test.true,
         c.loop-block.invariant.room,
       );

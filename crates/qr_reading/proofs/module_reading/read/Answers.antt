@@ -8,7 +8,7 @@ returns-then-not-are_shown c =
     let m : ℕ → ℕ → Bool = λ x y. bit (slice_index c.args.rows.now y) x in
     rw (read_if_shown (length c.args.rows.now) m c.in_ok-version.version
     (sym c.version_of_side.ensures.found ∙ c.in_ok-version.was) _ _ _ false c.format_in-level.ensures
-    c.patterns-free.ensures (sym c.if-not-are_shown.true ∙ c.are_shown.ensures)) refl
+    c.draw_patterns.ensures (sym c.if-not-are_shown.true ∙ c.are_shown.ensures)) refl
 
 pub returns : goal.returns
 returns c =
@@ -19,5 +19,5 @@ returns c =
       codewords,
       read_if_shown (length c.args.rows.now) m c.in_ok-version.version
           (sym c.version_of_side.ensures.found ∙ c.in_ok-version.was) _ _ _ true c.format_in-level.ensures
-          c.patterns-free.ensures (sym c.if-not-are_shown.false ∙ c.are_shown.ensures),
+          c.draw_patterns.ensures (sym c.if-not-are_shown.false ∙ c.are_shown.ensures),
     ) refl

@@ -5,7 +5,7 @@ use Rattle.qr_reading.proofs.walk.unmasked.Goals as goal
 
 pub returns : goal.returns
 unfolding xor
-returns c =
-    let flipped = c.mask_row_bits.ensures c.args.x c.args.y c.requires.column (omega (arith, c.requires.row)) refl in
-    let both = xor_bit c.mask_row_bits.result (slice_index c.args.rows.now c.args.y) c.args.x in
+returns c = λ x wide.
+    let flipped = c.mask_row_bits.ensures x c.args.y wide (omega (arith, c.requires.0, c.requires.1)) refl in
+    let both = xor_bit c.mask_row_bits.result (slice_index c.args.rows.now c.args.y) x in
     grind (arith, flipped, both)

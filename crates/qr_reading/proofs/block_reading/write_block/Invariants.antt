@@ -2,7 +2,7 @@ use Rattle.std.proofs.Common.{◌≡◌, length, map}
 use Rattle.std.specs.Prelude.{slice_index}
 use Rattle.std.specs.List.{range_with_len}
 use Rattle.qrdata.specs.Reading.{interleaving_place}
-use Rattle.qr_reading.proofs.block_reading.block_at.Given as goal
+use Rattle.qr_reading.proofs.block_reading.write_block.Given as goal
 
 -- the codewords so far
 abbrev pub invariant-loop-place : goal.invariant-loop-place

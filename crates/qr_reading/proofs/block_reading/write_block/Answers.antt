@@ -2,7 +2,7 @@ use Rattle.std.proofs.Common.{rules, ◌≡◌, ℕ, arith, sym}
 use Rattle.std.specs.Prelude.{slice_index}
 use Rattle.std.proofs.lemmas.List.FromFn.{map-range_with_len_more}
 use Rattle.qrdata.specs.Reading.{interleaving_place}
-use Rattle.qr_reading.proofs.block_reading.block_at.Goals as goal
+use Rattle.qr_reading.proofs.block_reading.write_block.Goals as goal
 
 pub loop-place-preserved : goal.loop-place-preserved
 loop-place-preserved c =

@@ -1,7 +1,7 @@
 use Rattle.std.proofs.Common.{◌≡◌, ◌<◌, ◌&&◌, ℕ, length, get_or}
 use Rattle.std.specs.Prelude.{nat_lt}
 use Rattle.qrmatrix.specs.Bits.{bit}
-use Rattle.reading.proofs.squares.read_square.Given as goal
+use Rattle.reading.proofs.packed.Packed.of.Given as goal
 
 -- the rows so far are written
 abbrev pub invariant-loop-y : goal.invariant-loop-y

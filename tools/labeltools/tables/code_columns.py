@@ -1,0 +1,148 @@
+"""Which column of a table has the codes of labels, and whether these are of single things."""
+
+from collections.abc import Iterable, Mapping, Sequence
+from itertools import permutations
+
+from labeltools.tables.cell_kinds import ARTICLE
+from labeltools.tables.code_readings import (
+    CodeReading,
+    has_lost_zeros,
+    is_code,
+    is_isbn_10,
+    LEAST,
+)
+from labeltools.tables.column_samples import ColumnSample, Places, Plainness
+from labeltools.tables.title_columns import is_plain_name
+
+CODES = ("codes", "own-numbers")
+
+
+def code_columns(columns: Sequence[ColumnSample]) -> Places:
+    """Returns the columns that may have the codes: those of surely EAN or UPC and those that are
+    named so, else those with another number in each row. Of several the plain name is meant.
+    """
+    found = found_codes(columns)
+    numbers = number_columns(columns)
+    plain = [at for at in numbers if not columns[at].says("others")]
+    plain = [at for at in plain if not is_plain_name(columns[at])] or plain
+    books = [at for at in found if is_of_books(columns[at])]
+    rest = [at for at in plain if at not in books]
+    if books and found == books and rest:
+        one = columns[books[0]]
+        is_own = are_kept(columns) or one.filled < LEAST or one.differing < 1
+        if is_own or one.filled < 1:  # each book has a number of its own
+            return Places([*rest, *books], rest[0] if is_own and len(rest) == 1 else None)
+    first = min((code_rank(columns[at]) for at in found), default=0)
+    best = [at for at in found if code_rank(columns[at]) == first]
+    best = [at for at in best if columns[at].says("codes")] or best or plain
+    best = best or [*short_columns(columns)] or [*numbers]
+    if len(best) != 1:
+        return Places(best)
+    one = columns[best[0]]
+    is_other = one.says("others") - one.says("beside-codes") or one.filled < LEAST and rest
+    if found and is_other and rest:
+        return Places([*best, *(at for at in rest if at not in found)])
+    is_other = one.says("others") - one.says("numbers")
+    is_sure = found or one.filled >= LEAST and not is_other
+    return Places(found or best, best[0] if is_sure else None)
+
+
+def found_codes(columns: Sequence[ColumnSample]) -> Sequence[int]:
+    """Returns the columns of surely EAN or UPC, and beside them numbers of another kind that are
+    plainly named as codes; else all that are named so. Of a library the labels are meant.
+    """
+    sure: list[int] = []
+    own = []
+    for at, one in enumerate(columns):
+        is_constant = len(one.texts) > 1 == len(set(one.texts))  # as the number of one supplier
+        if (one.has(is_code) or has_lost_zeros(one.texts)) and not is_constant:
+            sure.append(at)
+        elif is_of_own_numbers(one) and not one.has(is_isbn_10):
+            own.append(at)
+    pairs = [both for both in permutations(sure, 2) if is_again(*(columns[at] for at in both))]
+    again = {at for at, it in pairs if at > it or (it, at) not in pairs}
+    named = [at for at, one in enumerate(columns) if one.texts and is_named_code(one)]
+    found = sorted({*sure, *own} - again) if sure else named
+    books = [at for at in found if is_of_books(columns[at])]
+    if sure and not {*sure} <= {*books, *again}:  # articles, whose own numbers are no codes
+        found = [at for at in found if at in sure or columns[at].says("codes")]
+    labels = [at for at in found if at in own and at not in books]
+    if labels and len(labels) + len(books) == len(found):
+        return [at for at in labels if columns[at].says("codes")] or labels
+    return found
+
+
+def number_columns(columns: Sequence[ColumnSample]) -> Sequence[int]:
+    """Returns the columns with another number of an article in each row."""
+    articles = [[*filter(ARTICLE.fullmatch, one.texts)] for one in columns]
+    return [
+        at
+        for at, texts in enumerate(articles)
+        if len(set(texts)) == len(texts) >= max(1, LEAST * len(columns[at].texts))
+    ]
+
+
+def short_columns(columns: Sequence[ColumnSample]) -> Sequence[int]:
+    """Returns the columns that are named as numbers, and have another one in each row: those first
+    of which the names do not say that they have something else, or only that it is an ID.
+    """
+    short = [at for at, one in enumerate(columns) if one.differing == 1 and one.says("numbers")]
+    plain = [at for at in short if not columns[at].says("others")]
+    ids = [at for at in short if not columns[at].says("others") - columns[at].says("numbers")]
+    return plain or ids or short
+
+
+def is_named_code(column: ColumnSample) -> bool:
+    """Returns whether a name says that it has codes, and not that these are of something else."""
+    return bool(column.says(*CODES)) and not column.says("others") - column.says("beside-codes")
+
+
+def code_rank(column: ColumnSample) -> Plainness:
+    """Returns how plainly a name says that it has codes, or numbers of single things."""
+    is_named = is_named_code(column)
+    return column.plainness(*CODES, "beside-codes") if is_named else Plainness.OF_SOME_KIND
+
+
+def is_of_own_numbers(column: ColumnSample) -> bool:
+    """Returns whether a column is plainly named as codes, and most rows have one of their own."""
+    is_plain = code_rank(column) is Plainness.PLAIN
+    return is_plain and column.differing == 1 and column.filled >= LEAST
+
+
+def is_of_books(column: ColumnSample) -> bool:
+    """Returns whether a name says that it has the numbers of books, and of nothing else."""
+    return bool(column.says("books")) and column.says("codes") <= column.says("books")
+
+
+def is_again(column: ColumnSample, other: ColumnSample) -> bool:
+    """Returns whether the codes of a column are those of another one, which has more or is named
+    more plainly; a UPC-A may be there as an EAN-13, too.
+    """
+    pairs = ((bare_code(a), bare_code(b)) for a, b in zip(column.cells, other.cells))
+    if not all(one in ("", whole) for one, whole in pairs):
+        return False
+    return (column.filled, -code_rank(column)) <= (other.filled, -code_rank(other))
+
+
+def bare_code(text: str) -> str:
+    """Returns a code without what separates its digits, and without zeros in front."""
+    return "".join(filter(str.isalnum, text)).lstrip("0")
+
+
+def are_single_things(ways: Mapping[int, CodeReading], columns: Sequence[ColumnSample]) -> bool:
+    """Returns whether columns that may have the codes say that each thing has a number of its own,
+    as copies of a book beside its ISBN; or others say that they are things of an inventory.
+    """
+    free = [columns[at] for at, way in ways.items() if not way.are_sure]
+    own = [one for one in free if is_named_code(one)]
+    if any(way.are_sure for way in ways.values()):
+        return 0 < len(own) < len(ways)
+    is_copy = own and any(map(is_of_books, columns))
+    return bool(is_copy) or any(one.says("own-numbers") for one in own) or are_kept(columns)
+
+
+def are_kept(columns: Iterable[ColumnSample]) -> bool:
+    """Returns whether columns say that things are kept or lent, and not that they are sold."""
+    columns = [one for one in columns if one.texts]
+    is_sold = any(one.says("sold") for one in columns)
+    return not is_sold and any(one.says("inventory") for one in columns)

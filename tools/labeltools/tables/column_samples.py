@@ -1,0 +1,110 @@
+"""Columns of a table by some of their cells, and what their names say in words that are known."""
+
+import re
+from collections.abc import Callable, Iterable, Sequence
+from dataclasses import dataclass, replace
+from enum import IntEnum
+from functools import cached_property
+from os.path import commonprefix
+from typing import NamedTuple
+
+from labeltools.tables.cell_kinds import is_money
+from labeltools.tables.code_readings import LEAST, passing_share
+from labeltools.tables.columns import NAME_WITH_DIGITS
+from labeltools.tables.name_words import column_words, words_in
+
+DIGITS = re.compile("[0-9]+")
+MANY = 6  # names that begin alike by no chance
+
+
+class Places(NamedTuple):
+    """The places of the columns that may be meant, and that of the one that surely is."""
+
+    may_be: Sequence[int]
+    surely: int | None = None
+    is_none: bool = False  # surely none of them
+    variants_of: int | None = None  # the column of what rows without a title are variants of
+    second: int | None = None  # the other part of the title, as a last name
+
+    @property
+    def is_asked(self) -> bool:
+        """Whether only the keeper knows the right one."""
+        return bool(self.may_be) and self.surely is None and not self.is_none
+
+
+class Plainness(IntEnum):
+    """What the name of a column says beside the words for a thing: nothing, a number as `Price 2`,
+    words that the name of the stock or of a cost has, too, or that it is of some kind.
+    """
+
+    PLAIN = 0
+    NUMBERED = 1
+    SHARED = 2
+    OF_SOME_KIND = 3
+
+
+@dataclass(frozen=True)
+class ColumnSample:
+    """A column: its name, its cells, and words of its name that others have, too, which it is no
+    kind of price for.
+    """
+
+    name: str
+    cells: Sequence[str] = ()
+    shared: frozenset[str] = frozenset()
+
+    @cached_property
+    def texts(self) -> Sequence[str]:
+        """Its cells that have a text."""
+        return [one for one in self.cells if one]
+
+    @property
+    def filled(self) -> float:
+        """The part of its cells that have a text."""
+        return len(self.texts) / max(1, len(self.cells))
+
+    @cached_property
+    def words(self) -> frozenset[str]:
+        """The words of its name, in small letters without accents."""
+        return frozenset(words_in(self.name))
+
+    def has(self, test: Callable[[str], object]) -> bool:
+        """Returns whether most of its texts pass a test; those that it refuses do not."""
+        return passing_share(self.texts, test) >= LEAST
+
+    @cached_property
+    def differing(self) -> float:
+        """The part of its texts that are not there before, which is 1 of a column of codes."""
+        return len(set(self.texts)) / max(1, len(self.texts))
+
+    def says(self, *kinds: str) -> frozenset[str]:
+        """Returns the words of its name that are in the lists of these kinds.
+
+        >>> sorted(ColumnSample("Einkaufspreis netto, VK, Aktion").says("cost", "net"))
+        ['einkaufspreis', 'netto']
+        """
+        lists = [column_words()[kind] for kind in kinds]
+        return frozenset(word for word in self.words if any(one.has(word) for one in lists))
+
+    def plainness(self, *kinds: str) -> Plainness:
+        """Returns how plainly its name says what it is by words of these kinds."""
+        more = self.words - self.says(*kinds)
+        if more:
+            return Plainness.SHARED if more <= self.shared else Plainness.OF_SOME_KIND
+        is_numbered = DIGITS.search(NAME_WITH_DIGITS.sub("", self.name))
+        return Plainness.NUMBERED if is_numbered else Plainness.PLAIN
+
+
+def samples_of(names: Sequence[str], cells: Iterable[Sequence[str]]) -> list[ColumnSample]:
+    """Returns columns by what is said in their names alone: not where all begin alike, nor the shop
+    in `Price Main Street` and `Stock Main Street`, nor what a cost is of, as `Purchase rate`.
+    """
+    start = commonprefix([one for one in names if one])
+    if len(names) < MANY and start[-1:].isalpha() or names.count("") == len(names) - 1:
+        start = ""
+    found = [ColumnSample(name[len(start) :], texts) for name, texts in zip(names, cells)]
+    stocks = (one for one in found if one.says("stock"))
+    shop = frozenset().union(*(one.words - one.says(*column_words()) for one in stocks))
+    costs = (one for one in found if one.texts and one.says("cost") and one.has(is_money))
+    shop = shop.union(*(one.words - one.says("cost") for one in costs))
+    return [replace(one, shared=shop & one.words) for one in found]

@@ -1,0 +1,125 @@
+"""Which column of a table has the titles of labels."""
+
+from collections.abc import Iterable, Mapping, Sequence
+
+from labeltools.tables.cell_kinds import has_letters, LETTER, LETTERS, TAG
+from labeltools.tables.code_readings import LEAST
+from labeltools.tables.column_samples import ColumnSample, Places, Plainness
+from labeltools.tables.variants import variants_in
+
+TITLES = ("titles", "parts", "articles", "descriptions")
+OF_TITLES = ("beside-titles", "languages", "short", "long")  # what their names may say beside that
+FAR = 1.5  # how often more cells of another column have a text
+Rank = tuple[int, Plainness]
+
+
+def title_columns(columns: Mapping[int, ColumnSample], keys: Sequence[Sequence[str]]) -> Places:
+    """Returns the columns that may have the title: those that are named so, and those with another
+    text in most rows. Those that say it most plainly are meant, and those that have it in far more
+    rows, but for variants, as the cells of keys say; of a short and a long text the first, and of
+    those that have numbers. A first and a last name are one title. What is of some kind is sure
+    only as the only name, and other texts only alone.
+    """
+    texts = {at: one for at, one in columns.items() if may_be_title(one)}
+    numbered = [at for at, one in columns.items() if at not in texts and is_plain_name(one)]
+    parts = [one for one in texts.values() if title_rank(one) == (1, Plainness.PLAIN)]
+    ranks = {at: rank_beside(one, parts) for at, one in texts.items()}
+    first = min(ranks.values(), default=())
+    if len(numbered) == 1 and first[:1] != (0,):  # as `PC-ACC-021`, which may be a name
+        plain = [at for at, one in texts.items() if one.says(*TITLES) and is_plain_title(one)]
+        return Places([*numbered, *plain], None if plain else numbered[0])
+    groups = {at: variants_in(one.cells, keys) for at, one in texts.items() if ranks[at] == first}
+    filled = max(
+        (1 if group is not None else texts[at].filled for at, group in groups.items()), default=1
+    )
+    best = [
+        at
+        for at, one in texts.items()
+        if ranks[at] == first or one.filled > (filled if one.says("titles") else FAR * filled)
+    ]
+    if any(texts[at].says("titles") for at in best):
+        best = [at for at in best if texts[at].says("titles") or not texts[at].says("descriptions")]
+    is_person = first == (1, Plainness.PLAIN) and not any(map(is_article, texts.values()))
+    if is_person and len(best) == 2:
+        return Places([at for at in texts if at != best[1]], best[0], second=best[1])
+    found = the_shortest(best, texts, first[:1] == (0,))
+    rest = [one for at, one in texts.items() if at not in found and not one.says("descriptions")]
+    is_some = rest and not is_plain_title(texts[found[0]])
+    is_part = first[:1] == (1,) and any(one.says("titles") for one in rest)  # as a family of plants
+    is_role = len(parts) > 1 and not all(texts[at].says("persons") for at in found)
+    if len(found) != 1 or is_some or is_part or is_role:
+        may_be = [at for at, one in texts.items() if one.says("titles") or at in best]
+        return Places(may_be if len(best) > 1 or is_part or is_role else [*texts])
+    may_be = [at for at, one in texts.items() if one.says(*TITLES) or at in found]
+    return Places(may_be, found[0], variants_of=groups.get(found[0]))
+
+
+def the_shortest(
+    best: Sequence[int], texts: Mapping[int, ColumnSample], are_named: bool
+) -> Sequence[int]:
+    """Returns which of columns have the titles, the long ones only where there are no other ones;
+    short ones are meant where none is plainly named. Of `Name 1` and `Name 2` the first one is.
+    """
+    short = [at for at in best if texts[at].says("short")]
+    plain = [at for at in best if not texts[at].says("short", "long")]
+    found = plain if plain and are_named else short or plain or best
+    return found[:1] if len({texts[at].words for at in found}) == 1 else found
+
+
+def may_be_title(column: ColumnSample) -> bool:
+    """Returns whether a column may have titles, by its name and by its texts."""
+    if column.says("others", "numbers", "own-numbers") - column.says("articles", "beside-titles"):
+        return False
+    if column.says("prices") and not column.says("titles") or column.has(TAG.fullmatch):
+        return False
+    differs = column.differing >= LEAST and column.has(LETTERS.search)
+    return column.has(has_letters) and (differs or title_rank(column)[0] in (0, 3))
+
+
+def title_rank(column: ColumnSample) -> Rank:
+    """Returns how plainly the name of a column says that it has titles: a name, a part of one, a
+    name of some kind or a description, the article's own before others; one of some kind; or
+    nothing. What is in one language is less plain.
+    """
+    plainness = column.plainness(*TITLES, *OF_TITLES)
+    if plainness is Plainness.PLAIN and column.says("languages"):
+        plainness = Plainness.NUMBERED
+    if column.says("parts"):
+        return 1, plainness
+    if column.says("titles") and is_plain_title(column):
+        return 0, plainness
+    if column.says("articles") and column.says("titles", "descriptions"):
+        return 2, Plainness.PLAIN
+    if column.says("titles"):
+        return 3, Plainness.PLAIN
+    if column.says(*TITLES):
+        return 3 if is_plain_title(column) else 4, plainness
+    return 5, Plainness.OF_SOME_KIND
+
+
+def rank_beside(column: ColumnSample, parts: Iterable[ColumnSample]) -> Rank:
+    """Returns the same beside parts of names: what has such a name, and not the part in it, is
+    another part.
+    """
+    rank = title_rank(column)
+    for part in parts if rank[0] == 0 and column.says("persons") else ():
+        pairs = [both for both in zip(part.cells, column.cells) if all(both)]
+        if 2 * sum(one in whole for one, whole in pairs) < len(pairs):
+            return 1, rank[1]
+    return rank
+
+
+def is_plain_title(column: ColumnSample) -> bool:
+    """Returns whether a name says that it has titles, and nothing of some other kind of them."""
+    return column.plainness(*TITLES, *OF_TITLES) is not Plainness.OF_SOME_KIND
+
+
+def is_plain_name(column: ColumnSample) -> bool:
+    """Returns whether a column plainly has names, and each cell is another one with a letter."""
+    is_name = title_rank(column) == (0, Plainness.PLAIN) and column.differing == 1
+    return is_name and column.has(LETTER.search)
+
+
+def is_article(column: ColumnSample) -> bool:
+    """Returns whether a column is plainly named for things, or texts about them."""
+    return is_plain_title(column) and bool(column.says("articles", "descriptions"))
