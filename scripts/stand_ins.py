@@ -6,6 +6,7 @@ that the crate has: a function that calls it is proved, or refused, as in the cr
 """
 
 import os
+import re
 from dataclasses import dataclass
 from typing import Collection, Iterable, Iterator
 
@@ -35,6 +36,14 @@ def name_of_holder(name: str) -> str:
     return of_type + trait
 
 
+def home_of(item: reader.Declaration, file: reader.File, path: str) -> str:
+    """Returns the path of the module that an `impl` counts in: of no trait that of its type, which the file may bring
+    in from another one."""
+    is_of_type = item.kind == "impl" and " for " not in item.name
+    found = re.search(rf"^use crate::([\w:]+)::(?:{{[^}}]*)?\b{item.name}\b", file.text, re.M) if is_of_type else None
+    return f"{found[1]}::" if found else path
+
+
 def functions_in(file: reader.File, items: Iterable[reader.Declaration], path: str) -> Iterator[Function]:
     """Yields the functions that items of a file have. Left out are `main`, those that call themselves, which are
     proved in the folder of their cycle, and those of an `impl` that is not the only one of its name, for which the kit
@@ -43,7 +52,8 @@ def functions_in(file: reader.File, items: Iterable[reader.Declaration], path: s
     holders = [item.name for item in items if item.kind in ("impl", "trait")]
     for item in items:
         if holders.count(item.name) == 1 and item.kind in ("impl", "trait"):
-            yield from functions_in(file, item.inner, f"{path}{name_of_holder(item.name)}::")
+            home = home_of(item, file, path)
+            yield from functions_in(file, item.inner, f"{home}{name_of_holder(item.name)}::")
         body = item.tokens[len(item.stated) :]
         is_alone = item.name != "main" and "cycle" not in [token.text for token in item.attributes]
         if item.kind == "fn" and is_alone and [token.text for token in body[:1]] == ["{"]:

@@ -413,6 +413,8 @@ fn called() {
         write(f"{folder}/src/lib.rt", ONE)
         write(f"{folder}/src/part.rt", self.PART)
         write(f"{folder}/src/main.rt", "fn main() {\n    one();\n}\n")
+        more = "use crate::part::{Other, Some};\n\nimpl Some {\n    fn three() -> u8 {\n        3\n    }\n}\n"
+        write(f"{folder}/src/more.rt", more)
         for function in ("Some/one", "Some/two", "SomeCounts/count"):
             write(f"{folder}/proofs/part/{function}/Answers.antt", "")
         stand_ins.put(self.folder, "small", ["part::Some::two"])
@@ -424,7 +426,7 @@ fn called() {
         self.assertIn("one();", read(f"{folder}/src/main.rt"))
         files = sources.files_below(f"{folder}/proofs", ".antt")
         proofs = [os.path.relpath(it, f"{folder}/proofs") for it in files]
-        holed = ["one", "part/Counts/is_one", "part/Some/one", "part/SomeCounts/count"]
+        holed = ["one", "part/Counts/is_one", "part/Some/one", "part/Some/three", "part/SomeCounts/count"]
         holes = [f"{it}/Proof.antt" for it in holed]
         self.assertEqual(proofs, sorted([*holes, "part/Some/two/Answers.antt"]))
         hole = read(f"{folder}/proofs/part/SomeCounts/count/Proof.antt")
