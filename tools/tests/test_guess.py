@@ -402,7 +402,9 @@ class Guesses(unittest.TestCase):
         rows = ["T-1001;Adler;Anna;Becker;Ben;8.00", "T-1002;Becker;Ben;Becker;Ben;8.00", ""]
         names = "Ticket code;Last name;First name;Buyer last name;Buyer first name;Price"
         said, done = self.proposed_and_run("\n".join([names, *rows]))
-        self.assertIn("as a ticket or a copy: give --price if there is one: Price\n", said)
+        self.assertIn(
+            "library books: give --price and its column if they have one, as Price\n", said
+        )
         self.assertIn("--code 'Ticket code' --title 'Last name' --title 'First name' --sym", said)
         self.assertIn(b'"title":"Adler\\nAnna"', done.stdout)
         for names, row, wanted, second in (

@@ -54,8 +54,9 @@ SIGNS = {"comma": ",", "point": ".", ",": ",", ".": "."}
 MOST_PROPOSED = 3  # commands
 MOST_NAMED = 8  # columns of which one is meant
 NO_PRICE = Text(
-    "no price is proposed, since each label is for a single thing, such as a ticket or a copy"
+    "no price is proposed, since these may be single things, such as tickets or library books"
 )
+PRICED = Remedy("price")
 OF_KINDS = {"code": Text("the code"), "title": Text("the title"), "price": Text("the price")}
 MOST_ALIKE = 50  # messages about rows that differ in their cells alone
 AS_IN_TABLE = Remedy("price-as", says=Text("As in the table"), is_less=True)
@@ -381,7 +382,7 @@ def say_of_others(guess: Guess) -> None:
                 found = words_for(guess, [guess.columns[kind]])
                 write_message(TOOL, Text("{} is {}; others: {}", name, found, others))
             elif kind == "price":
-                hint = Text("give {} if there is one: {}", Remedy("price"), others)
+                hint = Text("give {} and its column if they have one, as {}", PRICED, others)
                 write_message(TOOL, sentence(NO_PRICE, hint.in_window(NOTHING)))
 
 

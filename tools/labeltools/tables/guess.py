@@ -92,7 +92,7 @@ def guess(columns: Sequence[Sequence[str]], header: int, hidden: Container[int] 
     """Returns a guess from columns, each with its name in front, which may be empty."""
     names = [name for name, *_ in columns]
     seen = [("", *()) if at in hidden else one for at, one in enumerate(columns)]
-    cells = [[FORMULA_OF_TEXT.sub(r"\1", one.strip()) for one in it] for _, *it in seen]
+    cells = [[text_in(one) for one in it] for _, *it in seen]
     filled = samples_of([name for name, *_ in seen], cells)
     codes = code_columns(filled)
     prices = price_columns({at: one for at, one in enumerate(filled) if at not in codes.may_be})
@@ -123,6 +123,16 @@ def guess(columns: Sequence[Sequence[str]], header: int, hidden: Container[int] 
     return Guess(names, found, ways, header, examples, doubts, more, beside, price_as)
 
 
+def text_in(cell: str) -> str:
+    """Returns the text of a cell, without spaces around it, and of `="007"` what the formula keeps.
+
+    >>> text_in(' ="007"'), text_in('<a href="x">')
+    ('007', '<a href="x">')
+    """
+    kept = FORMULA_OF_TEXT.fullmatch(cell.strip())
+    return kept[1] if kept else cell.strip()
+
+
 def copies_columns(columns: Mapping[int, ColumnSample]) -> Places:
     """Returns the columns that are named as numbers of labels, and have such numbers."""
     named = {at: one for at, one in columns.items() if one.says("copies")}
@@ -140,9 +150,9 @@ def are_persons(titles: Places, columns: Sequence[ColumnSample]) -> bool:
 def are_sold(
     ways: Mapping[int, CodeReading], titles: Places, columns: Sequence[ColumnSample]
 ) -> bool:
-    """Returns whether a price is meant that is there: not of books that are lent, nor where several
-    things of a title have numbers of their own, or codes that are no EAN or UPC, unless it is
-    named as what customers pay.
+    """Returns whether the things are surely sold, so that their price is meant. Books that are lent
+    are not, nor things of one title with a number each, nor those whose codes are neither EAN nor
+    UPC, unless a price is named as what customers pay.
     """
     if any(is_of_books(columns[at]) for at in ways) and are_kept(columns):
         return False

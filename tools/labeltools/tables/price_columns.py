@@ -57,13 +57,12 @@ def price_columns(columns: Mapping[int, ColumnSample]) -> Places:
     meant = [at for at in left if ranks[at] == first or first[0] < ranks[at][0] <= rivals]
     one = paid[plainest[0]]
     moneys = {word[:3] for other in paid.values() for word in other.says("currencies")}
-    is_sure = len(meant) == 1 and charged(one) >= LEAST and one.has(is_paid)
-    is_sure = (
-        is_sure and not may_be_weight(one) and not (len(moneys) > 1 and one.says("currencies"))
-    )
+    is_of_several = len(moneys) > 1 and one.says("currencies")
+    are_prices = charged(one) >= LEAST and one.has(is_paid) and not may_be_weight(one)
+    is_named = first[0] is not PriceKind.UNNAMED
     if first[0] is PriceKind.OF_SOME_KIND:  # which a shop that says its costs sells for
-        is_sure = is_sure and any(it.says("cost") and it.has(is_amount) for it in may_be.values())
-    if is_sure and first[0] is not PriceKind.UNNAMED:
+        is_named = any(it.says("cost") and it.has(is_amount) for it in may_be.values())
+    if len(meant) == 1 and are_prices and is_named and not is_of_several:
         return Places([*may_be], plainest[0])
     return Places(sorted(left) if len(left) > 1 else [*may_be])
 

@@ -14,7 +14,7 @@ from labeltools.tables.columns import Column
 from labeltools.tables.once import Once
 from labeltools.tables.table_options import Columns
 
-# what programs call an article: no word as people write it
+# what programs call an article, as `a-1` or `10047`: no word or amount as people write it
 KEY = re.compile(r"(?=(?:.*[0-9]){3})[\w/:#-]+|(?=.*[a-z])[a-z0-9._-]+")
 
 
