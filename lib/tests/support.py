@@ -20,6 +20,7 @@ PROVED_ARM64 = Path(os.environ.get("PROVED_ARM64") or TOP / "crates/labels_c/out
 LIBDIR = "usr/lib/x86_64-linux-gnu"
 PYTHONDIR = "usr/lib/python3/dist-packages"
 PYTHON = "/usr/bin/python3"
+MYPY = (PYTHON, "-m", "mypy", "--strict", "--no-error-summary")
 
 
 def run(

@@ -8,7 +8,7 @@ import tempfile
 import unittest
 from pathlib import Path
 
-from support import LIB, PROGRAM, PYTHON, WithLibrary, run, text_of
+from support import LIB, MYPY, PROGRAM, PYTHON, WithLibrary, run, text_of
 
 EXAMPLES = LIB / "examples"
 STRICT = ("-O2", "-Wall", "-Wextra", "-pedantic", "-Werror")
@@ -199,8 +199,7 @@ with client.Labels() as labels:
         self.assertEqual((done.returncode, done.stderr), (2, b"labels has ended\n"))
 
     def test_types(self) -> None:
-        mypy = ("mypy", "--strict", "--no-error-summary", "--cache-dir", str(self.library.folder / "mypy"))
-        self.run_ok(*mypy, EXAMPLES / "client.py")
+        self.run_ok(*MYPY, "--cache-dir", self.library.folder / "mypy", EXAMPLES / "client.py")
 
     def test_traps_of_lines(self) -> None:
         """A line feed makes two labels, a comment none, a carriage return is data, and the order holds."""

@@ -7,7 +7,7 @@ import tempfile
 import unittest
 from pathlib import Path
 
-from support import LIB, PROGRAM, PYTHON, PYTHONDIR, WithLibrary, run
+from support import LIB, MYPY, PROGRAM, PYTHON, PYTHONDIR, WithLibrary, run
 
 LINES = 1000
 TESTS = LIB / "tests"
@@ -174,7 +174,7 @@ def names_of_codes() -> list[str]:
 
 class Module(WithLibrary):
     def test_types(self) -> None:
-        mypy = ("mypy", "--strict", "--no-error-summary", "--cache-dir", str(self.library.folder / "mypy"))
+        mypy = (*MYPY, "--cache-dir", self.library.folder / "mypy")
         self.run_ok(*mypy, LIB / "python/liblabels")
         self.assert_fails(*mypy, self.wrong_module("-> Symbol | None:", "-> Symbol:") / "liblabels")
 
@@ -190,10 +190,10 @@ class Module(WithLibrary):
             ("liblabels.draw('qr', 'x').encode()", False),
         ):
             (folder / "use.py").write_text(f"import liblabels\n{text}\n", encoding="utf-8")
-            self.assertEqual(run("mypy", "--strict", *python, folder / "use.py").returncode == 0, is_right)
+            self.assertEqual(run(*MYPY, *python, folder / "use.py").returncode == 0, is_right)
         (packages / "liblabels/py.typed").unlink()
         (folder / "use.py").write_text("import liblabels\n", encoding="utf-8")
-        self.assertNotEqual(run("mypy", "--strict", *python, folder / "use.py").returncode, 0)
+        self.assertNotEqual(run(*MYPY, *python, folder / "use.py").returncode, 0)
 
     def test_docstrings(self) -> None:
         self.run_ok(PYTHON, "-c", DOCSTRINGS)
