@@ -2,7 +2,7 @@
 
 from collections.abc import Iterable, Mapping, Sequence
 
-from labeltools.tables.cell_kinds import has_letters, LETTER, LETTERS, TAG
+from labeltools.tables.cell_kinds import has_letters, LETTER, LETTERS, SPACE, TAG
 from labeltools.tables.code_readings import LEAST
 from labeltools.tables.column_samples import ColumnSample, Places, Plainness
 from labeltools.tables.variants import variants_in
@@ -35,7 +35,7 @@ def title_columns(columns: Mapping[int, ColumnSample], keys: Sequence[Sequence[s
     best = [
         at
         for at, one in texts.items()
-        if ranks[at] == first or one.filled > (filled if one.says("titles") else FAR * filled)
+        if ranks[at] == first or one.filled > FAR * filled
     ]
     if any(texts[at].says("titles") for at in best):
         best = [at for at in best if texts[at].says("titles") or not texts[at].says("descriptions")]
@@ -58,12 +58,28 @@ def the_shortest(
     best: Sequence[int], texts: Mapping[int, ColumnSample], are_named: bool
 ) -> Sequence[int]:
     """Returns which of columns have the titles, the long ones only where there are no other ones;
-    short ones are meant where none is plainly named. Of `Name 1` and `Name 2` the first one is.
+    short ones are meant where none is plainly named. Of `Name 1` and `Name 2` the first one is, and
+    so is `Name DE` before `Name EN`: English is for others.
     """
     short = [at for at in best if texts[at].says("short")]
     plain = [at for at in best if not texts[at].says("short", "long")]
-    found = plain if plain and are_named else short or plain or best
-    return found[:1] if len({texts[at].words for at in found}) == 1 else found
+    is_between = any(texts[at].says("long") for at in best)  # of three the plain one
+    found = plain if plain and (are_named or is_between) else short or plain or best
+    for test in (is_full, has_spaces) if are_named else ():
+        found = [at for at in found if test(texts[at])] or found
+    is_english = any(texts[at].says("english") for at in found[:1])
+    known = () if is_english else ("languages",)
+    return found[:1] if len({texts[at].words - texts[at].says(*known) for at in found}) == 1 else found
+
+
+def is_full(column: ColumnSample) -> bool:
+    """Returns whether each row has a text."""
+    return column.filled == 1
+
+
+def has_spaces(column: ColumnSample) -> bool:
+    """Returns whether most texts are of several words, as names of articles are."""
+    return column.has(SPACE.search)
 
 
 def may_be_title(column: ColumnSample) -> bool:
@@ -73,7 +89,7 @@ def may_be_title(column: ColumnSample) -> bool:
     if column.says("prices") and not column.says("titles") or column.has(TAG.fullmatch):
         return False
     differs = column.differing >= LEAST and column.has(LETTERS.search)
-    return column.has(has_letters) and (differs or title_rank(column)[0] in (0, 3))
+    return column.has(has_letters) and (differs or title_rank(column)[0] in (0, 3, 4))
 
 
 def title_rank(column: ColumnSample) -> Rank:
@@ -91,10 +107,10 @@ def title_rank(column: ColumnSample) -> Rank:
     if column.says("articles") and column.says("titles", "descriptions"):
         return 2, Plainness.PLAIN
     if column.says("titles"):
-        return 3, Plainness.PLAIN
+        return 3 if column.differing >= LEAST else 4, Plainness.PLAIN
     if column.says(*TITLES):
-        return 3 if is_plain_title(column) else 4, plainness
-    return 5, Plainness.OF_SOME_KIND
+        return 3 if is_plain_title(column) else 5, plainness
+    return 6, Plainness.OF_SOME_KIND
 
 
 def rank_beside(column: ColumnSample, parts: Iterable[ColumnSample]) -> Rank:
