@@ -443,7 +443,7 @@ class Guesses(unittest.TestCase):
             ("바코드;상품명;판매가", "녹차", "cp949", "cp949"),
             (english, "Łosoś, żółty, mąka", "cp1250", "cp1250"),
             (english, "Crème", "cp1252", ""),  # or Crčme
-            ("EAN;Name;Price;Bin;Me", "Château Côte Cuvée", "cp1252", "cp1252"),
+            ("EAN;Name of the wine;Price (me)", "Château Côte Cuvée", "cp1252", "cp1252"),
             ("Stregkode;Varenavn;Pris", "Spærret", "cp1252", "cp1252"),  # no Spµrret of cp850
             (english, "Kőr", "cp1250", ""),  # or Kõr
             (english, "Мыло", "koi8-r", ""),
