@@ -55,7 +55,8 @@ def price_columns(columns: Mapping[int, ColumnSample]) -> Places:
     left = paid.keys() - {at for it, at in pairs if yields(paid[at], ranks[at][0], paid[it])}
     first = ranks[plainest[0]]
     rivals = PriceKind.ADVISED if first[0] is PriceKind.OWN else PriceKind.UNNAMED
-    meant = [at for at in left if ranks[at] == first or first[0] < ranks[at][0] <= rivals]
+    near = [at for at in plainest if ranks[at] == first or first[0] < ranks[at][0] <= rivals]
+    meant = [at for at in near if at in left]
     one = paid[plainest[0]]
     if first[1] is Plainness.NUMBERED and all(paid[at].words == one.words for at in meant):
         meant = meant[:1]

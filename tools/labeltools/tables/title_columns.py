@@ -65,7 +65,7 @@ def the_shortest(
     plain = [at for at in best if not texts[at].says("short", "long")]
     is_between = any(texts[at].says("long") for at in best)  # of three the plain one
     found = plain if plain and (are_named or is_between) else short or plain or best
-    for test in (is_full, has_spaces) if are_named else ():
+    for test in (is_full, has_spaces) if all(texts[at].says("titles") for at in found) else ():
         found = [at for at in found if test(texts[at])] or found
     is_english = any(texts[at].says("english") for at in found[:1])
     known = () if is_english else ("languages",)
