@@ -73,7 +73,7 @@ Zolltarifnr.;EAN;Art.-Nr.
 - code -
 Code article;Jeans;EAN;PU TTC
 V12 Denim;Bleu nuit;4006381333931;39,90
-- title code price
+- ?title code price
 Bestellnummer;Artikelnummer;Ware
 4500012345;M-10023;Kugellager
 ?code ?code title
@@ -772,6 +772,19 @@ class Codes(unittest.TestCase):
         found = guess([["Mittel-ID", "LAP00124", "LAP00125", "MON00310"], serial], 1)
         self.assertEqual(found.columns, {"code": 0})
 
+    def test_what_is_there_again_or_has_no_digit_is_no_code_of_a_single_thing(self) -> None:
+        """As the accession of several plants, and whether a bar code was printed."""
+        accession = ["Accession no", "1998-0231", "1998-0231", "2003-0011"]
+        item = ["Item full no", "1998-0231*1", "1998-0231*2", "2003-0011*1"]
+        found = guess([accession, item, ["Barcode printed", "No", "No", "Yes"]], 1)
+        self.assertEqual(found.columns, {"code": 1})
+
+    def test_an_id_is_the_code_only_alone(self) -> None:
+        found = guess([["ID (Barcodes)", *NUMBERS[0]], ["Barcode (Barcodes)", *CODES]], 1)
+        self.assertEqual(found.columns, {"code": 1})
+        found = guess([["Item ID", *NUMBERS[0]], ["Description", "Tea", "Book", "Gum"]], 1)
+        self.assertEqual(found.columns, {"code": 0, "title": 1})
+
     def test_of_old_books_with_few_isbns_their_own_numbers_are_meant(self) -> None:
         found = guess([["Book ID", "000412", "000413", "000431"], ["ISBN", CODES[0], "", ""]], 1)
         self.assertEqual(found.columns, {"code": 0})
@@ -819,9 +832,18 @@ class Codes(unittest.TestCase):
         self.assertEqual(found.columns.get("title"), 2)
 
     def test_a_title_that_few_rows_have_is_asked_about_beside_another_one(self) -> None:
-        few, all_of_them = ["Name", "Tea", "", ""], ["Web name", "Tea 1", "Tea 2", "Tea 3"]
-        found = guess([["EAN", *CODES], few, all_of_them], 1)
-        self.assertEqual(found.doubts, {"title": [1, 2]})
+        few = ["Name", "Tea", "", ""]
+        for name in ("Web name", "Description"):
+            found = guess([["EAN", *CODES], few, [name, "Tea 1", "Tea 2", "Tea 3"]], 1)
+            self.assertEqual(found.doubts, {"title": [1, 2]}, name)
+
+    def test_a_text_without_a_name_is_the_title_if_it_is_the_only_one(self) -> None:
+        jobs = [["Job", "HT-10482", "HT-10483", "HT-10484"], ["Bike", "Epic", "Domane", "TCR"]]
+        self.assertEqual(guess(jobs, 1).columns, {"code": 0, "title": 1})
+        kinds = ["Service type", "Major service", "Minor service", "Puncture"]
+        self.assertEqual(guess([*jobs, kinds], 1).doubts, {"title": [1]})
+        count = ["Quantity", "24 pieces", "60 pieces", "36 pieces"]  # which is no title
+        self.assertEqual(guess([*jobs[:1], count], 1).doubts, {})
 
     def test_names_that_are_there_again_are_no_articles(self) -> None:
         found = guessed("PLU;Artikel\n101;Gurke\nPLU;Artikel\n102;Tomate\nPLU;Artikel\n")
@@ -969,6 +991,8 @@ class Prices(unittest.TestCase):
             one, other = names.split(";")
             found = guess([codes, [one, *bare], [other, *whole]], 1)
             self.assertEqual(found.columns.get("price"), wanted, names)
+        reduced = [["Tag price", *whole], ["Current price", *whole[:2], "4.28", "6.40"]]
+        self.assertEqual(guess([codes, *reduced], 1).doubts, {"price": [1, 2]})
         of_stock = ["Total price", "10.00", "240.00", "5.00", "16.00"]
         self.assertEqual(guess([codes, ["Price", *bare], of_stock], 1).columns.get("price"), 1)
         whole = ["189", "259", "199", "349"]  # without decimals

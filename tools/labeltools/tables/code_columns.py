@@ -11,7 +11,7 @@ from labeltools.tables.code_readings import (
     is_isbn_10,
     LEAST,
 )
-from labeltools.tables.column_samples import ColumnSample, Places, Plainness
+from labeltools.tables.column_samples import ColumnSample, DIGITS, Places, Plainness
 from labeltools.tables.title_columns import is_plain_name
 
 CODES = ("codes", "own-numbers")
@@ -25,7 +25,7 @@ def code_columns(columns: Sequence[ColumnSample]) -> Places:
     books = [at for at in found if is_of_books(columns[at])]
     if books and found == books:
         one = columns[books[0]]
-        is_rare = one.filled < LEAST
+        is_rare = one.filled <= LEAST
         own = [at for at in plain if at not in books]
         own = own or [at for at in numbered_columns(columns) if is_rare and at not in books]
         is_own = are_kept(columns) or is_rare or one.differing < 1
@@ -35,9 +35,7 @@ def code_columns(columns: Sequence[ColumnSample]) -> Places:
     return the_code(columns, found, rest) if found else the_number(columns, plain)
 
 
-def the_code(
-    columns: Sequence[ColumnSample], found: Sequence[int], rest: Sequence[int]
-) -> Places:
+def the_code(columns: Sequence[ColumnSample], found: Sequence[int], rest: Sequence[int]) -> Places:
     """Returns the codes among columns that have some: those of the plainest name, if that says
     nothing else, and not few rows have one where the rest are numbers of a country.
     """
@@ -84,7 +82,7 @@ def found_codes(columns: Sequence[ColumnSample]) -> Sequence[int]:
             own.append(at)
     pairs = [both for both in permutations(sure, 2) if is_again(*(columns[at] for at in both))]
     again = {at for at, it in pairs if at > it or (it, at) not in pairs}
-    named = [at for at, one in enumerate(columns) if one.texts and is_named_code(one)]
+    named = [at for at, one in enumerate(columns) if is_named_code(one) and may_be_codes(one)]
     found = sorted({*sure, *own} - again) if sure else named
     books = [at for at in found if is_of_books(columns[at])]
     if sure and not {*sure} <= {*books, *again}:  # articles, whose own numbers are no codes
@@ -131,6 +129,11 @@ def is_named_code(column: ColumnSample) -> bool:
     return bool(column.says(*CODES)) and not column.says("others") - column.says("beside-codes")
 
 
+def may_be_codes(column: ColumnSample) -> bool:
+    """Returns whether most texts have a digit, and those of single things are all different."""
+    return column.has(DIGITS.search) and (column.says("codes") or column.differing == 1)
+
+
 def code_rank(column: ColumnSample) -> Plainness:
     """Returns how plainly a name says that it has codes, or numbers of single things."""
     is_named = is_named_code(column)
@@ -139,7 +142,7 @@ def code_rank(column: ColumnSample) -> Plainness:
 
 def is_of_own_numbers(column: ColumnSample) -> bool:
     """Returns whether a column is plainly named as codes, and most rows have one of their own."""
-    is_plain = code_rank(column) is Plainness.PLAIN
+    is_plain = code_rank(column) is Plainness.PLAIN and not column.says("ids")
     return is_plain and column.differing == 1 and column.filled >= LEAST
 
 

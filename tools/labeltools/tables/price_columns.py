@@ -135,16 +135,17 @@ def charged(column: ColumnSample) -> float:
 
 
 def is_taxed(column: ColumnSample, whole: ColumnSample) -> bool:
-    """Returns whether the prices of a column with a tax are those of another one, all at a rate or
-    two, and more of them than agree by chance.
+    """Returns whether the prices of a column with a tax are those of another one, most of them, at
+    a rate or two, and more than agree by chance. Where most are the same, some may be reduced.
     """
-    pairs = [both for both in amounts_of(column, whole) if both[0] != both[1]]
+    every = amounts_of(column, whole)
+    pairs = [both for both in every if both[0] != both[1]]
     left, found = pairs, []
     while left and len(found) < MOST_RATES - 1:
         dearest, taxed = max(left)
         found.append(min(RATES, key=lambda it: abs(dearest * it - taxed)))
         left = [both for both in left if not is_with(*both, found[-1])]
-    return not left and len(pairs) > len(found) > 0
+    return not left and len(pairs) > len(found) and 2 * len(pairs) > len(every)
 
 
 def is_with(bare: Decimal, whole: Decimal, rate: Decimal) -> bool:

@@ -9,7 +9,8 @@ from labeltools.tables.variants import variants_in
 
 TITLES = ("titles", "parts", "articles", "descriptions")
 OF_TITLES = ("beside-titles", "languages", "short", "long")  # what their names may say beside that
-FAR = 1.5  # how often more cells of another column have a text
+NO_TITLE = 6  # what the rank of a column begins with whose name says nothing of titles
+NEAR, FAR = 1.25, 1.5  # how often more cells of another column have a text
 Rank = tuple[int, Plainness]
 
 
@@ -18,7 +19,7 @@ def title_columns(columns: Mapping[int, ColumnSample], keys: Sequence[Sequence[s
     text in most rows. Those that say it most plainly are meant, and those that have it in far more
     rows, but for variants, as the cells of keys say; of a short and a long text the first, and of
     those that have numbers. A first and a last name are one title. What is of some kind is sure
-    only as the only name, and other texts only alone.
+    only as the only name, and another text only as the only one of the table.
     """
     texts = {at: one for at, one in columns.items() if may_be_title(one)}
     numbered = [at for at, one in columns.items() if at not in texts and is_plain_name(one)]
@@ -35,15 +36,20 @@ def title_columns(columns: Mapping[int, ColumnSample], keys: Sequence[Sequence[s
     best = [
         at
         for at, one in texts.items()
-        if ranks[at] == first or one.filled > FAR * filled
+        if ranks[at] == first or one.filled > (NEAR if one.says("titles") else FAR) * filled
     ]
-    if any(texts[at].says("titles") for at in best):
-        best = [at for at in best if texts[at].says("titles") or not texts[at].says("descriptions")]
+    names = [at for at in best if texts[at].says("titles")]
+    most = FAR * max((texts[at].filled for at in names), default=1)
+    if names:
+        long = [at for at in best if at not in names and texts[at].says("descriptions")]
+        best = [at for at in best if at not in long or texts[at].filled > most]
     is_person = first == (1, Plainness.PLAIN) and not any(map(is_article, texts.values()))
     if is_person and len(best) == 2:
         return Places([at for at in texts if at != best[1]], best[0], second=best[1])
     found = the_shortest(best, texts, first[:1] == (0,))
     rest = [one for at, one in texts.items() if at not in found and not one.says("descriptions")]
+    if first[:1] == (NO_TITLE,):  # which alone is a text
+        rest = [one for at, one in columns.items() if at not in found and has_spaces(one)]
     is_some = rest and not is_plain_title(texts[found[0]])
     is_part = first[:1] == (1,) and any(one.says("titles") for one in rest)  # as a family of plants
     is_role = len(parts) > 1 and not all(texts[at].says("persons") for at in found)
@@ -69,7 +75,9 @@ def the_shortest(
         found = [at for at in found if test(texts[at])] or found
     is_english = any(texts[at].says("english") for at in found[:1])
     known = () if is_english else ("languages",)
-    return found[:1] if len({texts[at].words - texts[at].says(*known) for at in found}) == 1 else found
+    return (
+        found[:1] if len({texts[at].words - texts[at].says(*known) for at in found}) == 1 else found
+    )
 
 
 def is_full(column: ColumnSample) -> bool:
@@ -79,12 +87,13 @@ def is_full(column: ColumnSample) -> bool:
 
 def has_spaces(column: ColumnSample) -> bool:
     """Returns whether most texts are of several words, as names of articles are."""
-    return column.has(SPACE.search)
+    return column.has(SPACE.search) and not column.has(TAG.fullmatch)
 
 
 def may_be_title(column: ColumnSample) -> bool:
     """Returns whether a column may have titles, by its name and by its texts."""
-    if column.says("others", "numbers", "own-numbers") - column.says("articles", "beside-titles"):
+    others = column.says("others", "stock", "numbers", "own-numbers")
+    if others - column.says("articles", "beside-titles"):
         return False
     if column.says("prices") and not column.says("titles") or column.has(TAG.fullmatch):
         return False
@@ -110,7 +119,7 @@ def title_rank(column: ColumnSample) -> Rank:
         return 3 if column.differing >= LEAST else 4, Plainness.PLAIN
     if column.says(*TITLES):
         return 3 if is_plain_title(column) else 5, plainness
-    return 6, Plainness.OF_SOME_KIND
+    return NO_TITLE, Plainness.OF_SOME_KIND
 
 
 def rank_beside(column: ColumnSample, parts: Iterable[ColumnSample]) -> Rank:
