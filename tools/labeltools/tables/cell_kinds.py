@@ -12,7 +12,7 @@ ARTICLE = re.compile(
     r"(?!\d{1,4}[./-]\d{1,2}[./-]\d{1,4}\Z)(?=(?:.*[0-9]){3})(?:(?=.*[A-Za-z])|(?=[^.]{5}))"
     r"[\w./-]{4,30}|\S+://\S+"
 )
-AMOUNT = re.compile("[0-9]{1,6}(?:[.,][0-9]+)?")
+AMOUNT = re.compile("[0-9]{1,8}(?:[.,][0-9]+)?")
 ABOVE_ZERO = re.compile("[1-9]")
 COUNT = re.compile("[0-9]{1,3}")
 ERROR = re.compile("#.+|Err:.+")  # of a spreadsheet, in place of a number
@@ -62,7 +62,7 @@ def is_money(text: str) -> bool:
     return price.decimals == 2 or bool(price.currency)
 
 
-def amount_of(text: str) -> Decimal | None:
+def price_in(text: str) -> Decimal | None:
     """Returns the amount of a price; None if it is none, or zero."""
     with suppress(RowError):
         return parse(text).value or None

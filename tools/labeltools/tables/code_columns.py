@@ -94,10 +94,11 @@ def found_codes(columns: Sequence[ColumnSample]) -> Sequence[int]:
 
 
 def plain_columns(columns: Sequence[ColumnSample]) -> Sequence[int]:
-    """Returns the columns with another number of an article in each row, of which the name does not
-    say that they have something else.
+    """Returns the columns with another number of an article in most rows, of which the name does
+    not say that they have something else.
     """
     numbers = [at for at in number_columns(columns) if not columns[at].says("others")]
+    numbers = [at for at in numbers if columns[at].filled >= LEAST]
     return [at for at in numbers if not is_plain_name(columns[at])] or numbers
 
 
@@ -131,7 +132,7 @@ def is_named_code(column: ColumnSample) -> bool:
 
 def may_be_codes(column: ColumnSample) -> bool:
     """Returns whether most texts have a digit, and those of single things are all different."""
-    return column.has(DIGITS.search) and (column.says("codes") or column.differing == 1)
+    return column.has(DIGITS.search) and (bool(column.says("codes")) or column.differing == 1)
 
 
 def code_rank(column: ColumnSample) -> Plainness:

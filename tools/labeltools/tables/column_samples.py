@@ -9,7 +9,7 @@ from functools import cached_property
 from os.path import commonprefix
 from typing import NamedTuple
 
-from labeltools.tables.cell_kinds import amount_of, is_money
+from labeltools.tables.cell_kinds import is_money, price_in
 from labeltools.tables.code_readings import LEAST, passing_share
 from labeltools.tables.columns import NAME_WITH_DIGITS
 from labeltools.tables.name_words import column_words, words_in
@@ -72,7 +72,7 @@ class ColumnSample:
     @cached_property
     def amounts(self) -> Sequence[Decimal | None]:
         """The amounts of money in its cells, but for zero."""
-        return [amount_of(one) for one in self.cells]
+        return [price_in(one) for one in self.cells]
 
     def has(self, test: Callable[[str], object]) -> bool:
         """Returns whether most of its texts pass a test; those that it refuses do not."""

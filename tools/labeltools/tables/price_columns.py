@@ -88,8 +88,8 @@ def may_be_price(column: ColumnSample) -> bool:
 
 def paid_columns(columns: Mapping[int, ColumnSample]) -> Mapping[int, ColumnSample]:
     """Returns the columns that may have what customers pay, of those that may have prices."""
-    priced = {at: one for at, one in columns.items() if not one.says("cost", "sale")}
-    pairs = [both for both in permutations(priced, 2) if is_taxed(*map(columns.get, both))]
+    priced = [at for at, one in columns.items() if not one.says("cost", "sale")]
+    pairs = [(at, it) for at, it in permutations(priced, 2) if is_taxed(columns[at], columns[it])]
     bare = {at for at, _ in pairs}
     whole = {at for _, at in pairs} - bare
     paid = {
@@ -140,7 +140,8 @@ def is_taxed(column: ColumnSample, whole: ColumnSample) -> bool:
     """
     every = amounts_of(column, whole)
     pairs = [both for both in every if both[0] != both[1]]
-    left, found = pairs, []
+    left = pairs
+    found: list[Decimal] = []
     while left and len(found) < MOST_RATES - 1:
         dearest, taxed = max(left)
         found.append(min(RATES, key=lambda it: abs(dearest * it - taxed)))

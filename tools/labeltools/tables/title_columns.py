@@ -30,19 +30,7 @@ def title_columns(columns: Mapping[int, ColumnSample], keys: Sequence[Sequence[s
         plain = [at for at, one in texts.items() if one.says(*TITLES) and is_plain_title(one)]
         return Places([*numbered, *plain], None if plain else numbered[0])
     groups = {at: variants_in(one.cells, keys) for at, one in texts.items() if ranks[at] == first}
-    filled = max(
-        (1 if group is not None else texts[at].filled for at, group in groups.items()), default=1
-    )
-    best = [
-        at
-        for at, one in texts.items()
-        if ranks[at] == first or one.filled > (NEAR if one.says("titles") else FAR) * filled
-    ]
-    names = [at for at in best if texts[at].says("titles")]
-    most = FAR * max((texts[at].filled for at in names), default=1)
-    if names:
-        long = [at for at in best if at not in names and texts[at].says("descriptions")]
-        best = [at for at in best if at not in long or texts[at].filled > most]
+    best = the_fullest(texts, groups)
     is_person = first == (1, Plainness.PLAIN) and not any(map(is_article, texts.values()))
     if is_person and len(best) == 2:
         return Places([at for at in texts if at != best[1]], best[0], second=best[1])
@@ -58,6 +46,26 @@ def title_columns(columns: Mapping[int, ColumnSample], keys: Sequence[Sequence[s
         return Places(may_be if len(best) > 1 or is_part or is_role else [*texts])
     may_be = [at for at, one in texts.items() if one.says(*TITLES) or at in found]
     return Places(may_be, found[0], variants_of=groups.get(found[0]))
+
+
+def the_fullest(
+    texts: Mapping[int, ColumnSample], groups: Mapping[int, int | None]
+) -> Sequence[int]:
+    """Returns the columns of the plainest names, each with the column of what its rows without a
+    text are variants of, and those that have a text in far more rows; of texts about articles
+    beside their names only these.
+    """
+    parts = (1 if group is not None else texts[at].filled for at, group in groups.items())
+    filled = max(parts, default=1)
+    best = [
+        at
+        for at, one in texts.items()
+        if at in groups or one.filled > (NEAR if one.says("titles") else FAR) * filled
+    ]
+    names = [at for at in best if texts[at].says("titles")]
+    most = FAR * max((texts[at].filled for at in names), default=0)
+    about = {at for at in best if at not in names and texts[at].says("descriptions")}
+    return [at for at in best if at not in about or texts[at].filled > most]
 
 
 def the_shortest(
