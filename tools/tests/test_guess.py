@@ -73,7 +73,7 @@ Zolltarifnr.;EAN;Art.-Nr.
 - code -
 Code article;Jeans;EAN;PU TTC
 V12 Denim;Bleu nuit;4006381333931;39,90
-- title code price
+- ?title code price
 Bestellnummer;Artikelnummer;Ware
 4500012345;M-10023;Kugellager
 ?code ?code title
@@ -362,6 +362,7 @@ class Guesses(unittest.TestCase):
         for names, others in (
             ("EAN;Name;Price;Price B2B;Staff price", "'Price B2B', 'Staff price'"),
             ("EAN;Name;VK;VK Kette;VK 2", "'VK Kette', 'VK 2'"),
+            ("EAN;Name;VK1;VK2;VK3", "VK2, VK3"),
             ("EAN;Name;Prix;Prix pro;Prix 10+", "'Prix pro', 'Prix 10+'"),
             ("EAN;Name;Preis brutto;Preis;EK", "Preis, EK"),  # the one with its tax is paid
         ):
@@ -372,7 +373,7 @@ class Guesses(unittest.TestCase):
             self.assertEqual(first, f"label-table: the price is {quoted}; others: {others}")
             self.assertIn(f"--code EAN --title Name --price {quoted} ", last)
             self.assertIn(b'"price":"4,95"', done.stdout)
-        for names in ("EAN;Name;Price;Sale price", "EAN;Name;Preis A;Preis B", "EAN;Name;VK1;VK2"):
+        for names in ("EAN;Name;Price;Sale price", "EAN;Name;Preis A;Preis B"):
             said, done = self.proposed_and_run(f"{names}\n{row[:-5]}\n")  # two that may be paid
             self.assertIn("; --price may be ", said, names)
             self.assertNotIn(b'"price"', done.stdout)
@@ -442,6 +443,8 @@ class Guesses(unittest.TestCase):
             ("바코드;상품명;판매가", "녹차", "cp949", "cp949"),
             (english, "Łosoś, żółty, mąka", "cp1250", "cp1250"),
             (english, "Crème", "cp1252", ""),  # or Crčme
+            ("EAN;Name of the wine;Price (me)", "Château Côte Cuvée", "cp1252", "cp1252"),
+            ("Stregkode;Varenavn;Pris", "Spærret", "cp1252", "cp1252"),  # no Spµrret of cp850
             (english, "Kőr", "cp1250", ""),  # or Kõr
             (english, "Мыло", "koi8-r", ""),
             (german, "Käse 12 ¤", "cp1252", ""),
@@ -521,7 +524,7 @@ class Guesses(unittest.TestCase):
             self.assertEqual("title" in found.columns, is_sure, names)
 
     def test_a_code_of_something_else_is_asked_about(self) -> None:
-        """Of a carton; or one that few rows have, where all have another number."""
+        """Of a carton; or one that few rows have, where all have a number of their country."""
         carton = [["Item no", *NUMBERS[1]], ["Carton EAN", *CODES]]
         self.assertEqual(guess(carton, 1).doubts, {"code": [1, 0]})
         plain = [["Item no", *NUMBERS[1]], ["EAN", *CODES], ["Carton EAN", *CODES[::-1]]]
@@ -531,6 +534,8 @@ class Guesses(unittest.TestCase):
         both = [["Ticket number", *NUMBERS[1]], ["Barcode", *NUMBERS[0]]]
         self.assertEqual(guess(both, 1).columns, {"code": 1})
         few = [["Item no", *NUMBERS[1]], ["EAN", CODES[0], "", ""]]
+        self.assertEqual(guess(few, 1).columns, {"code": 1})
+        few[0][0] = "PZN"
         self.assertEqual(guess(few, 1).doubts, {"code": [1, 0]})
         old = [["Book no", *NUMBERS[1]], ["ISBN", CODES[0], "", ""]]
         self.assertEqual(guess(old, 1).columns, {"code": 0})
@@ -677,7 +682,7 @@ PRICES = (
     ("Nom;EAN;Prix;Prix promo", 0),
     ("Désignation;Gencod;Prix de gros;Prix public", 4),
     ("Name;EAN;Preis;Versandkosten", 3),
-    ("Name;EAN;Preis 1;Preis 2", 0),
+    ("Name;EAN;Preis 1;Preis 2", 3),
     ("Name;EAN;Margin;Price", 4),
     ("Item;GTIN;Price ex. GST;Price inc. GST", 4),
     ("Gerät;EAN;Miete pro Tag;Kaufpreis", 4),
@@ -756,6 +761,34 @@ class Codes(unittest.TestCase):
         done = support.run_here("label-table", "--code", "Nr", input=text.encode())
         self.assertIn('most codes in column 1 ("Nr") have a wrong', support.messages(done)[-1])
 
+    def test_a_number_of_the_program_is_asked_about_beside_that_of_the_thing(self) -> None:
+        """Both are another one in each row; the keeper knows which one is on the thing."""
+        of_museum = ["1956.012", "1956.013a", "1971.104"]
+        for names in ("priref;Objektnummer", "Object record ID;Account object number"):
+            one, other = names.split(";")
+            found = guess([[one, "40012", "40013", "40014"], [other, *of_museum]], 1)
+            self.assertEqual(found.doubts, {"code": [0, 1]}, names)
+        serial = ["Seriennummer", "5CG1432XKJ", "5CG1432XKL", "CN0H7P2A"]
+        found = guess([["Mittel-ID", "LAP00124", "LAP00125", "MON00310"], serial], 1)
+        self.assertEqual(found.columns, {"code": 0})
+
+    def test_what_is_there_again_or_has_no_digit_is_no_code_of_a_single_thing(self) -> None:
+        """As the accession of several plants, and whether a bar code was printed."""
+        accession = ["Accession no", "1998-0231", "1998-0231", "2003-0011"]
+        item = ["Item full no", "1998-0231*1", "1998-0231*2", "2003-0011*1"]
+        found = guess([accession, item, ["Barcode printed", "No", "No", "Yes"]], 1)
+        self.assertEqual(found.columns, {"code": 1})
+
+    def test_an_id_is_the_code_only_alone(self) -> None:
+        found = guess([["ID (Barcodes)", *NUMBERS[0]], ["Barcode (Barcodes)", *CODES]], 1)
+        self.assertEqual(found.columns, {"code": 1})
+        found = guess([["Item ID", *NUMBERS[0]], ["Description", "Tea", "Book", "Gum"]], 1)
+        self.assertEqual(found.columns, {"code": 0, "title": 1})
+
+    def test_of_old_books_with_few_isbns_their_own_numbers_are_meant(self) -> None:
+        found = guess([["Book ID", "000412", "000413", "000431"], ["ISBN", CODES[0], "", ""]], 1)
+        self.assertEqual(found.columns, {"code": 0})
+
     def test_a_number_that_all_rows_share_is_no_code(self) -> None:
         for name in ("GLN Hersteller", "Depot"):
             shared = [name, *["4012345000009"] * 3]
@@ -774,7 +807,8 @@ class Codes(unittest.TestCase):
             ("Kurzbeschreibung;Titel", [2]),
             ("Item;Description", []),
             ("Bezeichnung 1;Bezeichnung 2", [1]),
-            ("Name DE;Name EN", []),
+            ("Name DE;Name EN", [1]),
+            ("Name EN;Name DE", []),
             ("Name;Name EN", [1]),
             ("Aufdruck;Merkmal", []),
         ):
@@ -784,10 +818,32 @@ class Codes(unittest.TestCase):
             self.assertEqual(said, wanted, names)
             self.assertEqual(found.doubts.get("title", [1, 2]), [1, 2], names)
 
+    def test_of_plain_names_the_one_of_all_rows_is_meant_or_the_one_of_words(self) -> None:
+        for name, other in (
+            (["Object name", "Quilt", "Churn", "Shoe"], ["Title", "Log Cabin Quilt", "", ""]),
+            (["Display name", "Tent, green", "Tent, red", "Stove"], ["Name", "T-G", "T-R", "KIT"]),
+        ):
+            found = guess([["Barcode", *CODES], other, name], 1)
+            self.assertEqual(found.columns.get("title"), 2, other)
+
+    def test_names_of_some_kind_that_are_there_again_are_no_titles(self) -> None:
+        maker = ["Main maker: Name", "Green", "Green", "Green"]
+        found = guess([["EAN", *CODES], maker, ["Description", "Tea", "Book", "Gum"]], 1)
+        self.assertEqual(found.columns.get("title"), 2)
+
     def test_a_title_that_few_rows_have_is_asked_about_beside_another_one(self) -> None:
-        few, all_of_them = ["Name", "Tea", "", ""], ["Web name", "Tea 1", "Tea 2", "Tea 3"]
-        found = guess([["EAN", *CODES], few, all_of_them], 1)
-        self.assertEqual(found.doubts, {"title": [1, 2]})
+        few = ["Name", "Tea", "", ""]
+        for name in ("Web name", "Description"):
+            found = guess([["EAN", *CODES], few, [name, "Tea 1", "Tea 2", "Tea 3"]], 1)
+            self.assertEqual(found.doubts, {"title": [1, 2]}, name)
+
+    def test_a_text_without_a_name_is_the_title_if_it_is_the_only_one(self) -> None:
+        jobs = [["Job", "HT-10482", "HT-10483", "HT-10484"], ["Bike", "Epic", "Domane", "TCR"]]
+        self.assertEqual(guess(jobs, 1).columns, {"code": 0, "title": 1})
+        kinds = ["Service type", "Major service", "Minor service", "Puncture"]
+        self.assertEqual(guess([*jobs, kinds], 1).doubts, {"title": [1]})
+        count = ["Quantity", "24 pieces", "60 pieces", "36 pieces"]  # which is no title
+        self.assertEqual(guess([*jobs[:1], count], 1).doubts, {})
 
     def test_names_that_are_there_again_are_no_articles(self) -> None:
         found = guessed("PLU;Artikel\n101;Gurke\nPLU;Artikel\n102;Tomate\nPLU;Artikel\n")
@@ -876,7 +932,7 @@ class Prices(unittest.TestCase):
         """Zeros, a weight, what is empty, and what a customer paid before."""
         codes, name = ["EAN", *CODES], ["Name", "Tea", "Book", "Gum"]
         for names, first, second, wanted in (
-            ("Retail price;Unit price", ["0.00"] * 3, HIGH, {"price": [3]}),
+            ("Retail price;Desk price", ["0.00"] * 3, HIGH, {"price": [3]}),
             ("Brutto;Web price", ["0,25", "0,35", "1,05"], HIGH, {"price": [2, 3]}),
             ("Price;Cost price", [""] * 3, [""] * 3, {}),
         ):
@@ -889,6 +945,13 @@ class Prices(unittest.TestCase):
             self.assertEqual(found.columns.get("price"), 2, few)
         found = guess([codes, name, ["Preço", *LOW], ["PVP", *HIGH]], 1)  # which has the tax
         self.assertEqual(found.columns.get("price"), 3)
+
+    def test_the_usual_price_yields_to_one_that_is_never_above_it(self) -> None:
+        """As a program has it that keeps the crossed price beside the one of today."""
+        codes, usual = ["EAN", *CODES], ["Standard price", *HIGH]
+        for price, wanted in ((LOW, 1), (HIGH, 1), (["99.00", *HIGH[1:]], None)):
+            found = guess([codes, ["Price", *price], usual], 1)
+            self.assertEqual(found.columns.get("price"), wanted, price)
 
     def test_an_advised_price_yields_to_the_same_amounts(self) -> None:
         codes = ["EAN", *CODES]
@@ -913,8 +976,8 @@ class Prices(unittest.TestCase):
                 found = guess([["EAN", *CODES], [sold, *other], [advised, *dear]], 1)
                 self.assertEqual(found.doubts, {"price": [1, 2]}, sold)
 
-    def test_a_sum_is_the_price_if_its_amounts_are_those_with_a_tax(self) -> None:
-        """Else it is a sum of several, and where no name says it the keeper knows it."""
+    def test_what_has_the_amounts_of_another_price_with_a_tax_is_the_price(self) -> None:
+        """Even where its name says that it is a sum; else that is one of several."""
         codes = ["EAN", *CODES, "96385074"]
         bare, whole = ["10.00", "20.00", "5.00", "8.00"], ["11.90", "23.80", "5.35", "8.00"]
         for names, wanted in (
@@ -922,12 +985,14 @@ class Prices(unittest.TestCase):
             ("Prix;Prix total", 2),
             ("Cena;Cena razem", 2),
             ("Price;Total value", 1),
-            ("Price;Retail price", None),
+            ("Price;Retail price", 2),
             ("Price;Sale price", None),
         ):
             one, other = names.split(";")
             found = guess([codes, [one, *bare], [other, *whole]], 1)
             self.assertEqual(found.columns.get("price"), wanted, names)
+        reduced = [["Tag price", *whole], ["Current price", *whole[:2], "4.28", "6.40"]]
+        self.assertEqual(guess([codes, *reduced], 1).doubts, {"price": [1, 2]})
         of_stock = ["Total price", "10.00", "240.00", "5.00", "16.00"]
         self.assertEqual(guess([codes, ["Price", *bare], of_stock], 1).columns.get("price"), 1)
         whole = ["189", "259", "199", "349"]  # without decimals

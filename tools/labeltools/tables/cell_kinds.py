@@ -1,7 +1,6 @@
 """What the text of a cell may be: a number of an article, a name, an amount of money, a count."""
 
 import re
-from collections.abc import Sequence
 from contextlib import suppress
 from decimal import Decimal
 
@@ -13,13 +12,14 @@ ARTICLE = re.compile(
     r"(?!\d{1,4}[./-]\d{1,2}[./-]\d{1,4}\Z)(?=(?:.*[0-9]){3})(?:(?=.*[A-Za-z])|(?=[^.]{5}))"
     r"[\w./-]{4,30}|\S+://\S+"
 )
-AMOUNT = re.compile("[0-9]{1,6}(?:[.,][0-9]+)?")
+AMOUNT = re.compile("[0-9]{1,8}(?:[.,][0-9]+)?")
 ABOVE_ZERO = re.compile("[1-9]")
 COUNT = re.compile("[0-9]{1,3}")
 ERROR = re.compile("#.+|Err:.+")  # of a spreadsheet, in place of a number
 FIGURES = re.compile(r"[\W_]*[0-9][\W\d_]*")  # a date or an amount, which is no name
 LETTER = re.compile(r"[^\W\d_]")
 LETTERS = re.compile(r"(?:[^\W\d][\W\d]*){3}")  # those that a title has
+SPACE = re.compile(r"\S\s+\S")
 TAG = re.compile(r"\s*<[a-z][^<>]*>.*", re.DOTALL | re.IGNORECASE)  # what HTML begins with
 
 
@@ -62,10 +62,8 @@ def is_money(text: str) -> bool:
     return price.decimals == 2 or bool(price.currency)
 
 
-def amounts_of(some: Sequence[str], others: Sequence[str]) -> set[tuple[Decimal, Decimal]]:
-    """Returns the amounts of two columns that are in the same rows."""
-    pairs = set()
-    for one, other in zip(some, others):
-        with suppress(RowError):
-            pairs.add((parse(one).value, parse(other).value))
-    return pairs
+def price_in(text: str) -> Decimal | None:
+    """Returns the amount of a price; None if it is none, or zero."""
+    with suppress(RowError):
+        return parse(text).value or None
+    return None

@@ -11,7 +11,7 @@ from labeltools.tables.code_readings import (
     is_isbn_10,
     LEAST,
 )
-from labeltools.tables.column_samples import ColumnSample, Places, Plainness
+from labeltools.tables.column_samples import ColumnSample, DIGITS, Places, Plainness
 from labeltools.tables.title_columns import is_plain_name
 
 CODES = ("codes", "own-numbers")
@@ -21,30 +21,51 @@ def code_columns(columns: Sequence[ColumnSample]) -> Places:
     """Returns the columns that may have the codes: those of surely EAN or UPC and those that are
     named so, else those with another number in each row. Of several the plain name is meant.
     """
-    found = found_codes(columns)
-    numbers = number_columns(columns)
-    plain = [at for at in numbers if not columns[at].says("others")]
-    plain = [at for at in plain if not is_plain_name(columns[at])] or plain
+    found, plain = found_codes(columns), plain_columns(columns)
     books = [at for at in found if is_of_books(columns[at])]
-    rest = [at for at in plain if at not in books]
-    if books and found == books and rest:
+    if books and found == books:
         one = columns[books[0]]
-        is_own = are_kept(columns) or one.filled < LEAST or one.differing < 1
-        if is_own or one.filled < 1:  # each book has a number of its own
-            return Places([*rest, *books], rest[0] if is_own and len(rest) == 1 else None)
-    first = min((code_rank(columns[at]) for at in found), default=0)
+        is_rare = one.filled <= LEAST
+        own = [at for at in plain if at not in books]
+        own = own or [at for at in numbered_columns(columns) if is_rare and at not in books]
+        is_own = are_kept(columns) or is_rare or one.differing < 1
+        if own and (is_own or one.filled < 1):  # each book has a number of its own
+            return Places([*own, *books], own[0] if is_own and len(own) == 1 else None)
+    rest = [at for at in plain if at not in found]
+    return the_code(columns, found, rest) if found else the_number(columns, plain)
+
+
+def the_code(columns: Sequence[ColumnSample], found: Sequence[int], rest: Sequence[int]) -> Places:
+    """Returns the codes among columns that have some: those of the plainest name, if that says
+    nothing else, and not few rows have one where the rest are numbers of a country.
+    """
+    first = min(code_rank(columns[at]) for at in found)
     best = [at for at in found if code_rank(columns[at]) == first]
-    best = [at for at in best if columns[at].says("codes")] or best or plain
-    best = best or [*short_columns(columns)] or [*numbers]
+    best = [at for at in best if columns[at].says("codes")] or best
     if len(best) != 1:
         return Places(best)
     one = columns[best[0]]
-    is_other = one.says("others") - one.says("beside-codes") or one.filled < LEAST and rest
-    if found and is_other and rest:
-        return Places([*best, *(at for at in rest if at not in found)])
-    is_other = one.says("others") - one.says("numbers")
-    is_sure = found or one.filled >= LEAST and not is_other
-    return Places(found or best, best[0] if is_sure else None)
+    is_national = any(columns[at].says("national") for at in rest)
+    is_rare = one.filled < LEAST and (is_national or not is_named_code(one))
+    if rest and (is_rare or one.says("others") - one.says("beside-codes")):
+        return Places([*best, *rest])
+    return Places(found, best[0])
+
+
+def the_number(columns: Sequence[ColumnSample], plain: Sequence[int]) -> Places:
+    """Returns the numbers of articles that are the codes where none are EAN or UPC: those of which
+    the name says so and no more, or the only ones.
+    """
+    numbered = numbered_columns(columns)
+    named = [at for at in numbered if columns[at].says(*CODES) or not is_of_other(columns[at])]
+    best = plain or named or numbered or number_columns(columns)
+    if len(best) != 1:
+        return Places(best)
+    one = columns[best[0]]
+    is_plain = one.says("numbers") and not one.says("others")
+    others = best if is_plain else sorted({*best, *named})
+    is_sure = one.filled >= LEAST and not is_of_other(one) and len(others) == 1
+    return Places(others, best[0] if is_sure else None)
 
 
 def found_codes(columns: Sequence[ColumnSample]) -> Sequence[int]:
@@ -61,7 +82,7 @@ def found_codes(columns: Sequence[ColumnSample]) -> Sequence[int]:
             own.append(at)
     pairs = [both for both in permutations(sure, 2) if is_again(*(columns[at] for at in both))]
     again = {at for at, it in pairs if at > it or (it, at) not in pairs}
-    named = [at for at, one in enumerate(columns) if one.texts and is_named_code(one)]
+    named = [at for at, one in enumerate(columns) if is_named_code(one) and may_be_codes(one)]
     found = sorted({*sure, *own} - again) if sure else named
     books = [at for at in found if is_of_books(columns[at])]
     if sure and not {*sure} <= {*books, *again}:  # articles, whose own numbers are no codes
@@ -70,6 +91,15 @@ def found_codes(columns: Sequence[ColumnSample]) -> Sequence[int]:
     if labels and len(labels) + len(books) == len(found):
         return [at for at in labels if columns[at].says("codes")] or labels
     return found
+
+
+def plain_columns(columns: Sequence[ColumnSample]) -> Sequence[int]:
+    """Returns the columns with another number of an article in most rows, of which the name does
+    not say that they have something else.
+    """
+    numbers = [at for at in number_columns(columns) if not columns[at].says("others")]
+    numbers = [at for at in numbers if columns[at].filled >= LEAST]
+    return [at for at in numbers if not is_plain_name(columns[at])] or numbers
 
 
 def number_columns(columns: Sequence[ColumnSample]) -> Sequence[int]:
@@ -82,19 +112,27 @@ def number_columns(columns: Sequence[ColumnSample]) -> Sequence[int]:
     ]
 
 
-def short_columns(columns: Sequence[ColumnSample]) -> Sequence[int]:
-    """Returns the columns that are named as numbers, and have another one in each row: those first
-    of which the names do not say that they have something else, or only that it is an ID.
+def numbered_columns(columns: Sequence[ColumnSample]) -> Sequence[int]:
+    """Returns the columns that are named as numbers or codes, and have another one in each row."""
+    kinds = ("numbers", *CODES)
+    return [at for at, one in enumerate(columns) if one.differing == 1 and one.says(*kinds)]
+
+
+def is_of_other(column: ColumnSample) -> bool:
+    """Returns whether a name says that it has something else than numbers, or those of something
+    else; to be an ID alone is no such thing.
     """
-    short = [at for at, one in enumerate(columns) if one.differing == 1 and one.says("numbers")]
-    plain = [at for at in short if not columns[at].says("others")]
-    ids = [at for at in short if not columns[at].says("others") - columns[at].says("numbers")]
-    return plain or ids or short
+    return bool(column.says("others") - column.says("ids"))
 
 
 def is_named_code(column: ColumnSample) -> bool:
     """Returns whether a name says that it has codes, and not that these are of something else."""
     return bool(column.says(*CODES)) and not column.says("others") - column.says("beside-codes")
+
+
+def may_be_codes(column: ColumnSample) -> bool:
+    """Returns whether most texts have a digit, and those of single things are all different."""
+    return column.has(DIGITS.search) and (bool(column.says("codes")) or column.differing == 1)
 
 
 def code_rank(column: ColumnSample) -> Plainness:
@@ -105,7 +143,7 @@ def code_rank(column: ColumnSample) -> Plainness:
 
 def is_of_own_numbers(column: ColumnSample) -> bool:
     """Returns whether a column is plainly named as codes, and most rows have one of their own."""
-    is_plain = code_rank(column) is Plainness.PLAIN
+    is_plain = code_rank(column) is Plainness.PLAIN and not column.says("ids")
     return is_plain and column.differing == 1 and column.filled >= LEAST
 
 

@@ -3,12 +3,13 @@
 import re
 from collections.abc import Callable, Iterable, Sequence
 from dataclasses import dataclass, replace
+from decimal import Decimal
 from enum import IntEnum
 from functools import cached_property
 from os.path import commonprefix
 from typing import NamedTuple
 
-from labeltools.tables.cell_kinds import is_money
+from labeltools.tables.cell_kinds import is_money, price_in
 from labeltools.tables.code_readings import LEAST, passing_share
 from labeltools.tables.columns import NAME_WITH_DIGITS
 from labeltools.tables.name_words import column_words, words_in
@@ -68,6 +69,11 @@ class ColumnSample:
         """The words of its name, in small letters without accents."""
         return frozenset(words_in(self.name))
 
+    @cached_property
+    def amounts(self) -> Sequence[Decimal | None]:
+        """The amounts of money in its cells, but for zero."""
+        return [price_in(one) for one in self.cells]
+
     def has(self, test: Callable[[str], object]) -> bool:
         """Returns whether most of its texts pass a test; those that it refuses do not."""
         return passing_share(self.texts, test) >= LEAST
@@ -108,3 +114,9 @@ def samples_of(names: Sequence[str], cells: Iterable[Sequence[str]]) -> list[Col
     costs = (one for one in found if one.texts and one.says("cost") and one.has(is_money))
     shop = shop.union(*(one.words - one.says("cost") for one in costs))
     return [replace(one, shared=shop & one.words) for one in found]
+
+
+def amounts_of(column: ColumnSample, other: ColumnSample) -> set[tuple[Decimal, Decimal]]:
+    """Returns the amounts of two columns that are in the same rows."""
+    pairs = zip(column.amounts, other.amounts)
+    return {(one, another) for one, another in pairs if one and another}

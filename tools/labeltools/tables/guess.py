@@ -142,9 +142,7 @@ def copies_columns(columns: Mapping[int, ColumnSample]) -> Places:
 
 def are_persons(titles: Places, columns: Sequence[ColumnSample]) -> bool:
     """Returns whether the titles are the names of persons, as those of tickets are."""
-    if titles.second is not None:
-        return True
-    return titles.surely is None and any(columns[at].says("parts") for at in titles.may_be)
+    return titles.second is not None or any(columns[at].says("parts") for at in titles.may_be)
 
 
 def are_sold(

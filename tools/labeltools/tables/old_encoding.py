@@ -36,11 +36,12 @@ MOST_ODD = 0.05  # the part of the words of a sensible reading that nobody write
 MOST_TRIED = 2000  # words
 MOST_SHOWN = 3
 LEAST_NAMES = 2  # of columns, that are known words of a language by no chance
+LEAST_PART = 0.25  # of their words, which one alone is by no chance
 LAST_LATIN = "\u024f"
 # signs that stand at letters where these were read badly
 AT_LETTERS = re.compile(
     r"""´|(?<=[^\W\d_])[‚„]|(?<=[^\W\d_])[–‘](?=[^\W\d_])
-    |[€£¥](?=[^\W\d_])|(?<=[a-moz])[ºª]|[ºª](?=[a-z])|^’[^\0-~]""",
+    |[€£¥](?=[^\W\d_])|(?<=[^\W\d_])µ|(?<=[a-moz])[ºª]|[ºª](?=[a-z])|^’[^\0-~]""",
     re.VERBOSE,
 )
 ALONE = "àèéóåøöíÀÈÉØÅÖ"  # letters that are words of their own, or signs
@@ -183,9 +184,9 @@ def languages_of(
     best: dict[int, set[str]] = {}
     for reading in readings:
         words = names_by(data, name, options, reading.encodings[0])
-        if words:
-            for language, known in words_of_languages().items():
-                count = sum(map(known.has, words))
+        for language, known in words_of_languages().items():
+            count = sum(map(known.has, words))
+            if count >= min(LEAST_NAMES, LEAST_PART * len(words)):
                 best.setdefault(count, set()).add(language)
     most = max(best, default=0)
     return best[most] & LANGUAGES.keys() if most else ()

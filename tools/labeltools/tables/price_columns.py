@@ -3,11 +3,10 @@
 from collections.abc import Mapping
 from decimal import Decimal
 from enum import IntEnum
-from itertools import combinations
+from itertools import combinations, permutations
 
 from labeltools.tables.cell_kinds import (
     ABOVE_ZERO,
-    amounts_of,
     ERROR,
     has_currency,
     is_amount,
@@ -16,11 +15,13 @@ from labeltools.tables.cell_kinds import (
     is_paid,
 )
 from labeltools.tables.code_readings import LEAST, passing_share
-from labeltools.tables.column_samples import ColumnSample, Places, Plainness
+from labeltools.tables.column_samples import amounts_of, ColumnSample, Places, Plainness
+from labeltools.tables.money import WORDS
 
 PAID = ("prices", "taxed", "paid", "sold", "currencies", "beside-prices")  # words of a plain price
-MOST_RATES = 3  # of a tax in a table
-MOST_TAXED = Decimal("1.3")  # what a price with its tax is of the one without
+RATES = [1 + Decimal(one) / 100 for one in WORDS["tax-rates"]]
+MOST_RATES = 3  # of a tax in a table, zero among them
+ROUNDED = Decimal("0.012"), Decimal("0.0001")  # what rounding may change, and a part that it may
 LEAST_PAID = Decimal("0.67")  # what customers pay of what the maker advises
 LAST_DIGITS = (0, 5, 9)  # of the prices of shops, in cents
 
@@ -54,8 +55,11 @@ def price_columns(columns: Mapping[int, ColumnSample]) -> Places:
     left = paid.keys() - {at for it, at in pairs if yields(paid[at], ranks[at][0], paid[it])}
     first = ranks[plainest[0]]
     rivals = PriceKind.ADVISED if first[0] is PriceKind.OWN else PriceKind.UNNAMED
-    meant = [at for at in left if ranks[at] == first or first[0] < ranks[at][0] <= rivals]
+    near = [at for at in plainest if ranks[at] == first or first[0] < ranks[at][0] <= rivals]
+    meant = [at for at in near if at in left]
     one = paid[plainest[0]]
+    if first[1] is Plainness.NUMBERED and all(paid[at].words == one.words for at in meant):
+        meant = meant[:1]
     moneys = {word[:3] for other in paid.values() for word in other.says("currencies")}
     is_of_several = len(moneys) > 1 and one.says("currencies")
     are_prices = charged(one) >= LEAST and one.has(is_paid) and not may_be_weight(one)
@@ -84,11 +88,14 @@ def may_be_price(column: ColumnSample) -> bool:
 
 def paid_columns(columns: Mapping[int, ColumnSample]) -> Mapping[int, ColumnSample]:
     """Returns the columns that may have what customers pay, of those that may have prices."""
-    whole = {at for at, one in columns.items() if any(is_sum(one, it) for it in columns.values())}
+    priced = [at for at, one in columns.items() if not one.says("cost", "sale")]
+    pairs = [(at, it) for at, it in permutations(priced, 2) if is_taxed(columns[at], columns[it])]
+    bare = {at for at, _ in pairs}
+    whole = {at for _, at in pairs} - bare
     paid = {
         at: one
         for at, one in columns.items()
-        if at in whole or not one.says("cost", "totals", "net")
+        if at in whole or at not in bare and not one.says("cost", "totals", "net")
     }
     if any(one.says("prices") for one in paid.values()):
         paid = {at: one for at, one in paid.items() if not may_be_weight(one)}
@@ -113,7 +120,9 @@ def price_rank(column: ColumnSample) -> tuple[PriceKind, Plainness, bool]:
 
 def yields(column: ColumnSample, kind: PriceKind, other: ColumnSample) -> bool:
     """Returns whether prices of some kind are none beside others that are more plainly some."""
-    if column.cells == other.cells:
+    is_reduced = column.says("regular") and not other.says("regular", "sale")
+    pairs = amounts_of(other, column)
+    if column.cells == other.cells or is_reduced and all(one <= before for one, before in pairs):
         return True
     if kind is PriceKind.ADVISED and is_paid_beside(other, column):
         return True
@@ -125,22 +134,32 @@ def charged(column: ColumnSample) -> float:
     return passing_share(column.cells, is_charged)
 
 
-def is_sum(column: ColumnSample, bare: ColumnSample) -> bool:
-    """Returns whether a column is named as the sum of other prices and their tax, and has these
-    amounts.
+def is_taxed(column: ColumnSample, whole: ColumnSample) -> bool:
+    """Returns whether the prices of a column with a tax are those of another one, most of them, at
+    a rate or two, and more than agree by chance. Where most are the same, some may be reduced.
     """
-    if not (column.says("totals") and column.says("prices", "priced")) or bare.says("cost"):
-        return False
-    pairs = amounts_of(bare.cells, column.cells)
-    is_more = any(one < other for one, other in pairs)
-    return is_more and all(one <= other <= MOST_TAXED * one for one, other in pairs)
+    every = amounts_of(column, whole)
+    pairs = [both for both in every if both[0] != both[1]]
+    left = pairs
+    found: list[Decimal] = []
+    while left and len(found) < MOST_RATES - 1:
+        dearest, taxed = max(left)
+        found.append(min(RATES, key=lambda it: abs(dearest * it - taxed)))
+        left = [both for both in left if not is_with(*both, found[-1])]
+    return not left and len(pairs) > len(found) and 2 * len(pairs) > len(every)
+
+
+def is_with(bare: Decimal, whole: Decimal, rate: Decimal) -> bool:
+    """Returns whether a price is another one with a tax, rounded."""
+    cents, part = ROUNDED
+    return abs(bare * rate - whole) <= max(cents, part * whole)
 
 
 def is_paid_beside(column: ColumnSample, advised: ColumnSample) -> bool:
     """Returns whether customers may pay the prices of a column: most are round and not above those
     that are advised, nor far below, as those for other shops are.
     """
-    pairs = [both for both in amounts_of(column.cells, advised.cells) if all(both)]
+    pairs = amounts_of(column, advised)
     near = [one for one, other in pairs if LEAST_PAID * other < one <= other]
     return 2 * sum(one * 100 % 10 in LAST_DIGITS for one in near) > len(pairs)
 
