@@ -68,7 +68,7 @@ def one():
 
 def four(two, b, c, d, e, f, *g):
 {BRANCHES}    try:
-        four('{WIDE * 'x'}')
+        four('{NARROW * 'x'}')
     except:
         pass
 """

@@ -11,7 +11,7 @@ import subprocess
 import sys
 import tempfile
 import unittest
-from typing import Callable, Iterable, Sequence
+from typing import Sequence
 from unittest import mock
 
 TOP = os.path.dirname(os.path.dirname(os.path.dirname(os.path.abspath(__file__))))
@@ -95,62 +95,44 @@ def prepare() -> None:
     bases.definitions_of_clap([])
 
 
+@functools.cache
+def copied() -> str:
+    """A copy of the repository for all tests of a file, each of which undoes its changes."""
+    prepare()
+    folder = tempfile.mkdtemp(prefix="test-copy-")
+    unittest.addModuleCleanup(shutil.rmtree, folder)
+    left_out = (f"--exclude={name}" for name in ("out", ".git", "__pycache__", "wrong-bodies"))
+    with subprocess.Popen(["tar", "-c", "-C", TOP, *left_out, "."], stdout=subprocess.PIPE) as files:
+        subprocess.run(["tar", "-x", "-C", folder], stdin=files.stdout, check=True)
+    return folder
+
+
 class InCopy(unittest.TestCase):
-    """Tests in a copy of the repository, in which each undoes its changes."""
-
-    folder: str
-
-    @classmethod
-    def setUpClass(cls) -> None:
-        prepare()
-        cls.folder = os.path.join(tempfile.mkdtemp(prefix="test-copy-"), "labels")
-        cls.addClassCleanup(shutil.rmtree, os.path.dirname(cls.folder))
-        shutil.copytree(TOP, cls.folder, ignore=shutil.ignore_patterns("out", ".git", "__pycache__"))
+    """Tests in a copy of the repository."""
 
     def path(self, *names: str) -> str:
-        return os.path.join(self.folder, *names)
+        return os.path.join(copied(), *names)
 
     def judged(self, name: str, *arguments: str) -> tuple[int, str]:
         """The status of a script over the copy, and all that it prints."""
-        return in_copy(self.folder, name, *arguments)
-
-    def move(self, old: str, new: str) -> None:
-        """Renames a file or folder until the end of this test."""
-        os.rename(self.path(old), self.path(new))
-        self.addCleanup(os.rename, self.path(new), self.path(old))
+        return in_copy(copied(), name, *arguments)
 
     def replace(self, file: str, text: str) -> None:
         """Writes a file until the end of this test."""
-        if os.path.exists(self.path(file)):
-            self.addCleanup(write, self.path(file), read(self.path(file)))
-        else:
-            self.addCleanup(os.remove, self.path(file))
+        self.addCleanup(write, self.path(file), read(self.path(file)))
         write(self.path(file), text)
 
-    def assert_all_seen(
-        self, changes: Iterable[tuple[str, str, str, str]], judge: Callable[[], tuple[int, str]]
-    ) -> None:
-        """Changes of files, made together, make `judge` end with 1 and say what each of them is to make it say."""
+    def fails(self, step: str, *changes: tuple[str, str, str, str]) -> str:
+        """What a step says, which has to fail, where files are changed together, each by a new text in the place of
+        the first old one, or at its end: it has to say what is last of each change."""
         texts: dict[str, str] = {}
         for file, old, new, _ in changes:
             text = texts.get(file) or read(self.path(file))
             self.assertIn(old, text)
-            texts[file] = text.replace(old, new, 1)
+            texts[file] = text.replace(old, new, 1) if old else text + new
         for file, text in texts.items():
             self.replace(file, text)
-        status, said = judge()
-        self.assertEqual((status, [wanted for *_, wanted in changes if wanted not in said]), (1, []), said)
+        status, said = self.judged(*step.split())
         self.doCleanups()
-
-    def assert_changes_fail(
-        self, changes: Iterable[tuple[str, str, str, str]], fails: Callable[[], tuple[int, str]]
-    ) -> None:
-        """Each change of a file, `new` in the place of the first `old`, makes `fails` end with 1 and say a text."""
-        for file, old, new, said in changes:
-            with self.subTest(file=file, old=old, new=new):
-                text = read(self.path(file))
-                self.assertIn(old, text)
-                self.replace(file, text.replace(old, new, 1))
-                status, printed = fails()
-                self.assertEqual((status, said in printed), (1, True), printed)
-            self.doCleanups()
+        self.assertEqual((status, [wanted for *_, wanted in changes if wanted not in said]), (1, []), said)
+        return said

@@ -15,7 +15,7 @@ import unittest
 from typing import Any, Callable, Iterable, Iterator
 from unittest import mock
 
-from support import SCRIPTS, TOP, InCopy, InFolder, in_copy, module, read, run, run_command, write
+from support import SCRIPTS, TOP, InFolder, in_copy, module, read, run, run_command, write
 
 compare_symbols = module("compare_symbols")
 read_foreign = module("read_foreign")
@@ -618,81 +618,6 @@ class Instructions(unittest.TestCase):
                 with contextlib.redirect_stderr(said), self.assertRaises(SystemExit) as ended:
                     instructions.one_more(program, instructions.EAN)
             self.assertEqual((ended.exception.code, wanted in said.getvalue()), (2, True), said.getvalue())
-
-
-# Two lemmas of which the second cites the first, and one in a module whose `where` is on a line of its own.
-CHAIN = """
-pub never : ℕ → ℕ
-never n = never n
-
-above : ℕ → ℕ
-above n = never n
-"""
-IN_MODULE = """
-next : ℕ → ℕ
-next n = n + 1
-
-module _ (a : ℕ)
-    (b : ℕ)
-  where
-    pub next-is : next a ≡ a + 1
-    next-is = refl
-"""
-DEFINITION = """
--- as itself
-pub same : ℕ → ℕ
-same n = n
-"""
-POWERS, MUL = "crates/gf256/proofs/PowerLaws.antt", "crates/gf256/proofs/field/mul/Answers.antt"
-FIELD, WORDS = "crates/gf256/src/field.rt", "crates/gf256/specs/Polynomial.antt"
-# What is planted in a file in the place of a text, or at its end, and what is found there.
-PLANTED = (
-    (POWERS, "", CHAIN, ("nothing uses the lemma never", "nothing uses the lemma above")),
-    (POWERS, "", IN_MODULE, ("nothing uses the lemma next", "nothing uses the lemma next-is")),
-    (POWERS, "", "\npub nil : 0 + 0 ≡ 0\nnil = refl\n", ("nothing uses the lemma nil",)),
-    (POWERS, "", "\npub cited : ℕ\ncited = 0\n", ("nothing uses the lemma cited",)),
-    (POWERS, "◌+◌, ", "◌+◌, ◌/◌, ", ("the imported name ◌/◌ is not used",)),
-    (MUL, "\n", "\nuse Rattle.gf256.proofs.PowerLaws.{cited}\n", ("the imported name cited is not used",)),
-    (WORDS, "", DEFINITION, ("nothing uses the definition same",)),
-    (FIELD, "◌<◌}", "◌<◌, ◌*◌}", ("the imported name ◌*◌ is not used",)),
-    (FIELD, "alpha, ", "alpha, twice, ", ("the imported name twice is not used",)),
-    (FIELD, "use crate", "use std::io::{ErrorKind};\nuse crate", ("the imported name ErrorKind is not used",)),
-    (FIELD, "use crate", "use device::{Sink};\nuse crate", ("the imported name Sink is not used",)),
-    (FIELD, "", "\nfn lonely() {\n    lonely()\n}\n", ("nothing calls the function lonely",)),
-    (FIELD, "", "\npub fn one() -> u8 {\n    1\n}\n", ("nothing calls the function one",)),
-    (FIELD, "", "\nimpl Alpha {\n    fn idle() {}\n}\n", ("nothing calls the function idle",)),
-    (FIELD, "", "\ntrait Rests {\n    fn slumber() {}\n}\n", ("nothing calls the function slumber",)),
-    (FIELD, "", "\nmod inner {\n    fn within() {}\n}\n", ("nothing calls the function within",)),
-)
-
-
-class Unused(InCopy):
-    """What is planted in a copy of the repository and used by nothing is found, and nothing else."""
-
-    def test_planted(self) -> None:
-        texts = {file: read(self.path(file)) for file, *_ in PLANTED}
-        for file, old, new, _ in PLANTED:
-            self.assertIn(old, texts[file])
-            texts[file] = texts[file].replace(old, new, 1) if old else texts[file] + new
-        for file, text in texts.items():
-            self.replace(file, text)
-        status, said = self.judged("unused.py")
-        *lines, last = said.rstrip("\n").split("\n")
-        found = []
-        for file, number, text in (line.split(":", 2) for line in lines):
-            self.assertIn(text.split(" ")[-1 if "nothing" in text else 4], texts[file].split("\n")[int(number) - 1])
-            found.append(file + text)
-        wanted = [f"{file} {text}" for file, *_, texts in PLANTED for text in texts]
-        self.assertEqual((status, sorted(found)), (1, sorted(wanted)))
-        self.assertTrue(last.endswith(f": {len(wanted)} unused"), said)
-
-    def test_what_cannot_be_read(self) -> None:
-        """A file of which the kit can make no words; no crate at all."""
-        self.replace(FIELD, "fn one() ensures { 1 ")
-        self.assertEqual(self.judged("unused.py")[0], 1)
-        self.move("crates", "boxes")
-        self.replace("crates.txt", "")
-        self.assertEqual(self.judged("unused.py")[0], 1)
 
 
 if __name__ == "__main__":
