@@ -7,7 +7,6 @@ import importlib.util
 import io
 import os
 import re
-import shutil
 import signal
 import subprocess
 import sys
@@ -225,8 +224,8 @@ class Gate(InFolder):
         path = self.path("bin/rt") if name == "rt" else self.path("scripts", name)
         write(path, f"#!/bin/sh\n{text}", is_program=name == "rt")
 
-    def judged(self, steps: Iterable[str], kept: Mapping[str, str], processors: int = 2) -> tuple[int, str]:
-        """What the gate says of stand-ins on so many processors, where these lines are kept."""
+    def command(self, steps: Iterable[str], kept: Mapping[str, str], processors: int = 2) -> list[str]:
+        """The command of the gate over stand-ins on so many processors, where these lines are kept."""
         write(self.path("scripts/counts.txt"), "".join(f"{it}: {kept[it]}\n" for it in kept if kept[it]))
         for name, old, new in (
             ("gate.py", "PROCESSORS = len(os.sched_getaffinity(0))", f"PROCESSORS = {processors}"),
@@ -235,8 +234,12 @@ class Gate(InFolder):
             text = read(os.path.join(SCRIPTS, name))
             self.assertIn(old, text)
             write(self.path("scripts", name), text.replace(old, new))
+        return [PYTHON, self.path("scripts/gate.py"), *steps]
+
+    def judged(self, steps: Iterable[str], kept: Mapping[str, str], processors: int = 2) -> tuple[int, str]:
+        """What the gate then says."""
         path = f"{self.path('bin')}:{os.environ['PATH']}"
-        return run_command([PYTHON, self.path("scripts/gate.py"), *steps], PATH=path)
+        return run_command(self.command(steps, kept, processors), PATH=path)
 
     def test_steps(self) -> None:
         gate = module("gate")
@@ -288,7 +291,8 @@ class Gate(InFolder):
         text = "import os, time\nprint('begun', os.fork(), flush=True)\ntime.sleep(99)\n"
         write(self.path("scripts/hangs.py"), text)
         with mock.patch.object(gate, "LONGEST", 9.0), mock.patch.object(gate.sources, "TOP", self.folder):
-            status, said, taken = gate.run("hangs.py")
+            write(gate.path_of("hangs.py"), "")
+            status, said, taken = gate.run("hangs.py", gate.command_of("hangs.py", False))
         self.assertEqual((status, said.split("\n")[-2]), (-9, "it took longer than 9 seconds, and was ended"))
         self.assertGreaterEqual(taken, 9)
         (started,) = {*re.findall(r"begun (\d+)", said)} - {"0"}
@@ -298,18 +302,14 @@ class Gate(InFolder):
         self.assertFalse(is_alive(started))
 
     def test_a_signal_ends_the_step_too(self) -> None:
-        write(self.path("scripts/lints.py"), "import time\nprint('begun', flush=True)\ntime.sleep(9999)\n")
-        write(self.path("scripts/counts.txt"), "")
-        for name in ("gate.py", "sources.py"):
-            shutil.copy(os.path.join(SCRIPTS, name), self.path("scripts", name))
-        with subprocess.Popen([PYTHON, self.path("scripts/gate.py"), "lints.py"], stdout=subprocess.PIPE) as gate:
-            said = self.path("out/steps/lints-py.txt")
-            while not os.path.exists(said) or not read(said):
+        self.step("lints.py", "echo $$\nsleep 9999\n")
+        said = self.path("out/steps/lints-py.txt")
+        with subprocess.Popen(self.command(["lints.py"], {}), stdout=subprocess.PIPE) as gate:
+            while not os.path.exists(said) or not read(said).endswith("\n"):
                 time.sleep(0.01)
-            children = read(f"/proc/{gate.pid}/task/{gate.pid}/children").split()
             gate.terminate()
             self.assertEqual(gate.wait(), 128 + signal.SIGTERM)
-        self.assertEqual([is_alive(child) for child in children], [False])
+        self.assertFalse(is_alive(read(said).strip()))
 
     def test_start(self) -> None:
         for words, variables, changed, status, said in STARTS:
