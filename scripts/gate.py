@@ -128,6 +128,9 @@ def judged(step: str, result: Future[tuple[int, str, float]], kept: dict[str, st
     """Waits for a step, and prints what it says where it failed, or else its last line. Returns its status, or 1 where
     that line is another one than is kept; `writes` keeps it."""
     used = processor_seconds()
+    # A signal that comes just before a wait without an end would not end it.
+    while not result.done():
+        time.sleep(0.05)
     status, said, taken = result.result()
     last = VARIES.sub("", said.rstrip("\n").split("\n")[-1])
     if writes and status == 0:

@@ -1,4 +1,8 @@
-"""What the tests of the scripts share: runs of a script, a folder of its own, a copy of the repository."""
+"""What the tests of the scripts share: how a command is run, a folder of its own, a copy of the repository.
+
+They are run by `python3 -m unittest discover -s scripts/tests`. The kit is needed; no third-party tool and no built
+program is: where a script calls one, a stand-in of a few lines is put on the path.
+"""
 
 import contextlib
 import functools
@@ -6,40 +10,20 @@ import importlib
 import io
 import os
 import shutil
-import stat
 import subprocess
 import sys
 import tempfile
 import unittest
-from typing import Sequence
+from typing import Callable
 from unittest import mock
 
-TOP = os.path.dirname(os.path.dirname(os.path.dirname(os.path.abspath(__file__))))
-SCRIPTS = os.path.join(TOP, "scripts")
-# Debian's Python, as the gate runs the scripts.
-PYTHON = "/usr/bin/python3"
-sys.path.insert(0, SCRIPTS)
+sys.path.insert(0, os.path.dirname(os.path.dirname(os.path.abspath(__file__))))
 # A script of scripts/ as a module, by its name.
 module = importlib.import_module
-
-
-def run_command(command: Sequence[str], **environment: str) -> tuple[int, str]:
-    """A command's status and all that it prints."""
-    ran = subprocess.run(
-        command,
-        cwd="/",
-        env={**os.environ, **environment},
-        stdin=subprocess.DEVNULL,
-        stdout=subprocess.PIPE,
-        stderr=subprocess.STDOUT,
-        text=True,
-    )
-    return ran.returncode, ran.stdout
-
-
-def run(script: str, *arguments: str, **environment: str) -> tuple[int, str]:
-    """The status of a script of scripts/ and all that it prints."""
-    return run_command([PYTHON, os.path.join(SCRIPTS, script), *arguments], **environment)
+sources = module("sources")
+TOP, PYTHON, SCRIPTS = sources.TOP, sources.PYTHON, f"{sources.TOP}/scripts"
+read: Callable[[str], str] = sources.read
+run_command: Callable[..., tuple[int, str]] = functools.partial(sources.run, folder="/")
 
 
 def in_copy(folder: str, name: str, *arguments: str) -> tuple[int, str]:
@@ -47,7 +31,7 @@ def in_copy(folder: str, name: str, *arguments: str) -> tuple[int, str]:
     which has read the files before: it reads what is changed in the copy."""
     said = io.StringIO()
     words = mock.patch.object(sys, "argv", [name, *arguments])
-    with mock.patch.object(module("sources"), "TOP", folder), words:
+    with mock.patch.object(sources, "TOP", folder), words:
         with contextlib.redirect_stdout(said), contextlib.redirect_stderr(said):
             os.chdir(folder)
             try:
@@ -60,17 +44,10 @@ def in_copy(folder: str, name: str, *arguments: str) -> tuple[int, str]:
     return status, said.getvalue()
 
 
-def read(path: str) -> str:
-    with open(path, encoding="utf-8") as file:
-        return file.read()
-
-
 def write(path: str, text: str, is_program: bool = False) -> None:
-    os.makedirs(os.path.dirname(path), exist_ok=True)
-    with open(path, "w", encoding="utf-8") as file:
-        file.write(text)
+    sources.write(path, text)
     if is_program:
-        os.chmod(path, os.stat(path).st_mode | stat.S_IXUSR)
+        os.chmod(path, 0o755)
 
 
 class InFolder(unittest.TestCase):
@@ -85,20 +62,8 @@ class InFolder(unittest.TestCase):
 
 
 @functools.cache
-def prepare() -> None:
-    """Reads the files of the crates, before processes of their own run the tests: what is changed in a copy is read
-    again."""
-    sources, reader, bases = module("sources"), module("reader"), module("bases")
-    for file in reader.files_of(TOP, sources.crates_of(TOP), "specs", "proofs", "src"):
-        for one in file.declarations:
-            file.cited_by(one)
-    bases.definitions_of_clap([])
-
-
-@functools.cache
 def copied() -> str:
     """A copy of the repository for all tests of a file, each of which undoes its changes."""
-    prepare()
     folder = tempfile.mkdtemp(prefix="test-copy-")
     unittest.addModuleCleanup(shutil.rmtree, folder)
     left_out = (f"--exclude={name}" for name in ("out", ".git", "__pycache__", "wrong-bodies"))

@@ -1,7 +1,4 @@
-"""What comes of changes of definitions, by stand-ins of the prover.
-
-Run by `python3 -m unittest discover -s scripts/tests`. The kit is needed, and no built program.
-"""
+"""What comes of changes of definitions, by stand-ins of the prover."""
 
 import contextlib
 import io
@@ -169,7 +166,3 @@ class Sample(unittest.TestCase):
             left = changes.with_values(file, worked[-1:])
             self.assertEqual([name for name, text in texts.items() if text not in left], worked[:-1])
             self.assertEqual((changes.with_values(file, worked), changes.with_values(file, ["gone"])), (file.text, ""))
-
-
-if __name__ == "__main__":
-    unittest.main()

@@ -1,11 +1,7 @@
-"""What is taken away, planted or written otherwise in a copy of the repository makes a script fail, which says what.
-
-Run by `python3 -m unittest discover -s scripts/tests`. The kit is needed; no third-party tool and no built program is.
-"""
+"""What is taken away, planted or written otherwise in a copy of the repository makes a script fail that says so."""
 
 import os
 import re
-import unittest
 from unittest import mock
 
 from support import PYTHON, TOP, InCopy, module, read, run_command
@@ -228,7 +224,3 @@ class Believed(InCopy):
         behind = ", ".join(rf"\d+ of \d+ behind the {name}" for name in ("program", "library"))
         refused = rf"^\d{{4}} changes of \d{{3}} definitions, {behind}, are refused"
         self.assertRegex(said, rf"{refused}, \d+ mean the same, sum [\da-f]{{8}}\n$")
-
-
-if __name__ == "__main__":
-    unittest.main()

@@ -143,7 +143,3 @@ class Fields(unittest.TestCase):
         function = read(path_of(FUNCTIONS["program"])).replace("ensures shows {", "ensures later {")
         self.assertIn("program.later", clauses_of("program", function))
         self.assertIn("Runs.none", without_a_body(all_promised, {**given, "": "refutes: Runs.none"}))
-
-
-if __name__ == "__main__":
-    unittest.main()

@@ -1,7 +1,4 @@
-"""The gate cannot look away: what is taken away in a copy of the repository makes a step of the gate fail.
-
-Run by `python3 -m unittest discover -s scripts/tests`. The kit is needed; no third-party tool and no built program is.
-"""
+"""The gate cannot look away: what is taken away in a copy of the repository makes a step of the gate fail."""
 
 import importlib.util
 import io
@@ -377,7 +374,3 @@ class Packages(unittest.TestCase):
         programs = {name for name in os.listdir(SCRIPTS) if os.access(os.path.join(SCRIPTS, name), os.X_OK)}
         programs = {name for name in programs if os.path.isfile(os.path.join(SCRIPTS, name))}
         self.assertEqual(programs, names)
-
-
-if __name__ == "__main__":
-    unittest.main()

@@ -1,8 +1,4 @@
-"""The scripts see what they are there to see: each planted mistake makes the script fail, and nothing passes unseen.
-
-Run by `python3 -m unittest discover -s scripts/tests`. The kit is needed; no third-party tool and no
-built program: where a script calls one, a stand-in of a few lines is put on the path.
-"""
+"""The scripts see what they are there to see: each mistake makes the script fail, and nothing passes unseen."""
 
 import contextlib
 import io
@@ -15,7 +11,7 @@ import unittest
 from typing import Any, Callable, Iterable, Iterator
 from unittest import mock
 
-from support import SCRIPTS, TOP, InFolder, in_copy, module, read, run, run_command, write
+from support import PYTHON, SCRIPTS, TOP, InFolder, in_copy, module, read, run_command, write
 
 compare_symbols = module("compare_symbols")
 read_foreign = module("read_foreign")
@@ -56,7 +52,7 @@ class WrongBodies(InFolder):
             ("gf256", "/usr/bin:/bin", 2, "rt is not on the path"),
         ):
             with self.subTest(wanted):
-                found, said = run("wrong_bodies.py", crate, PATH=path)
+                found, said = run_command([PYTHON, f"{SCRIPTS}/wrong_bodies.py", crate], PATH=path)
                 self.assertEqual((found, wanted in said), (status, True), said)
 
 
@@ -618,7 +614,3 @@ class Instructions(unittest.TestCase):
                 with contextlib.redirect_stderr(said), self.assertRaises(SystemExit) as ended:
                     instructions.one_more(program, instructions.EAN)
             self.assertEqual((ended.exception.code, wanted in said.getvalue()), (2, True), said.getvalue())
-
-
-if __name__ == "__main__":
-    unittest.main()
