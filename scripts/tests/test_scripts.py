@@ -359,62 +359,18 @@ class Outcomes(InFolder):
 class StandIns(InFolder):
     """What a check of other functions takes by their contracts alone."""
 
-    PART = """const A: u8 = 7;
-
-impl<T> Some<T> {
-    fn one() -> u8 {
-        1
-    }
-
-    fn two() -> u8 {
-        Self::one() + 1
-    }
-}
-
-trait Counts {
-    fn count(&self) -> u8;
-
-    fn is_one(&self) -> bool {
-        self.count() == 1
-    }
-}
-
-impl Counts for Some {
-    fn count(&self) -> u8 {
-        A
-    }
-}
-
-impl From<u8> for Some {
-    fn from(number: u8) -> Some {
-        Some
-    }
-}
-
-impl From<u16> for Some {
-    fn from(number: u16) -> Some {
-        Some
-    }
-}
-
-#[cycle(called)]
-fn called() {
-    called()
-}
-"""
-
     def test_functions(self) -> None:
         """All have a hole and a body that calls nothing, but one that is asked for and those of other names."""
         folder = self.path("crates", "small")
         write(f"{folder}/src/lib.rt", ONE)
-        write(f"{folder}/src/part.rt", self.PART)
+        wanted = read(f"{SCRIPTS}/tests/functions.rt")
+        write(f"{folder}/src/part.rt", wanted)
         write(f"{folder}/src/main.rt", "fn main() {\n    one();\n}\n")
         more = "use crate::part::{Other, Some};\n\nimpl Some {\n    fn three() -> u8 {\n        3\n    }\n}\n"
         write(f"{folder}/src/more.rt", more)
         for function in ("Some/one", "Some/two", "SomeCounts/count"):
             write(f"{folder}/proofs/part/{function}/Answers.antt", "")
         stand_ins.put(self.folder, "small", ["part::Some::two"])
-        wanted = self.PART
         for text in ("        1\n    }", "        self.count() == 1\n    }", "        A\n    }"):
             wanted = wanted.replace("{\n" + text, "{ loop {} }")
         self.assertEqual(read(f"{folder}/src/part.rt"), wanted)
