@@ -37,6 +37,8 @@ class Three(unittest.TestCase):
     def test_three(self):
         pass
 """
+# This one ends its process, and with it those of its file.
+ENDS = "import os, unittest\nclass One(unittest.TestCase):\n    def test_one(self):\n        os._exit(3)\n"
 
 
 class Ways(InFolder):
@@ -49,7 +51,8 @@ class Ways(InFolder):
         command = [PYTHON, self.path("scripts/run_tests.py"), "tests"]
         self.assertEqual(run_command(command)[0], 1)
         write(self.path("tests/test_one.py"), WAYS)
-        for words, last in (("", "1 passed, 4 failed"), ("--quick", "1 passed, 2 failed, 2 left out")):
+        write(self.path("tests/test_two.py"), ENDS)
+        for words, last in (("", "1 passed, 5 failed"), ("--quick", "1 passed, 3 failed, 2 left out")):
             status, said = run_command([*command, *words.split()])
             self.assertEqual((status, said.split("\n")[-2]), (1, last), said)
 
