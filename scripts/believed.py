@@ -15,7 +15,6 @@ or `library`. The first comment of a file says what the file is about. Lines `--
 definitions follow: names between backticks, a colon, and the clause of a standard or a page.
 """
 
-import argparse
 import difflib
 import itertools
 import os
@@ -57,12 +56,9 @@ WHY = re.compile(r"Why: ((?:`[^`]+`,? )*`[^`]+`): ")
 def item_of(repository: Repository, function: str) -> tuple[File, Declaration]:
     """Returns a function of the file of the program's own call. Stops where it is gone."""
     crate, module, _ = CALL
-    files = [it for it in repository.code if (it.crate, it.module) == (crate, module)]
-    for file in files:
-        for it in file.declarations:
-            if it.name == function:
-                return file, it
-    sys.exit(f"no function {function} in crates/{crate}/src/{module}.rt")
+    files = (it for it in repository.code if (it.crate, it.module) == (crate, module))
+    found = next(((file, it) for file in files for it in file.declarations if it.name == function), None)
+    return found or sys.exit(f"no function {function} in crates/{crate}/src/{module}.rt")
 
 
 def call_of(repository: Repository, names: Sequence[str] = ()) -> CodeItem:
@@ -255,20 +251,15 @@ def show(repository: Repository, base: Base) -> None:
         print("", *textwrap.wrap(said, 100), sep="\n")
 
 
-def arguments() -> argparse.Namespace:
-    """Returns what the arguments ask for."""
+def main() -> int:
+    """Does what the arguments ask for, and returns the status."""
     parser = sources.parser_of(__doc__)
     ways = parser.add_mutually_exclusive_group(required=True)
     ways.add_argument("--check", action="store_true", help="compare the pages with the files")
     ways.add_argument("--write", action="store_true", help="make the numbers and the table anew")
     names = [*CLAUSES, "program", "library"]
     ways.add_argument("--show", choices=names, help="print what a contract rests on")
-    return parser.parse_args()
-
-
-def main() -> int:
-    """Does what the arguments ask for, and returns the status."""
-    given = arguments()
+    given = parser.parse_args()
     repository = bases.read_repository(sources.TOP)
     found = all_bases(repository)
     if given.show:

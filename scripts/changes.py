@@ -169,51 +169,44 @@ def uses_in(words: Sequence[tuple[int, str]]) -> Iterator[tuple[int, str]]:
             yield at, word
 
 
-@dataclass(frozen=True)
-class Other:
-    """A text in the place of some letters of a word, from `offset` on."""
-
-    offset: int
-    length: int
-    text: str
+# A text in the place of some letters of a word: the place of the first of these, how many they are, and the text.
+Other = tuple[int, int, str]
 
 
-def other_words(word: str) -> list[Other]:
-    """Returns what is tried in the place of a word."""
+def other_words(word: str) -> Iterator[Other]:
+    """Yields what is tried in the place of a word."""
     if word[0] == '"':
-        return other_texts(word[1:-1])
-    if word[0].isdigit():
-        number, is_hex = int(word, 0), word.startswith("0x")
-        near = [it for it in (number + 1, number - 1) if it >= 0]
-        return [Other(0, len(word), hex(it) if is_hex else str(it)) for it in near]
-    if word[0] == ".":
-        return [Other(1, 1, str(1 - int(word[1])))]
-    return [Other(0, len(word), REPLACED[word])]
+        yield from other_texts(word[1:-1])
+    elif word[0].isdigit():
+        number, form = int(word, 0), "#x" if word.startswith("0x") else "d"
+        yield from ((0, len(word), format(it, form)) for it in (number + 1, number - 1) if it >= 0)
+    elif word[0] == ".":
+        yield 1, 1, str(1 - int(word[1]))
+    else:
+        yield 0, len(word), REPLACED[word]
 
 
-def other_texts(inner: str) -> list[Other]:
-    """Returns what is tried in a text: each cell of a table, each border of two widths, or else the first letter."""
-    for letters in ("01", "AB"):
-        if re.fullmatch(rf"[{letters}]+( [{letters}]+)*", inner) and len(inner) > 1:
-            cells = [(at, it) for at, it in enumerate(inner) if it != " "]
-            return [Other(1 + at, 1, letters[it == letters[0]]) for at, it in cells]
-    if re.fullmatch(r"[1-4]+( [1-4]+)* ?", inner):
-        return other_widths(inner)
-    if inner.startswith(FIRST_CELLS):
-        return [Other(1 + at, 1, "~") for at in range(len(inner))]
-    return [Other(1, 2 if inner.startswith("\\") else 1, "~")] if inner else []
+def other_texts(inner: str) -> Iterator[Other]:
+    """Yields what is tried in a text: each cell of a table, each border of two widths, or else the first letter."""
+    cells = (it for it in ("01", "AB") if len(inner) > 1 and re.fullmatch(rf"[{it}]+( [{it}]+)*", inner))
+    if letters := next(cells, ""):
+        yield from ((1 + at, 1, letters[it == letters[0]]) for at, it in enumerate(inner) if it != " ")
+    elif re.fullmatch(r"[1-4]+( [1-4]+)* ?", inner):
+        yield from other_widths(inner)
+    elif inner.startswith(FIRST_CELLS):
+        yield from ((1 + at, 1, "~") for at in range(len(inner)))
+    elif inner:
+        yield 1, 2 if inner.startswith("\\") else 1, "~"
 
 
-def other_widths(inner: str) -> list[Other]:
-    """Returns the moved borders of widths side by side: one of the two wider, the other less."""
-    found = []
-    for at in range(len(inner) - 1):
-        if " " not in inner[at : at + 2]:
-            one, two = int(inner[at]), int(inner[at + 1])
-            pair = (one + 1, two - 1) if two > 1 else (one - 1, two + 1)
-            if 0 not in pair:
-                found.append(Other(1 + at, 2, f"{pair[0]}{pair[1]}"))
-    return found
+def other_widths(inner: str) -> Iterator[Other]:
+    """Yields the moved borders of widths side by side: one of the two wider, the other less."""
+    for at, pair in enumerate(zip(inner, inner[1:])):
+        if " " not in pair:
+            one, two = map(int, pair)
+            moved = (one + 1, two - 1) if two > 1 else (one - 1, two + 1)
+            if 0 not in moved:
+                yield 1 + at, 2, f"{moved[0]}{moved[1]}"
 
 
 def changes_of(definition: Declaration, file: File) -> Iterator[Change]:
@@ -225,12 +218,10 @@ def changes_of(definition: Declaration, file: File) -> Iterator[Change]:
             if (word in OF_RANGES) != (of_range and not word[0].isdigit()):
                 continue
             is_field = file.text[at - 1] == "."
-            for it in other_words(word):
-                is_free = it.text not in VARIABLES or it.text in names or is_field
-                if word not in WORDS or is_free:
-                    first = at + it.offset
-                    old = file.text[first : first + it.length]
-                    yield Change(definition, file, first, old, it.text)
+            for offset, length, new in other_words(word):
+                if word not in WORDS or new not in VARIABLES or new in names or is_field:
+                    first = at + offset
+                    yield Change(definition, file, first, file.text[first : first + length], new)
 
 
 def all_changes(crates: dict[str, Crate]) -> list[Change]:

@@ -23,9 +23,10 @@ import re
 import signal
 import subprocess
 import sys
+import threading
 import time
-from dataclasses import dataclass
-from typing import IO, Iterable, NoReturn, Sequence
+from concurrent.futures import Future, ThreadPoolExecutor
+from typing import NoReturn, Sequence
 
 import sources
 
@@ -62,49 +63,10 @@ HEAD = "# The last line of each step of the gate: `scripts/gate.py --write STEP`
 # Seconds that a step may take, on a busy machine too.
 LONGEST = 7200.0
 PROCESSORS = len(os.sched_getaffinity(0))
-ENDING = (signal.SIGTERM, signal.SIGHUP, signal.SIGINT)
 # What differs from run to run: how long `rt ci` took.
 VARIES = re.compile(r" \([^)]*\)$")
-
-
-@dataclass
-class Begun:
-    """A step that is on its way: its process, the file that has what it wrote so far, when it began, and when it was
-    seen that it had ended or taken too long."""
-
-    process: subprocess.Popen[bytes]
-    said: IO[str]
-    start: float
-    stop: float = 0.0
-
-    def is_over(self) -> bool:
-        """Whether it has ended, or taken too long."""
-        if not self.stop:
-            ended = os.waitid(os.P_PID, self.process.pid, os.WEXITED | os.WNOHANG | os.WNOWAIT)
-            now = time.monotonic()
-            self.stop = now if ended or now - self.start > LONGEST else 0.0
-        return self.stop > 0
-
-    def end(self) -> None:
-        """Ends it where it has not ended, and what it started and left there."""
-        with contextlib.suppress(ProcessLookupError):
-            os.killpg(self.process.pid, signal.SIGKILL)
-        self.process.wait()
-        self.said.close()
-
-    def result(self) -> tuple[int, str]:
-        """Its status and all that it wrote, once it is over."""
-        ended = os.waitid(os.P_PID, self.process.pid, os.WEXITED | os.WNOHANG | os.WNOWAIT)
-        fault = "" if ended else f"it took longer than {LONGEST:.0f} seconds, and was ended\n"
-        with contextlib.suppress(ProcessLookupError):
-            os.killpg(self.process.pid, signal.SIGKILL)
-        status = self.process.wait()
-        self.said.seek(0)
-        return status, self.said.read() + fault
-
-
-# The steps that are on their way.
-BEGUN: dict[str, Begun] = {}
+# It is set where the steps that are on their way are to end.
+ENDS = threading.Event()
 
 
 def path_of(step: str) -> str:
@@ -112,58 +74,41 @@ def path_of(step: str) -> str:
     return f"{sources.TOP}/out/steps/{re.sub('[^a-z]+', '-', step)}.txt"
 
 
-def begin(step: str) -> None:
-    """Begins a step."""
-    command = step.split() if step == PROOFS else [sources.PYTHON, *f"scripts/{step}".split()]
-    if step == WRONG and PROOFS in BEGUN:
-        command += ["--beside", path_of(PROOFS)]
-    sources.write(path_of(step), "")
-    said = open(path_of(step), "r+", encoding="utf-8", errors="replace")
-    # A signal that comes before there is a process to end waits.
-    signal.pthread_sigmask(signal.SIG_BLOCK, ENDING)
-    process = subprocess.Popen(
-        command,
-        cwd=sources.TOP,
-        env={**os.environ, "PYTHONDONTWRITEBYTECODE": "1"},
-        stdin=subprocess.DEVNULL,
-        stdout=said,
-        stderr=said,
-        start_new_session=True,
-        preexec_fn=let_signals_in,
-    )
-    BEGUN[step] = Begun(process, said, time.monotonic())
-    let_signals_in()
+def command_of(step: str, is_beside: bool) -> list[str]:
+    """The command of a step; `is_beside`: the proofs are on their way."""
+    if step == PROOFS:
+        return step.split()
+    beside = ["--beside", path_of(PROOFS)] if step == WRONG and is_beside else []
+    return [sources.PYTHON, *f"scripts/{step}".split(), *beside]
 
 
-def run(step: str, later: Iterable[str] = ()) -> tuple[int, str, float]:
-    """Runs a step, and returns its status, all that it wrote and how long it took. Meanwhile later ones begin, so that
-    as many are on their way as there are processors."""
-    waiting = [it for it in (step, *later) if it not in BEGUN]
-    while step in waiting or not BEGUN[step].is_over():
-        has_room = sum(not it.is_over() for it in BEGUN.values()) < PROCESSORS
-        if step in waiting or (waiting and has_room):
-            begin(waiting.pop(0))
-        else:
-            time.sleep(0.05)
-    one = BEGUN[step]
-    found = one.result()
-    BEGUN.pop(step).end()
-    return *found, one.stop - one.start
-
-
-def end_all() -> None:
-    """Ends the steps that are on their way."""
-    while BEGUN:
-        BEGUN.popitem()[1].end()
-
-
-def let_signals_in() -> None:
-    """Has signals come that waited."""
-    signal.pthread_sigmask(signal.SIG_UNBLOCK, ENDING)
+def run(step: str, command: Sequence[str]) -> tuple[int, str, float]:
+    """Runs a step, and returns its status, all that it wrote and the seconds that it took."""
+    start = time.monotonic()
+    with open(path_of(step), "r+", encoding="utf-8", errors="replace") as said:
+        process = subprocess.Popen(
+            command,
+            cwd=sources.TOP,
+            env={**os.environ, "PYTHONDONTWRITEBYTECODE": "1"},
+            stdin=subprocess.DEVNULL,
+            stdout=said,
+            stderr=said,
+            start_new_session=True,
+        )
+        # It is looked at and left there, so that all that it started can be ended with it.
+        how, is_over = os.WEXITED | os.WNOHANG | os.WNOWAIT, False
+        while not is_over and not ENDS.wait(0.05) and time.monotonic() - start < LONGEST:
+            is_over = bool(os.waitid(os.P_PID, process.pid, how))
+        with contextlib.suppress(ProcessLookupError):
+            os.killpg(process.pid, signal.SIGKILL)
+        status = process.wait()
+        said.seek(0)
+        fault = "" if is_over else f"it took longer than {LONGEST:.0f} seconds, and was ended\n"
+        return status, said.read() + fault, time.monotonic() - start
 
 
 def stop(number: int, _: object) -> NoReturn:
-    """Ends the run by a signal, and so the step that is on its way, which is in a session of its own."""
+    """Ends the run by a signal, and so the steps that are on their way, which are in sessions of their own."""
     sys.exit(128 + number)
 
 
@@ -179,11 +124,14 @@ def processor_seconds() -> float:
     return sum(os.times()[:4])
 
 
-def judged(step: str, later: Iterable[str], kept: dict[str, str], writes: bool) -> int:
-    """Runs a step, beside later ones, and prints what it says where it failed, or else its last line. Returns its
-    status, or 1 where that line is another one than is kept; `writes` keeps it."""
+def judged(step: str, result: Future[tuple[int, str, float]], kept: dict[str, str], writes: bool) -> int:
+    """Waits for a step, and prints what it says where it failed, or else its last line. Returns its status, or 1 where
+    that line is another one than is kept; `writes` keeps it."""
     used = processor_seconds()
-    status, said, taken = run(step, later)
+    # A signal that comes just before a wait without an end would not end it.
+    while not result.done():
+        time.sleep(0.05)
+    status, said, taken = result.result()
     last = VARIES.sub("", said.rstrip("\n").split("\n")[-1])
     if writes and status == 0:
         kept[step] = last
@@ -194,13 +142,18 @@ def judged(step: str, later: Iterable[str], kept: dict[str, str], writes: bool) 
     return status or int(bool(fault))
 
 
-def run_all(steps: Sequence[str], kept: dict[str, str], writes: bool) -> int:
+def run_all(steps: Sequence[str], kept: dict[str, str], writes: bool, pool: ThreadPoolExecutor) -> int:
     """Runs steps, and prints how many passed. Returns the status of the gate."""
     failed = sorted(f"{step}, which is no step" for step in {*kept} - {*ALL})
     print(*failed, sep="\n", end="\n" * bool(failed))
+    begun: dict[str, Future[tuple[int, str, float]]] = {}
     for count, step in enumerate(steps, 1):
         beside = LAST if step in LAST else (WRONG,) * (step == PROOFS)
-        status = judged(step, [it for it in steps[count:] if it in beside], kept, writes)
+        for one in (step, *(it for it in steps[count:] if it in beside)):
+            if one not in begun:
+                sources.write(path_of(one), "")
+                begun[one] = pool.submit(run, one, command_of(one, step == PROOFS))
+        status = judged(step, begun[step], kept, writes)
         failed += [step] if status else []
         if status and step in NEEDED or failed and NEEDED.get(step):
             break
@@ -220,10 +173,12 @@ def main() -> int:
     heed_signals()
     lines = sources.read(f"{sources.TOP}/{COUNTS}").splitlines()
     kept = dict(line.split(": ", 1) for line in lines if not line.startswith("#"))
+    pool = ThreadPoolExecutor(PROCESSORS)
     try:
-        status = run_all(steps, kept, writes)
+        status = run_all(steps, kept, writes, pool)
     finally:
-        end_all()
+        ENDS.set()
+        pool.shutdown(cancel_futures=True)
     if writes:
         lines = [HEAD, *(f"{step}: {kept[step]}\n" for step in ALL if step in kept)]
         sources.write(f"{sources.TOP}/{COUNTS}", "".join(lines))

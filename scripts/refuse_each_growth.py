@@ -39,33 +39,13 @@ OTHERS = (
 # The status of a run, what it wrote on standard output, and on standard error.
 End = tuple[int, bytes, bytes]
 NO_MEMORY = (3, b"", b"labels: no memory\n")
-# The call of malloc or realloc whose number is GROWTH finds no memory, and leaves the file MARK.
-REFUSE = """
-#include <errno.h>
-#include <fcntl.h>
-#include <stdlib.h>
-
-void *__libc_malloc(size_t size);
-void *__libc_realloc(void *old, size_t size);
-
-static int is_refused(void) {
-    static long calls;
-    if (++calls != atol(getenv("GROWTH")))
-        return 0;
-    creat(getenv("MARK"), 0600);
-    errno = ENOMEM;
-    return 1;
-}
-
-void *malloc(size_t size) { return is_refused() ? NULL : __libc_malloc(size); }
-void *realloc(void *old, size_t size) { return is_refused() ? NULL : __libc_realloc(old, size); }
-"""
+# The source of the small library.
+REFUSE = Path(sources.TOP, "scripts/refuse_growth.c")
 
 
-def build(text: str, file: Path) -> None:
-    """Builds a library of C."""
-    file.with_suffix(".c").write_text(text, encoding="utf-8")
-    status, said = sources.run(["cc", "-O2", "-fPIC", "-shared", f"{file}.c", "-o", str(file)])
+def build(file: Path) -> None:
+    """Builds the library that refuses growths."""
+    status, said = sources.run(["cc", "-O2", "-fPIC", "-shared", str(REFUSE), "-o", str(file)])
     if status:
         print(said, file=sys.stderr)
         sys.exit(2)
@@ -128,7 +108,7 @@ def main() -> int:
     found, wholes = Counter[str](), list[str]()
     with tempfile.TemporaryDirectory() as name:
         folder = Path(name)
-        build(REFUSE, folder / "refuse")
+        build(folder / "refuse")
         for arguments in (STORED, [*STORED, "stdin"], *OTHERS):
             whole, *ends = ends_of(folder, [program, *arguments])
             found += judged(f"{arguments}", whole, ends)

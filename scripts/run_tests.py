@@ -1,5 +1,5 @@
 #!/usr/bin/python3
-"""Runs the tests of a folder, some at a time in each process of its own, as many as there are processors.
+"""Runs the tests of a folder, those of a file in a process of their own, as many at a time as there are processors.
 
 A test passes where it ran to its end and nothing was wrong. Any other one failed: one that is skipped, one that passes
 though it is expected to fail, each test of a class or a file that cannot be read or set up. With --quick a test of
@@ -20,7 +20,6 @@ import tempfile
 import time
 import traceback
 import unittest
-from dataclasses import astuple, dataclass
 from typing import IO, Any, Iterable, Iterator, NoReturn, TextIO
 
 import sources
@@ -29,8 +28,6 @@ import sources
 LEFT_OUT = ("is not built: run ", "takes seconds: ")
 # Seconds that a test may take, on a busy machine too, and what is read or set up before it.
 LONGEST = 900.0
-# The most tests that one process runs.
-MOST = 40
 PROCESSORS = len(os.sched_getaffinity(0))
 
 
@@ -68,15 +65,6 @@ class Result(unittest.TextTestResult):
         self.passed.append(test.id())
 
 
-@dataclass(frozen=True)
-class Counts:
-    """How many tests passed, failed and were left out."""
-
-    passed: int
-    failed: int
-    left_out: int
-
-
 def tests_in(suite: unittest.TestSuite) -> Iterator[Any]:
     """All tests."""
     for test in suite:
@@ -86,25 +74,14 @@ def tests_in(suite: unittest.TestSuite) -> Iterator[Any]:
             yield test
 
 
-def parts_of(suite: unittest.TestSuite) -> Iterator[unittest.TestSuite]:
-    """The tests, in parts for one process each: those of one file, no more than MOST, and not half of a class, which
-    would be set up twice, but for one of more."""
-    for _, tests in itertools.groupby(tests_in(suite), lambda it: type(it).__module__):
-        part: list[Any] = []
-        for _, of_class in itertools.groupby(tests, type):
-            more = [*of_class]
-            if len(part) + len(more) > MOST and part:
-                yield unittest.TestSuite(part)
-                part = []
-            part += more
-            while len(part) > MOST:
-                yield unittest.TestSuite(part[:MOST])
-                part = part[MOST:]
-        yield unittest.TestSuite(part)
+def parts_of(suite: unittest.TestSuite) -> list[unittest.TestSuite]:
+    """The tests of each file."""
+    of_files = itertools.groupby(tests_in(suite), lambda it: type(it).__module__)
+    return [unittest.TestSuite(tests) for _, tests in of_files]
 
 
-def judged(suite: unittest.TestSuite, is_quick: bool, stream: TextIO) -> Counts:
-    """Runs tests, and returns what came of them."""
+def judged(suite: unittest.TestSuite, is_quick: bool, stream: TextIO) -> tuple[int, int, int]:
+    """Runs tests, and returns how many passed, failed and were left out."""
     names = [test.id() for test in tests_in(suite)]
     runner = unittest.TextTestRunner(stream, verbosity=2, buffer=True, resultclass=Result)
     result = runner.run(suite)
@@ -114,7 +91,7 @@ def judged(suite: unittest.TestSuite, is_quick: bool, stream: TextIO) -> Counts:
     # Of a class or a file that is skipped as a whole the name is in brackets: setUpClass (test_one.One).
     wholes = tuple(f"{name[:-1].partition('(')[2]}." for name in excused if name.endswith(")"))
     left_out = [name for name in not_passed if name in excused or name.startswith(wholes)]
-    return Counts(len(result.passed), len(not_passed) - len(left_out), len(left_out))
+    return len(result.passed), len(not_passed) - len(left_out), len(left_out)
 
 
 def begun(part: unittest.TestSuite, is_quick: bool, said: IO[str]) -> int:
@@ -131,7 +108,7 @@ def begun(part: unittest.TestSuite, is_quick: bool, said: IO[str]) -> int:
     sys.stdout = sys.stderr = open(1, "w", encoding="utf-8", errors="backslashreplace", closefd=False)
     try:
         give_time()
-        print(*astuple(judged(part, is_quick, sys.stderr)))
+        print(*judged(part, is_quick, sys.stderr))
         status = 0
     except BaseException:
         traceback.print_exc()
@@ -140,13 +117,12 @@ def begun(part: unittest.TestSuite, is_quick: bool, said: IO[str]) -> int:
         os._exit(status)
 
 
-def judged_apart(parts: Iterable[unittest.TestSuite], is_quick: bool) -> Counts:
-    """Runs each part in a fork of this process, and returns what came of all. Where a process ends before its tests
-    they failed."""
-    waiting = [*parts]
+def judged_apart(parts: Iterable[unittest.TestSuite], is_quick: bool) -> list[int]:
+    """Runs each part in a fork of this process, and returns how many tests of all passed, failed and were left out.
+    Where a process ends before its tests they failed."""
+    waiting, counts = [*parts], [0, 0, 0]
     gc.freeze()
     running: dict[int, tuple[int, IO[str]]] = {}
-    found = list[tuple[int, ...]]()
     while waiting or running:
         if waiting and len(running) < PROCESSORS:
             part, said = waiting.pop(), tempfile.TemporaryFile("w+", errors="replace")
@@ -157,9 +133,10 @@ def judged_apart(parts: Iterable[unittest.TestSuite], is_quick: bool) -> Counts:
         with said:
             said.seek(0)
             *lines, last = said.read().rstrip("\n").split("\n")
-        found.append(tuple(map(int, last.split())) if status == 0 else (0, count, 0))
+        of_part = map(int, last.split()) if status == 0 else (0, count, 0)
+        counts = [sum(pair) for pair in zip(counts, of_part)]
         print(*lines, *[last] * (status != 0), sep="\n", file=sys.stderr)
-    return Counts(*map(sum, zip((0, 0, 0), *found)))
+    return counts
 
 
 class Shown(unittest.TestCase):
@@ -194,18 +171,11 @@ class Shown(unittest.TestCase):
         self.fail()
 
 
-def keep_bytecode() -> None:
-    """Has what starts from now on keep its bytecode below out/: a tool takes half as long to start then."""
-    os.environ["PYTHONPYCACHEPREFIX"] = sys.pycache_prefix = f"{sources.TOP}/out/bytecode"
-    os.environ.pop("PYTHONDONTWRITEBYTECODE", None)
-    sys.dont_write_bytecode = False
-
-
 def sees_wrong_tests() -> bool:
     """Whether of the tests that are shown just the right one passes, with --quick too."""
     names = [name for name, member in vars(Shown).items() if callable(member) and not name.startswith("__")]
     found = [judged(unittest.TestSuite(map(Shown, names)), is_quick, io.StringIO()) for is_quick in (False, True)]
-    return len(names) == 8 and found == [Counts(1, 7, 0)] * 2
+    return len(names) == 8 and found == [(1, 7, 0)] * 2
 
 
 def main() -> int:
@@ -217,20 +187,19 @@ def main() -> int:
         sys.exit(f"there is no folder {given.folder}")
     os.chdir(sources.TOP)
     os.environ.update({"NO_SKIP": "", "QUICK": "1", "LABELS": "/not/built"} if given.quick else {"NO_SKIP": "1"})
-    if given.quick:
-        keep_bytecode()
+    # Python reads the tests of a folder twice as fast where it has kept them as bytecode.
+    sys.dont_write_bytecode = False
     give_time()
     tests = unittest.TestLoader().discover(given.folder)
+    sys.dont_write_bytecode = True
     if not sees_wrong_tests():
         print("a test that did not pass is counted as one that did", file=sys.stderr)
         return 1
-    if not given.quick:
-        getattr(sys.modules.get("support"), "prepare", int)()
+    getattr(sys.modules.get("support"), "prepare", int)()
     signal.setitimer(signal.ITIMER_REAL, 0)
-    found = judged_apart(parts_of(tests), given.quick)
-    failed = found.failed or int(not found.passed)
-    more = f", {found.left_out} left out" if found.left_out else ""
-    print(f"{found.passed} passed, {failed} failed{more}", file=sys.stderr)
+    passed, failed, left_out = judged_apart(parts_of(tests), given.quick)
+    failed = failed or int(not passed)
+    print(f"{passed} passed, {failed} failed{f', {left_out} left out' * bool(left_out)}", file=sys.stderr)
     return 1 if failed else 0
 
 

@@ -113,17 +113,17 @@ def unused_functions(code: Sequence[File]) -> tuple[list[Declaration], int]:
     functions = [one for file in code for one in functions_of(file.declarations)]
     names: dict[str, Counter[str]] = {file.crate: Counter() for file in code}
     for file in code:
-        passed_on = [one for one in file.declarations if one.kind == "use" and one.is_public]
         names[file.crate] += names_of(file.tokens)
-        names[file.crate] -= names_of(token for one in passed_on for token in one.tokens)
-    everywhere = sum(names.values(), Counter[str]())
-    found = []
-    for one, is_public in functions:
-        seen = everywhere if is_public else names[one.key.crate]
-        same = [it for it, _ in functions if it.name == one.name and (is_public or it.key.crate == one.key.crate)]
-        if seen[one.name] - names_of(one.tokens)[one.name] - (len(same) - 1) <= 0:
-            found.append(one)
-    return found, len(functions)
+        for one in file.declarations:
+            if one.kind == "use" and one.is_public:
+                names[file.crate] -= names_of(one.tokens)
+    for one, _ in functions:
+        names[one.key.crate][one.name] -= 1  # where it is declared
+    everywhere = Counter[str]()
+    for of_crate in names.values():
+        everywhere.update(of_crate)
+    seen = ((one, (everywhere if is_public else names[one.key.crate])[one.name]) for one, is_public in functions)
+    return [one for one, count in seen if count < names_of(one.tokens)[one.name]], len(functions)
 
 
 def main() -> int:

@@ -1,7 +1,4 @@
-"""What has to be believed is what the files give, and the results of wrong entries are those of the files.
-
-Run by `python3 -m unittest discover -s scripts/tests`. The kit is needed, and no built program.
-"""
+"""What comes of changes of definitions, by stand-ins of the prover."""
 
 import contextlib
 import io
@@ -11,147 +8,11 @@ import unittest
 from typing import Any, Callable, Container, Iterable
 from unittest import mock
 
-from support import TOP, InCopy, in_copy, module, read
+from support import TOP, module, read
 
 believed_rows = module("believed_rows")
 judging = module("judging")
 changes = module("changes")
-
-PAGE = "docs/DEFINITIONS.md"
-PROOF = "docs/PROOF.md"
-RESULTS = "scripts/believed_rows.txt"
-SHOWS = "| the clause `shows` of `program` | "
-
-
-def found_in(pattern: str, text: str) -> str:
-    """What a text has of a pattern, which has to be there."""
-    found = re.search(pattern, text, re.M)
-    assert found, pattern
-    return found[0]
-
-
-class Believed(InCopy):
-    """The numbers, the table and the names of std on the pages are compared with the files."""
-
-    @classmethod
-    def setUpClass(cls) -> None:
-        """A copy of the repository whose pages are right."""
-        super().setUpClass()
-        if in_copy(cls.folder, "believed.py", "--write")[0] != 0:
-            raise AssertionError("believed.py --write failed")
-
-    def check(self) -> tuple[int, str]:
-        return self.judged("believed.py", "--check")
-
-    def test_what_write_leaves_is_right(self) -> None:
-        """Each contract has a line, and the second needs less than both."""
-        status, said = self.check()
-        self.assertEqual(status, 0, said)
-        found = re.findall(r"^(.*): (\d+) lines, (\d+) of definitions, (\d+) of code, (\d+) names$", said, re.M)
-        lines = {what: [int(it) for it in numbers] for what, *numbers in found}
-        clauses = [f"the clause `{name}` of `program`" for name in ("shows", "runs")]
-        both, exports = "both clauses of `program`", "the 10 exports of the C library"
-        apart = ["apart: what stands behind the names of `clap`"]
-        apart.append("apart: `main` and `arguments_of`, which have no clause")
-        self.assertEqual([*lines], [*clauses, both, exports, *apart])
-        self.assertTrue(all(it[0] == sum(it[1:]) for it in lines.values()), said)
-        shows, runs = (lines[it][0] for it in clauses)
-        self.assertTrue(max(shows, runs) < lines[both][0] < shows + runs, said)
-
-    def test_changes(self) -> None:
-        """Another number, row or name of std on the pages, and another definition."""
-        page = read(self.path("README.md"))
-        number = found_in(r"[\d,]+ lines of\s+\[definitions", page)
-        runs = found_in(r"\| the clause `runs` .*\n", read(self.path(PROOF)))
-        changes = (
-            (PAGE, "| `take` | the first n elements of a list |\n", "", "does not say what take means"),
-            (PAGE, "| `remaining` |", "| `contents` |", "does not say what remaining means"),
-            (PAGE, "| `drop` |", "| `no` | a name |\n| `drop` |", "says what no means, which is not needed"),
-            ("README.md", number, f"9,{number}", f"+{found_in(f'.*{number.split()[0]}.*', page)}"),
-            (PROOF, SHOWS, f"{SHOWS}9,", f"-{SHOWS}9,"),
-            (PROOF, runs, "", f"+{runs}"),
-            ("crates/filter/specs/Damage.antt", "→ IsNotMisread", "→ IsMisread", "-filter/Damage IsGuarded "),
-        )
-        self.assert_all_seen(changes, self.check)
-
-    def test_changes_one_at_a_time(self) -> None:
-        """A line of the code less, and what has to be there for the numbers."""
-        number = found_in(r"[\d,]+ lines of\s+\[definitions", read(self.path("README.md")))
-        entry, says = "crates/command/src/entry.rt", "as the files give it"
-        changes = (
-            ("crates/device/src/sink.rt", "        requires { 0 < length bytes.now }\n", "", says),
-            (entry, "arguments)\n        (record {", "arguments) (record {", says),
-            ("README.md", number, "few lines of [definitions", "has to have one number where"),
-            (PROOF, "<!-- believed: end -->", "", "lacks the line '<!-- believed: begin -->' or, after it"),
-            (entry, "ensures shows {", "ensures draws {", f"program in {entry} has no clause shows"),
-            ("crates.txt", "gf256:", "gf65536:\ngf256:", "gf65536"),
-            ("crates/labels/src/main.rt", "from(program(", "from(other(", "does not call program"),
-            ("crates/labelcore/specs/HeldLine.antt", "pub line_limit :", "pub line_bound :", "has no line_limit"),
-        )
-        self.assert_changes_fail(changes, self.check)
-
-    def test_show(self) -> None:
-        """A list has what a clause rests on, with its comment, and says by which clause of a standard."""
-        feed, penalty = "- LF: the line feed\n", "Why: `penalty`: in the manner of 7.8.3.\n"
-        for name, has, has_not in (
-            ("shows", (feed, "- contract program, ", "- IsShown: "), (penalty, "- Produces: ")),
-            ("runs", (feed, penalty, "- Produces: "), ("- IsShown: ",)),
-            ("program", (feed, penalty, "- Produces: ", "- IsShown: "), ("- NotADefinition: ",)),
-            ("library", (feed, penalty, "- contract labels_proved_draw, "), ("- contract program, ",)),
-        ):
-            with self.subTest(name):
-                status, said = self.judged("believed.py", "--show", name)
-                self.assertEqual(status, 0, said)
-                self.assertEqual([it for it in has if it not in said], [])
-                self.assertEqual([it for it in has_not if it in said], [])
-
-    def test_show_changes(self) -> None:
-        """A `Why: ` names definitions of its file."""
-        penalty = "crates/qrmatrix/specs/Penalty.antt"
-        changes = (
-            (penalty, "`penalty`: in the", "`fine`: in the", f"{penalty}: 'Why: "),
-            (penalty, "`penalty`: in the", "in the", f"{penalty}: 'Why: "),
-        )
-        self.assert_changes_fail(changes, lambda: self.judged("believed.py", "--show", "program"))
-
-
-class Rows(InCopy):
-    """The results of judged changes are compared with the definitions and the worked values."""
-
-    def check(self) -> tuple[int, str]:
-        return self.judged("believed_rows.py")
-
-    def test_as_it_is(self) -> None:
-        """With another comment too."""
-        reading = "crates/picture/specs/Reading.antt"
-        text = read(self.path(reading))
-        self.assertIn("-- the decimal number that", text)
-        self.replace(reading, text.replace("-- the decimal number that", "-- the number that"))
-        status, said = self.check()
-        self.assertEqual(status, 0, said)
-        behind = ", ".join(rf"\d+ of \d+ behind the {name}" for name in ("program", "library"))
-        refused = rf"^\d{{4}} changes of \d{{3}} definitions, {behind}, are refused"
-        self.assertRegex(said, rf"{refused}, \d+ mean the same, sum [\da-f]{{8}}\n$")
-
-    def test_changes(self) -> None:
-        """Another definition or worked value, a file without a result, a result without a file."""
-        line = found_in(r"^testing/FailAt .*\n", read(self.path(RESULTS)))
-        wrong = "wrong = (refl, refl, refl, refl)"
-        changes = (
-            (
-                "crates/picture/specs/Reading.antt",
-                "32 || b == 9",
-                "32 || b == 8",
-                "picture/Reading: not as it was judged",
-            ),
-            ("crates/qrdata/specs/Reading.antt", "== 0 || nat_lt", "== 0 && nat_lt", "qrdata/Reading: not as it was"),
-            ("crates/gf256/proofs/Examples.antt", wrong, "", "gf256/ErrorCorrection: not as it was judged"),
-            (RESULTS, line, "", "testing/FailAt: not as it was judged"),
-            (RESULTS, " defaults\n", "\n", "labelcore/Defaults: not as it was judged"),
-            (RESULTS, "picture/Text ", "picture/Writing ", "picture/Writing: no such file"),
-            (RESULTS, "linear/Ean ¦ (replicate @ A) ¦ 5", "linear/Ean ¦ (replicate @ B) ¦ 5", "no such change"),
-        )
-        self.assert_all_seen(changes, self.check)
 
 
 # What a check says of copies of three changes, of which it refuses the first by a worked value, and the last as no
@@ -305,7 +166,3 @@ class Sample(unittest.TestCase):
             left = changes.with_values(file, worked[-1:])
             self.assertEqual([name for name, text in texts.items() if text not in left], worked[:-1])
             self.assertEqual((changes.with_values(file, worked), changes.with_values(file, ["gone"])), (file.text, ""))
-
-
-if __name__ == "__main__":
-    unittest.main()

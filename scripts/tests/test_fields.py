@@ -11,7 +11,7 @@ import glob
 import os
 import re
 import unittest
-from typing import Iterable, Mapping
+from typing import Iterable
 
 from support import TOP, module, read
 
@@ -61,6 +61,10 @@ LAWS = {
 BESIDE = {"Shows.images", "RunsOver.runs", "RunsOver.whole", *(f"Ends.{case}" for case in range(1, 10))}
 
 
+def path_of(name: str) -> str:
+    return os.path.join(TOP, "crates", name)
+
+
 def fields_of(name: str, text: str) -> list[str]:
     """The fields of a record that are statements: those that a later one speaks of are values."""
     one = edits.blocks_in(text)[name]
@@ -74,76 +78,58 @@ def clauses_of(name: str, text: str) -> list[str]:
     return [f"{name}.{clause}" for clause in re.findall(r"^ *ensures (\w+) \{", found[1], re.M)]
 
 
-def path_of(name: str) -> str:
-    return os.path.join(TOP, "crates", name)
-
-
-def promised() -> list[str]:
-    """All fields and clauses."""
-    fields = [one for name, file in RECORDS.items() for one in fields_of(name, read(path_of(file)))]
-    clauses = [one for name, file in FUNCTIONS.items() for one in clauses_of(name, read(path_of(file)))]
-    return [*fields, *clauses]
-
-
-def refuted(bodies: Mapping[str, str]) -> set[str]:
+def refuted(text: str) -> set[str]:
     """What wrong bodies name as broken."""
-    lines = [line for text in bodies.values() for line in text.split("\n") if line.startswith("refutes:")]
-    return {name for line in lines for name in line.split()[1:]} | tried_alone(bodies)
+    lines = re.findall("^refutes:(.*)", text, re.M)
+    return {name for line in lines for name in line.split()} | tried_alone(text)
 
 
-def tried_alone(bodies: Mapping[str, str]) -> set[str]:
+def tried_alone(text: str) -> set[str]:
     """The fields that bodies are tried against alone, of the records of a run."""
-    found = re.findall(r"^alone:.* (\S+)$", "\n".join(bodies.values()), re.M)
-    return {name for name in found if name.split(".")[0] in RECORDS}
+    return {name for name in re.findall(r"^alone:.* (\S+)$", text, re.M) if name.split(".")[0] in RECORDS}
 
 
-def bodies() -> dict[str, str]:
-    """The files of all wrong bodies."""
-    return {path: read(path) for path in glob.glob(path_of("*/wrong-bodies/*.edit"))}
-
-
-def without_a_body(wanted: Iterable[str], given: Mapping[str, str]) -> set[str]:
+def without_a_body(wanted: Iterable[str], text: str) -> set[str]:
     """What has neither a wrong body nor a law, and what is named and is not there."""
-    return {*wanted} ^ (refuted(given) | {*LAWS})
+    return {*wanted} ^ (refuted(text) | {*LAWS})
+
+
+# All fields and clauses, the files of all wrong bodies, and these as one text.
+FIELDS = {one for name, file in RECORDS.items() for one in fields_of(name, read(path_of(file)))}
+PROMISED = {one for name, file in FUNCTIONS.items() for one in clauses_of(name, read(path_of(file)))} | FIELDS
+BODIES = {path: read(path) for path in glob.glob(path_of("*/wrong-bodies/*.edit"))}
+GIVEN = "\n".join(BODIES.values())
 
 
 class Fields(unittest.TestCase):
     def test_each_has_a_body_or_a_law(self) -> None:
-        self.assertEqual(without_a_body(promised(), bodies()), set())
-        self.assertEqual(refuted(bodies()) & {*LAWS}, set())
+        self.assertEqual(without_a_body(PROMISED, GIVEN), set())
+        self.assertEqual(refuted(GIVEN) & {*LAWS}, set())
 
     def test_each_field_is_judged(self) -> None:
         """Alone, but for those that cannot be."""
-        fields = {name for name in promised() if name.split(".")[0] in RECORDS}
-        self.assertEqual(fields ^ tried_alone(bodies()), BESIDE | ({*LAWS} & fields))
+        self.assertEqual(FIELDS ^ tried_alone(GIVEN), BESIDE | ({*LAWS} & FIELDS))
 
     def test_each_clause_is_judged(self) -> None:
         """A body that names a clause of its function is tried against this clause alone."""
-        for path, text in bodies().items():
-            named = {name.rpartition(".")[2] for name in refuted({path: text}) if name.rpartition(".")[0] in FUNCTIONS}
+        for path, text in BODIES.items():
+            named = {name.rpartition(".")[2] for name in refuted(text) if name.rpartition(".")[0] in FUNCTIONS}
             self.assertLessEqual(named, {*re.findall("^clause: (.*)$", text, re.M)}, path)
 
     def test_each_law_is_there(self) -> None:
         proofs = [*glob.glob(path_of("*/proofs/*.antt")), *glob.glob(path_of("*/src/*.rt"))]
-        texts = "\n".join(read(path) for path in proofs)
+        texts = "\n".join(map(read, proofs))
         for law in LAWS.values():
             self.assertRegex(texts, rf"(?m)^ *pub (fn {law}\(|{law} :)", law)
 
     def test_one_without_is_seen(self) -> None:
         """Each, once its lines are gone; a field and a clause more; and a name of nothing."""
-        given, all_promised = bodies(), promised()
-        for name in {*all_promised} - {*LAWS}:
-            gone = {
-                path: re.sub(rf"(?<=[ ]){re.escape(name)}(?= |$)", "", text, flags=re.M)
-                for path, text in given.items()
-            }
-            self.assertEqual(without_a_body(all_promised, gone), {name})
+        lines = "\n".join(re.findall("^(?:refutes|alone):.*", GIVEN, re.M))
+        for name in PROMISED - {*LAWS}:
+            gone = re.sub(rf"(?<=[ ]){re.escape(name)}(?= |$)", "", lines, flags=re.M)
+            self.assertEqual(without_a_body(PROMISED, gone), {name})
         record = read(path_of(RECORDS["Runs"])) + "\n  pub later : OnOk r (out.is_flushed o' ≡ true)\n"
         self.assertIn("Runs.later", fields_of("Runs", record.replace("\n\n  pub later", "\n  pub later")))
         function = read(path_of(FUNCTIONS["program"])).replace("ensures shows {", "ensures later {")
         self.assertIn("program.later", clauses_of("program", function))
-        self.assertIn("Runs.none", without_a_body(all_promised, {**given, "": "refutes: Runs.none"}))
-
-
-if __name__ == "__main__":
-    unittest.main()
+        self.assertIn("Runs.none", without_a_body(PROMISED, f"{GIVEN}\nrefutes: Runs.none"))

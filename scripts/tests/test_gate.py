@@ -1,23 +1,18 @@
-"""The gate cannot look away: what is taken away in a copy of the repository makes a step of the gate fail.
-
-Run by `python3 -m unittest discover -s scripts/tests`. The kit is needed; no third-party tool and no built program is.
-"""
+"""The gate cannot look away: what is taken away in a copy of the repository makes a step of the gate fail."""
 
 import importlib.util
 import io
 import os
 import re
-import shutil
 import signal
 import subprocess
 import sys
-import tempfile
 import time
 import unittest
 from typing import Any, Iterable, Mapping
 from unittest import mock
 
-from support import PYTHON, SCRIPTS, TOP, InCopy, InFolder, in_copy, module, read, run_command, write
+from support import PYTHON, SCRIPTS, TOP, InFolder, in_copy, module, read, run_command, write
 
 # Of these one passes, and with --quick two are left out. The ways of single tests run_tests.py is shown in each run.
 WAYS = """import run_tests, subprocess, unittest
@@ -42,93 +37,24 @@ class Three(unittest.TestCase):
     def test_three(self):
         pass
 """
-DIFFER = "crates.txt and the folders crates/*/src differ in: "
-OF_PICTURE = {"crates/picture": f"{DIFFER}picture picture-away"}
-OF_PAGES = {page: f"there is no {page}" for page in ("README.md", "docs/PROOF.md", "crates/device/README.md")}
-# What is moved away together for each step, and what that step says of each.
-MOVED: dict[str, tuple[dict[str, str], ...]] = {
-    "lints.py": ({"debian/tests/shells": "debian/tests has other files"}, {"man": "there is no folder man"}),
-    "pages.py": (OF_PICTURE, {"crates": DIFFER}, OF_PAGES),
-    "unused.py": (OF_PICTURE, {"crates": DIFFER}),
-    "believed.py --check": (OF_PICTURE,),
-    "run_tests.py scripts/tests": ({"scripts/tests": "there is no folder scripts/tests"},),
-}
-NOQA = f"# {'noqa'}"
-PROMISES, CRATES, STRENGTH = (f"docs/PROOF-{name}.md" for name in ("RUN", "CRATES", "STRENGTH"))
-END, HANDLES = "\n## ", "Handles allowed: none."
-# How many changes of definitions are judged, as a step and a page have it.
-(JUDGED,) = re.findall(r"(\d+) changes of", read(os.path.join(TOP, "scripts/counts.txt")))
-# What is written in the place of a text, the first one in a file, for each step, and what that step says.
-CHANGED = {
-    "lints.py": (
-        ("HANDLES", HANDLES, "Handles allowed: Net.", f"HANDLES is not: {HANDLES}"),
-        ("crates/device/src/lib.rt", "#![tactic(auto)]", "", "crates/device: no line #![tactic(auto)]"),
-        ("tools/labeltools/paper/box.py", "class Box(", "class Area(", "layout/area.py, too"),
-    ),
-    "unused.py": (("crates.txt", "gf256:", "# gf256:", "differ in: gf256"),),
-    "believed_rows.py": (("crates/labelcore/specs/HeldLine.antt", "1100", "1101", "labelcore/HeldLine"),),
-    "pages.py": (
-        ("crates/device/README.md", "```rust\n", "```rust\nsink.forget();\n", "lacks: sink.forget();"),
-        ("crates/linear/README.md", "```rust\n", "```text\n", "crates/linear/README.md:1: no example"),
-        ("crates/command/README.md", "\n", "\n\n", "crates/command/README.md:1: 41 lines, and at most 40"),
-        ("docs/PRINTING.md", END, f"\n```sh\nlabels\n{END}", "this block is not closed"),
-        ("docs/WINDOW.md", END, f"\n```sh\nlabels\n```\n{END}", "nothing runs the commands of this page"),
-        ("docs/TICKETS.md", END, f"\n{'<' * 7} HEAD\n{END}", "a merge left: <<<<<<< HEAD"),
-        ("docs/SCANNING.md", END, f"\n| {'a' * 500} |\n{END}", "504 bytes in a line, and at most 500 are wanted"),
-        ("docs/INPUT.md", "](PRINTING.md", "](PRINTIN.md", "a link to no file: PRINTIN.md"),
-        ("designs/README.md", "](jar-38x21.svg", "](jar.svg", "a link to no file: jar.svg"),
-        ("docs/INPUT.md", END, f"\n~~~rust\nfn a() {{}}\n~~~\n{END}", "no script reads blocks of ~~~"),
-        ("docs/INPUT.md", END, f"\n```\nlabels\n```\n{END}", "no script reads blocks of no language"),
-        (PROMISES, "ensures whole {", "ensures half {", "this code is in no file"),
-        (PROMISES, "src/streams.rt", "src/stream.rt", "this code is in no file"),
-        ("docs/INPUT.md", "```console\n$ ", "```console\n", "this session does not begin with a prompt"),
-        (CRATES, "`Buffered::prove_reached`", "`Buffered::nought`", "no `Buffered::nought` in the code"),
-        (STRENGTH, "believed definitions", "definitions", f"{STRENGTH}: no operator"),
-        ("scripts/counts.txt", f"{JUDGED} changes", f"{JUDGED}0 changes", f"one at a time: {int(JUDGED):,}"),
-        (
-            "README.md",
-            "](docs/PROOF.md",
-            "](docs/PROOF.md#the-promis",
-            "a link to no heading: docs/PROOF.md#the-promis",
-        ),
-    ),
-}
+# This one ends its process, and with it those of its file.
+ENDS = "import os, unittest\nclass One(unittest.TestCase):\n    def test_one(self):\n        os._exit(3)\n"
 
 
-class TakenAway(InCopy):
-    """Each test takes something away, and a step that runs before the proofs fails for it."""
-
-    def judged(self, name: str, *arguments: str) -> tuple[int, str]:
-        """What a step says of the copy. No lint runs but those of this process; those of tests run in another one."""
-        if name == "run_tests.py":
-            return run_command([PYTHON, self.path("scripts", name), *arguments])
-        with mock.patch.object(module("lints"), "all_lints", return_value=()):
-            return super().judged(name, *arguments)
-
-    def test_what_is_moved_away(self) -> None:
-        for step, rows in MOVED.items():
-            for row in rows:
-                with self.subTest(step=step, moved=[*row]):
-                    for name in row:
-                        self.move(name, f"{name}-away")
-                    status, said = self.judged(*step.split())
-                    self.assertEqual((status, [one for one in row.values() if one not in said]), (1, []), said)
-                self.doCleanups()
-
-    def test_what_is_written_otherwise(self) -> None:
-        for step, changes in CHANGED.items():
-            with self.subTest(step=step):
-                self.assert_all_seen(changes, lambda: self.judged(*step.split()))
+class Ways(InFolder):
+    """The ways in which tests do not pass, and the time that each has."""
 
     def test_ways_in_which_tests_do_not_pass(self) -> None:
-        self.move("lib/tests", "lib/tests-away")
-        self.addCleanup(shutil.rmtree, self.path("lib/tests"))
-        os.mkdir(self.path("lib/tests"))
-        self.assertEqual(self.judged("run_tests.py", "lib/tests")[0], 1)
-        write(self.path("lib/tests/test_one.py"), WAYS)
-        for words, last in (("", "1 passed, 4 failed"), ("--quick", "1 passed, 2 failed, 2 left out")):
-            found = self.judged("run_tests.py", "lib/tests", *words.split())
-            self.assertEqual((found[0], found[1].split("\n")[-2]), (1, last), found[1])
+        for name in ("run_tests.py", "sources.py"):
+            write(self.path("scripts", name), read(os.path.join(SCRIPTS, name)))
+        os.mkdir(self.path("tests"))
+        command = [PYTHON, self.path("scripts/run_tests.py"), "tests"]
+        self.assertEqual(run_command(command)[0], 1)
+        write(self.path("tests/test_one.py"), WAYS)
+        write(self.path("tests/test_two.py"), ENDS)
+        for words, last in (("", "1 passed, 5 failed"), ("--quick", "1 passed, 3 failed, 2 left out")):
+            status, said = run_command([*command, *words.split()])
+            self.assertEqual((status, said.split("\n")[-2]), (1, last), said)
 
     def test_each_test_has_its_time(self) -> None:
         """And what is set up before it and after it."""
@@ -137,81 +63,14 @@ class TakenAway(InCopy):
             run_tests.judged(unittest.TestSuite([run_tests.Shown("right")]), False, io.StringIO())
         self.assertEqual(given.mock_calls, [mock.call(), mock.call()])
 
-    def test_files_that_no_lint_would_read(self) -> None:
-        """Another first line, a lint without files, and settings beside the code that the lints do not look at. The
-        files are a few, since the lints read all that are there."""
-        first = "#!/usr/bin/python3 -B"
-        texts = {
-            "scripts/mypy.ini": read(self.path("scripts/mypy.ini")),
-            "scripts/planted.py": "import os\nx = 'one'\n",
-            "scripts/planted.sh": "#!/bin/sh\nrm $1\n",
-            "tools/labeltools/one.py": f"number: int = 'one'\nlong = '{'x' * 92}'\n",
-            "tools/labeltools/two.py": "import re\nimport os\n",
-            "lib/one.py": "def one() -> None:\n" + "    pass\n" * 31,
-            "completions/three.py": f"import os  {NOQA}\n",
-            "debian/one.sh": f"#!/bin/sh\n{NOQA}\nrm $1\n",
-            "tools/label-other": f"{first}\nimport os\n",
-            ".flake8": "[flake8]\nextend-ignore = F\n",
-            "setup.cfg": "[pycodestyle]\nignore = E,W\nmax-line-length = 999\n",
-            "pyproject.toml": "[tool.black]\nexclude = '.'\n",
-            ".shellcheckrc": "disable=all\n",
-        }
-        with tempfile.TemporaryDirectory(prefix="test-lints-") as folder:
-            for name in module("lints").FOLDERS:
-                os.mkdir(os.path.join(folder, name))
-            for name, text in texts.items():
-                write(os.path.join(folder, name), text)
-            # What mypy keeps of the modules of Python is the same here.
-            types = os.path.join(TOP, "out/mypy")
-            os.makedirs(types, exist_ok=True)
-            os.mkdir(os.path.join(folder, "out"))
-            os.symlink(types, os.path.join(folder, "out/mypy"))
-            with mock.patch.object(module("lints"), "faults_of_rules", return_value=[]):
-                status, said = in_copy(folder, "lints.py")
-        for wanted in (
-            "scripts/planted.py:1: UnusedImport",
-            "scripts/planted.py:1: black gives it another layout",
-            "scripts/planted.sh:2:4: note: Double quote",
-            "Incompatible types",
-            "tools/labeltools/one.py:2: E501 line too long (101 > 100 characters)",
-            "tools/labeltools/two.py:2: its imports are out of order",
-            f"tools/label-other: no lint knows {first}",
-            "shellcheck --norc --format=gcc --shell=bash reads no file: []",
-            "lib/one.py:1: one has 31 statements, 30 at most",
-            f"completions/three.py:1: it silences a lint: import os  {NOQA}",
-            "completions/three.py:1: UnusedImport",
-            f"debian/one.sh:2: it silences a lint: {NOQA}",
-        ):
-            self.assertIn(wanted, said)
-        self.assertEqual(status, 1)
-
-
-class Parts(unittest.TestCase):
-    """The tests that one process runs."""
-
-    def test_no_class_is_halved(self) -> None:
-        """But for one of more tests than a process runs; what comes behind it can be with its rest."""
-        run_tests = module("run_tests")
-        most = run_tests.MOST
-        counts = {"One": most // 2, "Two": most // 2, "Three": 1, "Four": most, "Five": 2 * most + 1, "Six": 1}
-        suite = unittest.TestSuite()
-        for name, count in counts.items():
-            tests = {f"test_{number}": lambda _: None for number in range(count)}
-            suite.addTest(unittest.defaultTestLoader.loadTestsFromTestCase(type(name, (unittest.TestCase,), tests)))
-        parts = [[*run_tests.tests_in(part)] for part in run_tests.parts_of(suite)]
-        found = [[*dict.fromkeys(type(test).__name__ for test in part)] for part in parts]
-        self.assertEqual(found, [["One", "Two"], ["Three"], ["Four"], ["Five"], ["Five"], ["Five", "Six"]])
-        self.assertEqual(sum(map(len, parts)), sum(counts.values()))
-        self.assertEqual(max(map(len, parts)), most)
-
 
 # Makefiles, which no lint reads.
 NOT_READ = {"debian/rules"}
 KINDS = ("python", "shell", "completion", "manual")
 
 
-class FilesOfLints(unittest.TestCase):
-    """What the lints read is what there is."""
+class Lints(InFolder):
+    """What the lints read is what there is, and they look at it again where something has changed."""
 
     def test_each_program_is_read(self) -> None:
         """Each file with an ending or a first line of a program, but for the crates and what is built."""
@@ -227,28 +86,61 @@ class FilesOfLints(unittest.TestCase):
         self.assertEqual(wanted - {path for kind in KINDS for path in files[kind]}, NOT_READ)
         read_by = [path for lint in lints.all_lints(files) for path in lint.files]
         self.assertEqual(wanted - NOT_READ - {*read_by}, set())
-        for path in files["python"]:
-            with self.subTest(path):
-                # One for its layout and its style, one for its types.
-                self.assertEqual(read_by.count(path), 2)
+        # One for its layout and its style, one for its types.
+        self.assertEqual([path for path in files["python"] if read_by.count(path) != 2], [])
 
+    def test_files_that_no_lint_would_read(self) -> None:
+        """Another first line, a lint without files, and settings beside the code that the lints do not look at."""
+        lints, silenced = module("lints"), f"# {'noqa'}"
+        for name in lints.FOLDERS:
+            os.mkdir(self.path(name))
+        for name, text in {
+            "scripts/mypy.ini": "",
+            "scripts/planted.py": f"import os  {silenced}\nx = 'one'\n",
+            "debian/planted.sh": f"#!/bin/sh\n{silenced}\nrm $1\n",
+            "tools/label-other": "#!/usr/bin/python3 -B\nimport os\n",
+            ".flake8": "[flake8]\nextend-ignore = F\n",
+            "setup.cfg": "[pycodestyle]\nignore = E,W\nmax-line-length = 999\n",
+            "pyproject.toml": "[tool.black]\nexclude = '.'\n",
+            ".shellcheckrc": "disable=all\n",
+        }.items():
+            write(self.path(name), text)
+        with mock.patch.multiple(lints, faults_of_rules=lambda: [], TYPED=()):
+            status, said = in_copy(self.folder, "lints.py")
+        for wanted in (
+            "scripts/planted.py:1: UnusedImport",
+            "scripts/planted.py:1: black gives it another layout",
+            f"scripts/planted.py:1: it silences a lint: import os  {silenced}",
+            f"debian/planted.sh:2: it silences a lint: {silenced}",
+            "debian/planted.sh:3:4: note: Double quote",
+            "tools/label-other: no lint knows #!/usr/bin/python3 -B",
+            "shellcheck --norc --format=gcc --shell=bash reads no file: []",
+        ):
+            self.assertIn(wanted, said)
+        self.assertEqual(status, 1)
 
-class Subjects(unittest.TestCase):
-    def test_one_that_is_too_long(self) -> None:
+    def test_a_subject_that_is_too_long(self) -> None:
         lints = module("lints")
         lines = [f"0a1b2c3d {letters * 'x'}" for letters in (lints.LONGEST, lints.LONGEST + 1, 1)]
         with mock.patch.object(lints.sources, "run", lambda _: (0, "\n".join(lines))):
             self.assertEqual([it.split(": ")[1] for it in lints.faults_of_subjects()], lines[1:2])
 
-
-class KeptLints(InFolder):
-    """A lint runs again where one of its files, its command or a package has changed, and where it found something."""
-
-    def test_runs(self) -> None:
+    def test_what_is_kept(self) -> None:
+        """A lint runs again where one of its files, its command or a package has changed, and where it found
+        something."""
         lints = module("lints")
         write(self.path("bin/look"), '#!/bin/sh\necho "$@" >> log\n! grep -l wrong "$@"\n', is_program=True)
-        write(self.path("packages"), "none")
-        write(self.path("settings"), "none")
+        bent: dict[str, Any] = {name: lambda: iter(()) for name in ("unseen_in_python", "faults_of_rules")}
+        bent |= {
+            "faults_of_subjects": lambda: iter(()),
+            "files_by_kind": lambda: dict.fromkeys(KINDS, []),
+            "PACKAGES": "packages",
+            "SETTINGS": "settings",
+            "all_lints": lambda _: [lints.Program("look", ["one"], ["settings"], "bad", "wrong")],
+        }
+        path = mock.patch.dict(os.environ, PATH=f"{self.path('bin')}:{os.environ['PATH']}")
+        for name in ("packages", "settings"):
+            write(self.path(name), "none")
         for changed, text, status, runs in (
             ("one", "right", 0, 1),
             ("packages", "", 0, 1),
@@ -261,15 +153,7 @@ class KeptLints(InFolder):
         ):
             write(self.path(changed or "none"), text)
             write(self.path("log"), "")
-            bent: dict[str, Any] = {
-                "PACKAGES": "packages",
-                "SETTINGS": "settings",
-                "all_lints": lambda _: [lints.Program("look", ["one"], ["settings"], "bad", "wrong")],
-            }
-            nothing: dict[str, Any] = {name: lambda *_: iter(()) for name in ("faults_of_rules", "faults_of_subjects")}
-            path = f"{self.path('bin')}:{os.environ['PATH']}"
-            files = mock.patch.multiple(lints, files_by_kind=lambda: dict.fromkeys(KINDS, []), **bent, **nothing)
-            with self.subTest(changed=changed, text=text), files, mock.patch.dict(os.environ, PATH=path):
+            with self.subTest(changed=changed, text=text), mock.patch.multiple(lints, **bent), path:
                 found, said = in_copy(self.folder, "lints.py")
                 self.assertEqual((found, read(self.path("log")).count("\n")), (status, runs), said)
 
@@ -289,18 +173,26 @@ def is_alive(process: str) -> bool:
 
 
 # What steps end with, the lines that are kept, and what the gate then says of them: all passed, or which failed.
-RUNS: tuple[tuple[dict[str, int | str], dict[str, str], int, str], ...] = (
-    ({}, {}, 0, "{all} passed, 0 failed"),
-    ({"lints.py": 1}, {}, 1, "6 passed, 1 failed"),  # nothing is proved where the texts are wrong
-    ({"lints.py": 77}, {}, 1, "status 77\nFAILED: lints.py, "),
-    ({"lints.py": "fine, but less"}, {}, 1, "kept is: lints.py is right\nFAILED: lints.py, "),
-    ({}, {"lints.py": ""}, 1, "kept is: no line\nFAILED: lints.py, "),
-    ({}, {"other.py": "x"}, 1, "other.py, which is no step\n"),
-    ({"rt": 3}, {}, 3, "7 passed, 1 failed"),
-    ({"rt": "fewer proofs (1 minute)"}, {}, 1, "kept is: rt is right\nFAILED: rt ci, "),
-    ({"wrong_bodies.py": 1}, {}, 1, "{but_one} passed, 1 failed"),  # what comes after it runs all the same
-    ({"plain_builds.py": 1}, {}, 1, "8 passed, 1 failed"),
-    ({"instructions.py": 1}, {}, 1, "{but_one} passed, 1 failed"),
+RUNS: tuple[tuple[dict[str, int | str], dict[str, str], int, tuple[str, ...]], ...] = (
+    ({}, {}, 0, ("{all} passed, 0 failed",)),
+    (
+        {"pages.py": 77, "lints.py": "fine, but less"},
+        {"unused.py": "", "other.py": "x"},
+        1,
+        (
+            *(
+                "other.py, which is no step\n",
+                "kept is: no line\nFAILED: unused.py, ",
+                "status 77\nFAILED: pages.py, ",
+            ),
+            *("kept is: lints.py is right\nFAILED: lints.py, ", "3 passed, 4 failed"),  # and nothing is proved
+        ),
+    ),
+    ({"rt": 3}, {}, 3, ("7 passed, 1 failed",)),
+    ({"rt": "fewer proofs (1 minute)"}, {}, 1, ("kept is: rt is right\nFAILED: rt ci, ",)),
+    # What comes after these runs all the same.
+    ({"wrong_bodies.py": 1, "instructions.py": 1}, {}, 1, ("{but_two} passed, 2 failed",)),
+    ({"plain_builds.py": 1}, {}, 1, ("8 passed, 1 failed",)),
 )
 INSTALL = "apt-get install -y --no-install-recommends zint"
 MISSING = f"packages are missing; as root: .ci/run --install, or apt-get update && {INSTALL}"
@@ -332,8 +224,8 @@ class Gate(InFolder):
         path = self.path("bin/rt") if name == "rt" else self.path("scripts", name)
         write(path, f"#!/bin/sh\n{text}", is_program=name == "rt")
 
-    def judged(self, steps: Iterable[str], kept: Mapping[str, str], processors: int = 2) -> tuple[int, str]:
-        """What the gate says of stand-ins on so many processors, where these lines are kept."""
+    def command(self, steps: Iterable[str], kept: Mapping[str, str], processors: int = 2) -> list[str]:
+        """The command of the gate over stand-ins on so many processors, where these lines are kept."""
         write(self.path("scripts/counts.txt"), "".join(f"{it}: {kept[it]}\n" for it in kept if kept[it]))
         for name, old, new in (
             ("gate.py", "PROCESSORS = len(os.sched_getaffinity(0))", f"PROCESSORS = {processors}"),
@@ -342,13 +234,17 @@ class Gate(InFolder):
             text = read(os.path.join(SCRIPTS, name))
             self.assertIn(old, text)
             write(self.path("scripts", name), text.replace(old, new))
+        return [PYTHON, self.path("scripts/gate.py"), *steps]
+
+    def judged(self, steps: Iterable[str], kept: Mapping[str, str], processors: int = 2) -> tuple[int, str]:
+        """What the gate then says."""
         path = f"{self.path('bin')}:{os.environ['PATH']}"
-        return run_command([PYTHON, self.path("scripts/gate.py"), *steps], PATH=path)
+        return run_command(self.command(steps, kept, processors), PATH=path)
 
     def test_steps(self) -> None:
         gate = module("gate")
         names = {"rt" if step == "rt ci" else step.split()[0] for step in gate.ALL}
-        how = {"all": len(gate.ALL), "but_one": len(gate.ALL) - 1}
+        how = {"all": len(gate.ALL), "but_two": len(gate.ALL) - 2}
         for changed, lines, status, said in RUNS:
             for name in names:
                 ends = changed.get(name, f"{name} is right (in 2 seconds)" if name == "rt" else f"{name} is right")
@@ -356,8 +252,9 @@ class Gate(InFolder):
                 self.step(name, f"echo 'one\n{line}'\nexit {code}\n")
             kept = {step: f"{'rt' if step == 'rt ci' else step.split()[0]} is right" for step in gate.ALL} | lines
             with self.subTest(changed=changed, lines=lines):
-                found = self.judged(["all"], kept)
-                self.assertEqual((found[0], said.format(**how) in found[1]), (status, True), found[1])
+                found, printed = self.judged(["all"], kept)
+                not_said = [it for it in said if it.format(**how) not in printed]
+                self.assertEqual((found, not_said), (status, []), printed)
 
     def test_wrong_bodies_beside_the_proofs(self) -> None:
         """They begin while these are on their way, with the file of what these say, and end where these fail."""
@@ -365,7 +262,8 @@ class Gate(InFolder):
         waits = "echo proofs\nwhile [ ! -e begun ]; do sleep 0.01; done\n"
         for status, more in ((0, ""), (3, "sleep 999\n")):
             self.step("rt", f"{waits}rm begun\nexit {status}\n")
-            self.step("wrong_bodies.py", f'cat "$3"\necho $1 $2\ntouch begun\n{more}')
+            read_it = 'while [ ! -s "$3" ]; do sleep 0.01; done\ncat "$3"'
+            self.step("wrong_bodies.py", f"{read_it}\necho $1 $2\ntouch begun\n{more}")
             with self.subTest(status):
                 found = self.judged(steps, dict(zip(steps, ("proofs", "--built --beside"))))
                 passed = 2 if status == 0 else 0
@@ -391,31 +289,28 @@ class Gate(InFolder):
     def test_a_step_that_hangs(self) -> None:
         """It is ended, with what it started."""
         gate = module("gate")
-        text = "import os, time\nprint('begun', os.fork(), flush=True)\ntime.sleep(99)\n"
-        write(self.path("scripts/hangs.py"), text)
-        with mock.patch.object(gate, "LONGEST", 9.0), mock.patch.object(gate.sources, "TOP", self.folder):
-            status, said, taken = gate.run("hangs.py")
-        self.assertEqual((status, said.split("\n")[-2]), (-9, "it took longer than 9 seconds, and was ended"))
-        self.assertGreaterEqual(taken, 9)
-        (started,) = {*re.findall(r"begun (\d+)", said)} - {"0"}
+        self.step("hangs.py", "sleep 99 &\necho $!\nsleep 99\n")
+        write(self.path("out/steps/hangs-py.txt"), "")
+        here = mock.patch.multiple(gate.sources, TOP=self.folder, PYTHON="/bin/sh")
+        with here, mock.patch.object(gate, "LONGEST", 2.0):
+            status, said, taken = gate.run("hangs.py", gate.command_of("hangs.py", False))
+        started, last = said.splitlines()
+        self.assertEqual((status, last), (-9, "it took longer than 2 seconds, and was ended"))
+        self.assertGreaterEqual(taken, 2)
         end = time.monotonic() + 30
         while is_alive(started) and time.monotonic() < end:
             time.sleep(0.01)
         self.assertFalse(is_alive(started))
 
     def test_a_signal_ends_the_step_too(self) -> None:
-        write(self.path("scripts/lints.py"), "import time\nprint('begun', flush=True)\ntime.sleep(9999)\n")
-        write(self.path("scripts/counts.txt"), "")
-        for name in ("gate.py", "sources.py"):
-            shutil.copy(os.path.join(SCRIPTS, name), self.path("scripts", name))
-        with subprocess.Popen([PYTHON, self.path("scripts/gate.py"), "lints.py"], stdout=subprocess.PIPE) as gate:
-            said = self.path("out/steps/lints-py.txt")
-            while not os.path.exists(said) or not read(said):
+        self.step("lints.py", "echo $$\nsleep 9999\n")
+        said = self.path("out/steps/lints-py.txt")
+        with subprocess.Popen(self.command(["lints.py"], {}), stdout=subprocess.PIPE) as gate:
+            while not os.path.exists(said) or not read(said).endswith("\n"):
                 time.sleep(0.01)
-            children = read(f"/proc/{gate.pid}/task/{gate.pid}/children").split()
             gate.terminate()
             self.assertEqual(gate.wait(), 128 + signal.SIGTERM)
-        self.assertEqual([is_alive(child) for child in children], [False])
+        self.assertFalse(is_alive(read(said).strip()))
 
     def test_start(self) -> None:
         for words, variables, changed, status, said in STARTS:
@@ -483,7 +378,3 @@ class Packages(unittest.TestCase):
         programs = {name for name in os.listdir(SCRIPTS) if os.access(os.path.join(SCRIPTS, name), os.X_OK)}
         programs = {name for name in programs if os.path.isfile(os.path.join(SCRIPTS, name))}
         self.assertEqual(programs, names)
-
-
-if __name__ == "__main__":
-    unittest.main()

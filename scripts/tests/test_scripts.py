@@ -1,8 +1,4 @@
-"""The scripts see what they are there to see: each planted mistake makes the script fail, and nothing passes unseen.
-
-Run by `python3 -m unittest discover -s scripts/tests`. The kit is needed; no third-party tool and no
-built program: where a script calls one, a stand-in of a few lines is put on the path.
-"""
+"""The scripts see what they are there to see: each mistake makes the script fail, and nothing passes unseen."""
 
 import contextlib
 import io
@@ -15,7 +11,7 @@ import unittest
 from typing import Any, Callable, Iterable, Iterator
 from unittest import mock
 
-from support import SCRIPTS, TOP, InCopy, InFolder, in_copy, module, read, run, run_command, write
+from support import PYTHON, SCRIPTS, TOP, InFolder, in_copy, module, read, run_command, write
 
 compare_symbols = module("compare_symbols")
 read_foreign = module("read_foreign")
@@ -56,7 +52,7 @@ class WrongBodies(InFolder):
             ("gf256", "/usr/bin:/bin", 2, "rt is not on the path"),
         ):
             with self.subTest(wanted):
-                found, said = run("wrong_bodies.py", crate, PATH=path)
+                found, said = run_command([PYTHON, f"{SCRIPTS}/wrong_bodies.py", crate], PATH=path)
                 self.assertEqual((found, wanted in said), (status, True), said)
 
 
@@ -363,62 +359,18 @@ class Outcomes(InFolder):
 class StandIns(InFolder):
     """What a check of other functions takes by their contracts alone."""
 
-    PART = """const A: u8 = 7;
-
-impl<T> Some<T> {
-    fn one() -> u8 {
-        1
-    }
-
-    fn two() -> u8 {
-        Self::one() + 1
-    }
-}
-
-trait Counts {
-    fn count(&self) -> u8;
-
-    fn is_one(&self) -> bool {
-        self.count() == 1
-    }
-}
-
-impl Counts for Some {
-    fn count(&self) -> u8 {
-        A
-    }
-}
-
-impl From<u8> for Some {
-    fn from(number: u8) -> Some {
-        Some
-    }
-}
-
-impl From<u16> for Some {
-    fn from(number: u16) -> Some {
-        Some
-    }
-}
-
-#[cycle(called)]
-fn called() {
-    called()
-}
-"""
-
     def test_functions(self) -> None:
         """All have a hole and a body that calls nothing, but one that is asked for and those of other names."""
         folder = self.path("crates", "small")
         write(f"{folder}/src/lib.rt", ONE)
-        write(f"{folder}/src/part.rt", self.PART)
+        wanted = read(f"{SCRIPTS}/tests/functions.rt")
+        write(f"{folder}/src/part.rt", wanted)
         write(f"{folder}/src/main.rt", "fn main() {\n    one();\n}\n")
         more = "use crate::part::{Other, Some};\n\nimpl Some {\n    fn three() -> u8 {\n        3\n    }\n}\n"
         write(f"{folder}/src/more.rt", more)
         for function in ("Some/one", "Some/two", "SomeCounts/count"):
             write(f"{folder}/proofs/part/{function}/Answers.antt", "")
         stand_ins.put(self.folder, "small", ["part::Some::two"])
-        wanted = self.PART
         for text in ("        1\n    }", "        self.count() == 1\n    }", "        A\n    }"):
             wanted = wanted.replace("{\n" + text, "{ loop {} }")
         self.assertEqual(read(f"{folder}/src/part.rt"), wanted)
@@ -459,20 +411,13 @@ def of_symbols() -> Iterator[tuple[str, bool]]:
 SHOWN = len(compare_symbols.SHOWN)
 # What shows wrong cases, what is put in the place of a part of a judge, and how many cases that one does not report.
 BENT: tuple[tuple[Callable[[], Iterable[tuple[str, bool]]], Any, dict[str, Any], int], ...] = (
-    (of_foreign, read_foreign, {"readings": readings(lambda one: b"73513537" if one.modules.any() else None)}, 0),
     (of_foreign, read_foreign, {"readings": readings(lambda one: b"73513537")}, 3),
-    (of_foreign, read_foreign, {"readings": readings(lambda one: None)}, 21),
     (of_foreign, read_foreign, {"readings": readings(lambda one: bytes(one.data))}, 21),
     (of_symbols, compare_symbols, {"is_as_zint": lambda *_: True, "is_read_back": lambda *_: True}, 6 * SHOWN),
-    (of_symbols, compare_symbols, {"is_as_zint": lambda *_: False, "is_read_back": lambda *_: True}, 4 * SHOWN),
-    (of_symbols, compare_symbols, {"is_as_zint": lambda *_: True, "is_read_back": lambda *_: False}, 4 * SHOWN),
     (of_symbols, compare_symbols, {"is_as_zint": lambda *_: False, "is_read_back": lambda *_: False}, 2 * SHOWN),
-    (run_recipes.wrong_cases, run_recipes, {"SECONDS": 60}, 0),
     (run_recipes.wrong_cases, run_recipes.Commands, {"fault": lambda *_: ""}, 36),
     (run_recipes.wrong_cases, run_recipes, {"fault_of_picture": lambda *_: ""}, 9),
     (run_recipes.wrong_cases, run_recipes, {"judged": lambda *_: (3, 3)}, 45),
-    (run_recipes.wrong_cases, run_recipes, {"judged": lambda *_: (3, 2)}, 45),
-    (instructions.wrong_cases, instructions, {"ROOM": 5}, 0),
     (instructions.wrong_cases, instructions, {"ROOM": 50}, 48),
     (instructions.wrong_cases, instructions, {"fault_of": lambda *_: ""}, 56),
     (instructions.wrong_cases, instructions, {"shape_of": lambda row: ""}, 8),
@@ -618,82 +563,3 @@ class Instructions(unittest.TestCase):
                 with contextlib.redirect_stderr(said), self.assertRaises(SystemExit) as ended:
                     instructions.one_more(program, instructions.EAN)
             self.assertEqual((ended.exception.code, wanted in said.getvalue()), (2, True), said.getvalue())
-
-
-# Two lemmas of which the second cites the first, and one in a module whose `where` is on a line of its own.
-CHAIN = """
-pub never : ℕ → ℕ
-never n = never n
-
-above : ℕ → ℕ
-above n = never n
-"""
-IN_MODULE = """
-next : ℕ → ℕ
-next n = n + 1
-
-module _ (a : ℕ)
-    (b : ℕ)
-  where
-    pub next-is : next a ≡ a + 1
-    next-is = refl
-"""
-DEFINITION = """
--- as itself
-pub same : ℕ → ℕ
-same n = n
-"""
-POWERS, MUL = "crates/gf256/proofs/PowerLaws.antt", "crates/gf256/proofs/field/mul/Answers.antt"
-FIELD, WORDS = "crates/gf256/src/field.rt", "crates/gf256/specs/Polynomial.antt"
-# What is planted in a file in the place of a text, or at its end, and what is found there.
-PLANTED = (
-    (POWERS, "", CHAIN, ("nothing uses the lemma never", "nothing uses the lemma above")),
-    (POWERS, "", IN_MODULE, ("nothing uses the lemma next", "nothing uses the lemma next-is")),
-    (POWERS, "", "\npub nil : 0 + 0 ≡ 0\nnil = refl\n", ("nothing uses the lemma nil",)),
-    (POWERS, "", "\npub cited : ℕ\ncited = 0\n", ("nothing uses the lemma cited",)),
-    (POWERS, "◌+◌, ", "◌+◌, ◌/◌, ", ("the imported name ◌/◌ is not used",)),
-    (MUL, "\n", "\nuse Rattle.gf256.proofs.PowerLaws.{cited}\n", ("the imported name cited is not used",)),
-    (WORDS, "", DEFINITION, ("nothing uses the definition same",)),
-    (FIELD, "◌<◌}", "◌<◌, ◌*◌}", ("the imported name ◌*◌ is not used",)),
-    (FIELD, "alpha, ", "alpha, twice, ", ("the imported name twice is not used",)),
-    (FIELD, "use crate", "use std::io::{ErrorKind};\nuse crate", ("the imported name ErrorKind is not used",)),
-    (FIELD, "use crate", "use device::{Sink};\nuse crate", ("the imported name Sink is not used",)),
-    (FIELD, "", "\nfn lonely() {\n    lonely()\n}\n", ("nothing calls the function lonely",)),
-    (FIELD, "", "\npub fn one() -> u8 {\n    1\n}\n", ("nothing calls the function one",)),
-    (FIELD, "", "\nimpl Alpha {\n    fn idle() {}\n}\n", ("nothing calls the function idle",)),
-    (FIELD, "", "\ntrait Rests {\n    fn slumber() {}\n}\n", ("nothing calls the function slumber",)),
-    (FIELD, "", "\nmod inner {\n    fn within() {}\n}\n", ("nothing calls the function within",)),
-)
-
-
-class Unused(InCopy):
-    """What is planted in a copy of the repository and used by nothing is found, and nothing else."""
-
-    def test_planted(self) -> None:
-        texts = {file: read(self.path(file)) for file, *_ in PLANTED}
-        for file, old, new, _ in PLANTED:
-            self.assertIn(old, texts[file])
-            texts[file] = texts[file].replace(old, new, 1) if old else texts[file] + new
-        for file, text in texts.items():
-            self.replace(file, text)
-        status, said = self.judged("unused.py")
-        *lines, last = said.rstrip("\n").split("\n")
-        found = []
-        for file, number, text in (line.split(":", 2) for line in lines):
-            self.assertIn(text.split(" ")[-1 if "nothing" in text else 4], texts[file].split("\n")[int(number) - 1])
-            found.append(file + text)
-        wanted = [f"{file} {text}" for file, *_, texts in PLANTED for text in texts]
-        self.assertEqual((status, sorted(found)), (1, sorted(wanted)))
-        self.assertTrue(last.endswith(f": {len(wanted)} unused"), said)
-
-    def test_what_cannot_be_read(self) -> None:
-        """A file of which the kit can make no words; no crate at all."""
-        self.replace(FIELD, "fn one() ensures { 1 ")
-        self.assertEqual(self.judged("unused.py")[0], 1)
-        self.move("crates", "boxes")
-        self.replace("crates.txt", "")
-        self.assertEqual(self.judged("unused.py")[0], 1)
-
-
-if __name__ == "__main__":
-    unittest.main()

@@ -78,6 +78,7 @@ class Glyphs(unittest.TestCase):
             known += 1
         return known
 
+    @support.slow
     def test_rows_are_as_pango_parts_them(self) -> None:
         chosen = random.Random(8)
         texts = []
