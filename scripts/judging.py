@@ -44,7 +44,6 @@ bytes_differ a b = not (bytes_eq a b)
 abbrev pub itself : {A : Type 0} → A → A
 itself a = a
 """
-CODE = "//! Nothing.\n#![tactic(auto)]\n\n/// One.\npub fn one() -> u8 {\n    1\n}\n"
 ERROR = re.compile(r"^\./proofs/V(\d+)/(\w+)\.antt:\d+:\d+: error: (.*)", re.M)
 
 
@@ -107,7 +106,6 @@ def errors_in(rtlib: Any, words: Sequence[str], copies: Sequence[Copy]) -> dict[
     """Checks copies, and returns the errors of each by its number: the file, and the worked value or else what the
     error says."""
     with tempfile.TemporaryDirectory(prefix="believed-rows-") as room:
-        sources.write(f"{room}/src/lib.rt", CODE)
         for number, copy in enumerate(copies):
             put_copy(room, copy, number)
         sources.write(f"{room}/proofs/Differ.antt", DIFFER)
@@ -123,22 +121,16 @@ def errors_in(rtlib: Any, words: Sequence[str], copies: Sequence[Copy]) -> dict[
     return found
 
 
-def words_for(crates: Sequence[Any], as_left: bool) -> list[str]:
+def words_for(rtlib: Any, crates: Sequence[Any], as_left: bool) -> list[str]:
     """Builds what is not built of crates of the kit and of those below them, or takes what `rt ci` left, and returns
     the words of a check of a crate above them."""
-    places: list[tuple[str, str]] = []
     for crate in crates:
         with open(os.devnull, "w", encoding="utf-8") as nowhere:
             for one in [*crate.below(), crate]:
                 one.out = nowhere
             if not_proved := libraries.build([*crate.below(), crate], as_left):
                 sys.exit(f"{not_proved} is not proved: run rt check in its folder")
-        words = crate.words(["--jobs", "1"], keeps=False)
-        places += [("--extern", f"{crate.name}={crate.rlib}")]
-        places += [it for it in zip(words, words[1:]) if it[0] in ("--extern", "-L")]
-    first, links = words.index("--antt-project"), words.index("--links")
-    found = [word for place in dict.fromkeys(places) for word in place]
-    return ["--crate-name", "judge", words[2], *found, *words[first:links], *words[links + 2 :]]
+    return libraries.words_above(rtlib, crates)
 
 
 def as_they_are(copies: Sequence[Copy]) -> Iterator[Copy]:
@@ -192,7 +184,7 @@ def judge(
     left are judged by the next, or by all where they are few."""
     rtlib = libraries.kit()
     homes = {HOME.get(it.file.crate, it.file.crate) for it in changes}
-    words = words_for([it for it in rtlib.crates_below(top) if it.name in homes], as_left)
+    words = words_for(rtlib, [it for it in rtlib.crates_below(top) if it.name in homes], as_left)
     waiting = [[*copies_of(it, crates[it.file.crate], values)] for it in changes if not it.by]
     while waiting := [it for it in waiting if it and not it[0].change.by]:
         size = max(map(len, waiting)) if len(waiting) <= FEW else 1

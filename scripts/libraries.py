@@ -1,4 +1,9 @@
-"""What the scripts take of the kit: its module of crates, the proved libraries of these, and a check in a folder."""
+"""What the scripts take of the kit: its module of crates, the proved libraries of these, and a check of a crate that
+has nothing in its code, above others.
+
+Of a crate that it is passed as source a check says what it says of the crate that it is called for, but it does not
+offer files to start the proofs with that it did not find: these take a fifth of a check of wrong bodies.
+"""
 
 import functools
 import importlib.machinery
@@ -9,6 +14,9 @@ import types
 from typing import Any, Sequence
 
 import sources
+
+# The name of the crate above the others, and its code.
+ABOVE, CODE = "judge", "//! Nothing.\n#![tactic(auto)]\n\n/// One.\npub fn one() -> u8 {\n    1\n}\n"
 
 
 @functools.lru_cache(maxsize=None)
@@ -44,6 +52,22 @@ def build(crates: Sequence[Any], as_left: bool) -> str:
     return ""
 
 
-def check(rtlib: Any, folder: str, words: Sequence[str]) -> str:
-    """What the kit's check says in a folder."""
-    return sources.run([*rtlib.guarded(), rtlib.RATTLE, "check", *words], folder)[1]
+def words_above(rtlib: Any, crates: Sequence[Any], top: str = "") -> list[str]:
+    """Returns the words of a check of a crate above these. They are built libraries, or else passed as source, as they
+    are in the folder `crates` below `top`."""
+    found = [("--extern", f"core={rtlib.KIT}/rlibs/core.rlib")] if top else []
+    for crate in crates:
+        words = crate.words(["--jobs", "1"], keeps=False)
+        uses = ",".join(["core", *crate.of_kit, *(it.name for it in crate.deps)])
+        root = f"{top}/crates/{crate.name}/{words[2]}"
+        found += [("--lib", f"{crate.name}:{uses}={root}") if top else ("--extern", f"{crate.name}={crate.rlib}")]
+        found += [it for it in zip(words, words[1:]) if it[0] in ("--extern", "-L")]
+    first, links = words.index("--antt-project"), words.index("--links")
+    places = [word for place in dict.fromkeys(found) for word in place]
+    return ["--crate-name", ABOVE, "src/lib.rt", *places, *words[first:links], "--jobs", "1"]
+
+
+def check(rtlib: Any, room: str, words: Sequence[str]) -> str:
+    """What the kit's check says of the crate above others, in a folder that may have its specs and proofs."""
+    sources.write(f"{room}/src/lib.rt", CODE)
+    return sources.run([*rtlib.guarded(), rtlib.RATTLE, "check", *words], room)[1]

@@ -9,10 +9,11 @@ each, and one that is reported as refused is a fault of this script.
 once more for each of its bodies that are texts, and beside these a control that the prover must accept. A body that
 changes the code is tried in its function's place. A proof reads of other functions their contracts alone, so one check
 tries several functions, and those that are not tried have a hole for a proof (scripts/stand_ins.py). What fails only
-because it calls another is not judged, and is tried again without it.
+because it calls another is not judged, and is tried again without it. One check also tries crates of which none uses
+another. It is a check of a crate above these, which are passed to it as source (scripts/libraries.py).
 
-With --beside a run of `rt ci` is on its way: a crate is tried once that says that those below it are proved, over its
-libraries, which are linked to at once, since at its end it puts back those of an earlier session.
+With --beside a run of `rt ci` is on its way: crates are tried once that says that those below them are proved, over
+its libraries, which are linked to at once, since at its end it puts back those of an earlier session.
 
 The verdicts of a crate are kept in out/wrong-bodies, and hold as long as nothing changes that decides them: the files
 of the crate and of those below it, its bodies, the kit, these scripts. Verdicts with a fault are not kept.
@@ -51,14 +52,12 @@ REFUSED = re.compile(r"not proved|no proof: expected answers|.*did not prove")
 # The line of a function whose given proof has errors, or rests on a lemma that has.
 STANDS_ON = re.compile(r"not proved; it stands on (.*?), which antt refuses")
 # An error in an answer, and what it is if the answer names a step of the code that the body does not have.
-ERROR = re.compile(r"^\./proofs/(.*)\.antt:[\d:]+ error: `(.*?)`: (.*)$", re.M)
+ERROR = r"^\S*/crates/{}/proofs/(.*)\.antt:[\d:]+ error: `(.*?)`: (.*)$"
 GONE = "has no field `"
-# The memory that a check of bodies takes, and a proof of a crate.
-OF_A_CHECK, OF_A_PROOF = 1_600_000_000, 1_100_000_000
+# The memory that a check of bodies takes at most, and a proof of a crate.
+OF_A_CHECK, OF_A_PROOF = 1_800_000_000, 1_100_000_000
 # What `rt ci` says of a crate that is proved, or that an earlier run proved.
 BUILT = re.compile(r"^rt: (\w+) (?:proved$|is kept: )", re.M)
-# What the prover says of a function where some goals wait for what it calls.
-NOT_TRIED = "`search` has not tried the goals of `{}::{}`,"
 LAST = re.compile(r"^(only|logic)=", re.M)
 
 
@@ -82,14 +81,14 @@ def is_refused(line: str, of_others: tuple[str, ...], form: set[str]) -> bool:
 
 def of_form(crate: str, said: str) -> set[str]:
     """Returns the answers in which nothing is wrong but that they name what the body does not have."""
-    found = [(f"Rattle.{crate}.proofs.{file.replace('/', '.')}.{it}", why) for file, it, why in ERROR.findall(said)]
+    errors = re.findall(ERROR.format(crate), said, re.M)
+    found = [(f"Rattle.{crate}.proofs.{file.replace('/', '.')}.{it}", why) for file, it, why in errors]
     return {it for it, _ in found} - {it for it, why in found if GONE not in why}
 
 
 def outcome(crate: str, body: Body, asked: Sequence[Body], said: str) -> Outcome:
-    """Returns what a check of the bodies that were asked for says of one. A right one that fails only by what it calls
-    is as good as proved, if all its goals were tried. A copy is refused only for what it is to ensure, and not for a
-    step on the way, such as an overflow."""
+    """Returns what a check of the bodies that were asked for says of one. A copy is refused only for what it is to
+    ensure, and not for a step on the way, such as an overflow."""
     others = [it.function for it in asked if it.function != body.function]
     of_others = tuple(f"Rattle.{crate}.proofs.{it.replace('::', '.')}." for it in others)
     found = re.search(rf"^fn {crate}::{re.escape(body.function)}: (.*)$", said, re.M)
@@ -101,8 +100,7 @@ def outcome(crate: str, body: Body, asked: Sequence[Body], said: str) -> Outcome
     if is_refused(line, of_others, of_form(crate, said)):
         is_said = not body.text or "`returns" in line
         return Outcome.REFUSED if is_said else Outcome.NEITHER
-    is_tried = NOT_TRIED.format(crate, body.function) not in said
-    return Outcome.PROVED if body.is_right and is_tried else Outcome.UNKNOWN
+    return Outcome.UNKNOWN
 
 
 @dataclass
@@ -140,64 +138,77 @@ class Tried:
 # ---- checks
 
 
-def check(
-    rtlib: Any,
-    crate: Any,
-    texts: dict[str, str],
-    functions: Sequence[str],
-    kept: str,
-) -> str:
-    """Returns what a check of these functions says over a copy of the crate with these texts."""
-    with tempfile.TemporaryDirectory(prefix="wrong-bodies-") as top:
-        room = f"{top}/crates/{crate.name}"
-        for part in rtlib.PARTS:
-            if os.path.isdir(f"{crate.folder}/{part}"):
-                shutil.copytree(f"{crate.folder}/{part}", f"{room}/{part}")
-        for file, text in texts.items():
-            sources.write(f"{room}/{file}", text)
-        stand_ins.put(top, crate.name, functions)
-        words = [*crate.words(["--jobs", "1"], keeps=False), "--incremental", kept, "--allow-holes"]
-        asked = [it for name in functions for it in ("--only", name)]
-        return libraries.check(rtlib, room, [*words, *asked])
+@dataclass
+class Trial:
+    """The bodies of a crate: the copies and the changes that are still to be tried, those that the next check is asked
+    for, the texts of the files then, and what came of the others."""
 
+    crate: Any
+    tried: Tried
+    copies: list[edits.Copy]
+    left: list[Body]
+    most: int | None = None
+    asked: list[Body] = field(default_factory=list)
+    texts: dict[str, str] = field(default_factory=dict)
 
-def try_bodies(rtlib: Any, crate: Any, bodies: Sequence[Body], kept: str, tried: Tried) -> None:
-    """Tries bodies: in the first check all copies, and what fits beside them in its place. Those that are not judged
-    are tried again, those in place one by one if none was judged."""
-    copies = edits.copies_of(bodies, crate.folder)
-    left = [body for body in bodies if not body.text]
-    most = None
-    while copies or left:
-        chosen, texts = edits.together(left[:most], crate.folder, copies)
-        asked = [*(copy.body for copy in copies), *chosen]
-        names = [body.function for body in asked]
-        again = tried.judge(asked, check(rtlib, crate, texts, names, kept))
-        left = [body for body in left if body not in chosen]
-        if again == asked and (copies or len(asked) == 1):
-            tried.lines += [f"{body.name}: not judged" for body in again]
-            copies = []
+    def choose(self) -> None:
+        """Chooses what the next check is asked for: all copies, and what fits beside them in its place."""
+        chosen, self.texts = edits.together(self.left[: self.most], self.crate.folder, self.copies)
+        self.asked = [*(copy.body for copy in self.copies), *chosen]
+
+    def judge(self, said: str) -> None:
+        """Takes what the check says. Bodies that it does not judge are tried again, those in place one by one if it
+        judged none."""
+        again = self.tried.judge(self.asked, said)
+        chosen = self.asked[len(self.copies) :]
+        self.left = [body for body in self.left if body not in chosen]
+        if again == self.asked and (self.copies or len(self.asked) == 1):
+            self.tried.lines += [f"{body.name}: not judged" for body in again]
+            self.copies = []
         else:
-            copies = [copy for copy in copies if copy.body in again]
-            left += [it for it in chosen if it in again]
-            most = 1 if again == asked else None
+            self.copies = [copy for copy in self.copies if copy.body in again]
+            self.left += [it for it in chosen if it in again]
+            self.most = 1 if again == self.asked else None
 
 
-def try_all(rtlib: Any, crate: Any) -> Tried:
-    """Tries the wrong and the right bodies of a crate, over what its last check proved."""
+def trial_of(crate: Any) -> Trial:
+    """Returns the wrong and the right bodies of a crate, to be tried."""
     tried = Tried(crate.name)
-    left = []
-    for body in edits.bodies_of(crate.folder):
-        fault = edits.fault_of(body, crate.folder)
-        if fault:
-            tried.lines.append(f"{body.name}: {fault}")
-        else:
-            left.append(body)
-    with tempfile.TemporaryDirectory(prefix="wrong-bodies-kept-") as kept:
-        proved = f"{crate.folder}/out/incremental"
-        if os.path.isdir(proved):
-            shutil.copytree(proved, kept, dirs_exist_ok=True)
-        try_bodies(rtlib, crate, left, kept, tried)
-    print(f"{crate.name}: {len(tried.refused)} refused, {tried.accepted} accepted", flush=True)
+    faults = {body: edits.fault_of(body, crate.folder) for body in edits.bodies_of(crate.folder)}
+    tried.lines += [f"{body.name}: {fault}" for body, fault in faults.items() if fault]
+    bodies = [body for body, fault in faults.items() if not fault]
+    return Trial(crate, tried, edits.copies_of(bodies, crate.folder), [body for body in bodies if not body.text])
+
+
+def check(rtlib: Any, trials: Sequence[Trial]) -> str:
+    """Returns what a check says of the bodies that trials ask for, over copies of their crates."""
+    asked = [f"{trial.crate.name}::{body.function}" for trial in trials for body in trial.asked]
+    with tempfile.TemporaryDirectory(prefix="wrong-bodies-") as top:
+        for trial in trials:
+            room = f"{top}/crates/{trial.crate.name}"
+            for part in rtlib.PARTS:
+                if os.path.isdir(f"{trial.crate.folder}/{part}"):
+                    shutil.copytree(f"{trial.crate.folder}/{part}", f"{room}/{part}")
+            for file, text in trial.texts.items():
+                sources.write(f"{room}/{file}", text)
+            stand_ins.put(top, trial.crate.name, [body.function for body in trial.asked])
+        words = libraries.words_above(rtlib, [trial.crate for trial in trials], top)
+        only = [word for it in asked for word in ("--only", it)]
+        return libraries.check(rtlib, f"{top}/above", [*words, "--allow-holes", *only])
+
+
+def try_all(rtlib: Any, crates: Sequence[Any]) -> list[Tried]:
+    """Tries the wrong and the right bodies of crates of which none uses another."""
+    trials = [trial_of(crate) for crate in crates]
+    while waiting := [it for it in trials if it.copies or it.left]:
+        for trial in waiting:
+            trial.choose()
+        said = check(rtlib, waiting)
+        for trial in waiting:
+            trial.judge(said)
+    tried = [trial.tried for trial in trials]
+    for one in tried:
+        print(f"{one.crate}: {len(one.refused)} refused, {one.accepted} accepted", flush=True)
     return tried
 
 
@@ -209,17 +220,30 @@ def sum_of(crate: Any) -> str:
     return hashlib.sha256(repr((crate.stamp(), texts)).encode()).hexdigest()
 
 
-def tried_once(rtlib: Any, crate: Any) -> Tried:
-    """Returns what comes of the bodies of a crate, as it is kept where nothing has changed."""
-    path, total = f"{sources.TOP}/out/wrong-bodies/{crate.name}", sum_of(crate)
-    kept = sources.read(path).split() if os.path.isfile(path) else []
-    if kept[:1] == [total]:
-        print(f"{crate.name}: as in the last run", flush=True)
-        return Tried(crate.name, kept[2:], int(kept[1]))
-    tried = try_all(rtlib, crate)
-    if not tried.lines:
-        sources.write(path, " ".join([total, str(tried.accepted), *tried.refused]))
-    return tried
+def path_of(name: str) -> str:
+    """The file that has the verdicts of a crate."""
+    return f"{sources.TOP}/out/wrong-bodies/{name}"
+
+
+def read_kept(name: str, total: str) -> Tried | None:
+    """Returns the verdicts of a crate that are kept with this sum, or None."""
+    kept = sources.read(path_of(name)).split() if os.path.isfile(path_of(name)) else []
+    if kept[:1] != [total]:
+        return None
+    print(f"{name}: as in the last run", flush=True)
+    return Tried(name, kept[2:], int(kept[1]))
+
+
+def tried_once(rtlib: Any, crates: Sequence[Any]) -> list[Tried]:
+    """Returns what comes of the bodies of crates of which none uses another, as it is kept where nothing has
+    changed."""
+    sums = {crate.name: sum_of(crate) for crate in crates}
+    kept = {it: read_kept(it, total) for it, total in sums.items()}
+    tried = try_all(rtlib, [crate for crate in crates if not kept[crate.name]])
+    for one in tried:
+        if not one.lines:
+            sources.write(path_of(one.crate), " ".join([sums[one.crate], str(one.accepted), *one.refused]))
+    return [*filter(None, kept.values()), *tried]
 
 
 # ---- all
@@ -256,19 +280,33 @@ def linked(file: str, to: str) -> None:
         shutil.copy2(file, to)
 
 
-def each_once_built(crates: Sequence[Any], path: str, room: str) -> Iterator[Any]:
-    """Yields each crate once those below it are proved by the `rt ci` that writes this file, and links their libraries
-    into a folder."""
-    waiting, there = [*crates], set[str]()
-    below = {dep.name: dep for crate in crates for dep in crate.below()}
+def groups_of(crates: Sequence[Any]) -> list[list[Any]]:
+    """Returns crates in groups of which none has one that uses another of it: each has those over as many layers of
+    crates. A check of a group reads the libraries of the kit once. Those with the most bodies are first."""
+    layers: dict[int, list[Any]] = {}
+    for crate in crates:
+        layers.setdefault(height_of(crate), []).append(crate)
+    return [*layers.values()]
+
+
+def height_of(crate: Any) -> int:
+    """Returns over how many layers of crates a crate is."""
+    return max((1 + height_of(dep) for dep in crate.deps), default=0)
+
+
+def each_once_built(groups: Sequence[Sequence[Any]], path: str, room: str) -> Iterator[Sequence[Any]]:
+    """Yields each group of crates once those below them are proved by the `rt ci` that writes this file, and links
+    their libraries into a folder."""
+    waiting, there = [*groups], set[str]()
+    below = {dep.name: dep for group in groups for crate in group for dep in crate.below()}
     while waiting:
         for name in sorted({*BUILT.findall(sources.read(path))} & below.keys() - there):
             library = f"{room}/{name}.rlib"
             shutil.copytree(below[name].rlib, library, copy_function=linked)
             below[name].rlib = library
             there.add(name)
-        ready = [crate for crate in waiting if {dep.name for dep in crate.below()} <= there]
-        waiting = [crate for crate in waiting if crate not in ready]
+        ready = [it for it in waiting if {dep.name for crate in it for dep in crate.below()} <= there]
+        waiting = [group for group in waiting if group not in ready]
         yield from ready
         if waiting:
             time.sleep(0.2)
@@ -283,10 +321,11 @@ def at_once(is_beside: bool) -> int:
     return max(1, min(processors, room // OF_A_CHECK))
 
 
-def try_each(rtlib: Any, crates: Iterable[Any], is_beside: bool = False) -> list[Tried]:
-    """Tries crates as they come, some at a time."""
+def try_each(rtlib: Any, groups: Iterable[Sequence[Any]], is_beside: bool = False) -> list[Tried]:
+    """Tries groups of crates as they come, some at a time."""
     with concurrent.futures.ThreadPoolExecutor(at_once(is_beside)) as pool:
-        return [it.result() for it in [pool.submit(tried_once, rtlib, crate) for crate in crates]]
+        begun = [pool.submit(tried_once, rtlib, group) for group in groups]
+        return [tried for it in begun for tried in it.result()]
 
 
 def judged(results: Sequence[Tried]) -> int:
@@ -308,13 +347,13 @@ def main() -> int:
     rtlib = libraries.kit()
     rtlib.guarded()  # once, before the threads call it
     of_kit = {it.name: it for it in rtlib.crates_below(sources.TOP)}
-    crates = [of_kit[name] for name in counts]
+    groups = groups_of([of_kit[name] for name in counts])
     if given.beside:
         os.nice(5)  # `rt ci` waits for nothing
         with tempfile.TemporaryDirectory(prefix="wrong-bodies-libraries-") as room:
-            return judged(try_each(rtlib, each_once_built(crates, given.beside, room), is_beside=True))
-    below = dict.fromkeys(dep for crate in crates for dep in crate.below())
-    return 1 if libraries.build([*below], given.built) else judged(try_each(rtlib, crates))
+            return judged(try_each(rtlib, each_once_built(groups, given.beside, room), is_beside=True))
+    below = dict.fromkeys(dep for group in groups for crate in group for dep in crate.below())
+    return 1 if libraries.build([*below], given.built) else judged(try_each(rtlib, groups))
 
 
 if __name__ == "__main__":

@@ -76,9 +76,10 @@ RESTS = (
     "not proved; it stands on `Rattle.small.proofs.{}`, which antt refuses; "
     "it calls `small::other`, which is not proved"
 )
-GONE = "./proofs/one/Answers.antt:1:2: error: `returns`: record `Rattle.small.proofs.one.Lts.At` has no field `min`\n"
-FALSE = "./proofs/one/Answers.antt:3:4: error: `returns`: the two types differ\n"
-WAITS = "note: `search` has not tried the goals of `small::one_calling_itself`, which wait for a callee\n"
+ANSWERS = "/tmp/x/crates/{}/proofs/one/Answers.antt:1:2: error: `returns`: "
+GONE = ANSWERS.format("small") + "record `Rattle.small.proofs.one.Lts.At` has no field `min`\n"
+FALSE = ANSWERS.format("small") + "the two types differ\n"
+OF_OTHER = ANSWERS.format("smaller") + "the two types differ\n"
 UNENDED = "fn small::one: not proved\nkilled"
 # What is reported of bodies.
 ACCEPTED, UNJUDGED = ["one: NOT REFUSED"], ["one: not judged"]
@@ -128,6 +129,7 @@ TRIED: tuple[tuple[dict[str, str], list[str], tuple[int, int, list[str]]], ...] 
     # An answer that names a step of the code that the body does not have says nothing of the body.
     ({WRONG: edit("2")}, [GONE + said(one=RESTS.format("one.Answers.returns"))] * 2, (0, 0, UNJUDGED)),
     ({WRONG: edit("2")}, [GONE + FALSE + said(one=RESTS.format("one.Answers.returns"))], (1, 0, [])),
+    ({WRONG: edit("2")}, [GONE + OF_OTHER + said(one=RESTS.format("one.Answers.returns"))] * 2, (0, 0, UNJUDGED)),
     ({WRONG: edit("2")}, [said(one=RESTS.format("OneLaws.is_one"))], (1, 0, [])),
     ({WRONG: edit("2")}, [said(one=HOLED.format("other.Proof.other"))], (0, 0, ACCEPTED)),
     ({WRONG: edit("2")}, [said(one=HOLED.format("one.Answers.returns"))] * 2, (0, 0, UNJUDGED)),
@@ -150,23 +152,22 @@ TRIED: tuple[tuple[dict[str, str], list[str], tuple[int, int, list[str]]], ...] 
     ({WRONG: edit(" 1")}, [], (0, 0, ["one: it changes no code"])),
     ({LIB: ONE.replace("    1\n", f"    {BLANK}\n    1\n"), WRONG: edit(BLANKS, BLANK)}, [said(one=NOT)], (1, 0, [])),
     # A text is tried in a copy of the function, beside a control in which nothing may be wrong.
-    ({WRONG: body("one() + 1")}, [said(one_0=NOT, one_calling_itself="proved")], (1, 1, [])),
+    ({WRONG: body("one() + 1")}, [said(one_0=NOT, one_calling_itself=HOLES)], (1, 1, [])),
     ({WRONG: body("one() + 1")}, [said(one_0=HOLES, one_calling_itself=HOLES)], (0, 1, ACCEPTED)),
     ({WRONG: body("one() + 1")}, [said(one_0=LEFT.format("overflow"), one_calling_itself=HOLES)], (0, 1, ACCEPTED)),
     (TWO_TEXTS, [of_copies(NOT, NOT, HOLES)], (2, 1, [])),
     (TWO_TEXTS, [of_copies(NOT, HOLES, HOLES)], (1, 1, ["two: NOT REFUSED"])),
     (TWO_TEXTS, [of_copies(NOT, NOT, NOT)], (2, 0, [CONTROL])),
-    (TWO_TEXTS, [of_copies(NOT, NOT, CALLS)], (2, 1, [])),
     (TWO_TEXTS, ["only=3\n"], (0, 0, ["one: NOT REFUSED", "two: NOT REFUSED", CONTROL])),
-    # What fails only by what it calls is tried again, and a control whose goals were not all tried.
+    # What fails only by what it calls is tried again, and so is a control.
     (TWO_TEXTS, [of_copies(CALLS, NOT, HOLES), said(one_0=NOT)], (2, 1, [])),
     (TWO_TEXTS, [of_copies(CALLS, NOT, HOLES), said(one_0=HOLES)], (1, 1, ACCEPTED)),
     (TWO_TEXTS, [of_copies(CALLS, NOT, HOLES), said(one_0=CALLS)], (1, 1, UNJUDGED)),
-    (TWO_TEXTS, [WAITS + of_copies(NOT, NOT, CALLS), said(one_calling_itself=HOLES)], (2, 1, [])),
-    (TWO_TEXTS, [WAITS + of_copies(NOT, NOT, CALLS), said(one_calling_itself=NOT)], (2, 0, [CONTROL])),
+    (TWO_TEXTS, [of_copies(NOT, NOT, CALLS), said(one_calling_itself=HOLES)], (2, 1, [])),
+    (TWO_TEXTS, [of_copies(NOT, NOT, CALLS), said(one_calling_itself=NOT)], (2, 0, [CONTROL])),
     # One check tries copies, and bodies in the places of other functions. After it comes what is in the place of a
     # function that the copies call.
-    (BESIDE, [said(other=NOT, third=NOT) + of_copies(NOT, NOT, CALLS), said(one=NOT)], (5, 1, [])),
+    (BESIDE, [said(other=NOT, third=NOT) + of_copies(NOT, NOT, HOLES), said(one=NOT)], (5, 1, [])),
     # Two functions are tried in one check, and what fails by what it calls after the others, and then alone.
     (TWO_FUNCTIONS, [said(one=NOT, other=NOT)], (2, 0, [])),
     (TWO_FUNCTIONS, [said(one=NOT, other=CALLS), said(other=NOT)], (2, 0, [])),
@@ -176,7 +177,7 @@ TRIED: tuple[tuple[dict[str, str], list[str], tuple[int, int, list[str]]], ...] 
     (TWO_FUNCTIONS, [said(one=NOT, other=RESTS.format("one.Answers.returns")), said(other=NOT)], (2, 0, [])),
     # Texts that are not tried.
     *(
-        ({WRONG: body("2"), SECOND: second}, [said(one_0=NOT, one_calling_itself="proved")], (1, 1, reported))
+        ({WRONG: body("2"), SECOND: second}, [said(one_0=NOT, one_calling_itself=HOLES)], (1, 1, reported))
         for second, reported in (
             (body("1"), ["second: it changes no code"]),
             (body("fn two() -> u8 ensures { result ≡ 1 } { 1 } 3"), GHOST),
@@ -204,8 +205,31 @@ class Outcomes(InFolder):
                 mock.patch.object(wrong_bodies, "check", side_effect=checks),
                 contextlib.redirect_stdout(io.StringIO()),
             ):
-                tried = wrong_bodies.try_all(None, self.crate(files))
+                (tried,) = wrong_bodies.try_all(None, [self.crate(files)])
                 self.assertEqual((len(tried.refused), tried.accepted, tried.lines), wanted)
+
+    def test_crates_in_one_check(self) -> None:
+        """Crates are tried in one check where none uses another, and in the next those of which bodies are left."""
+        low, side, high, top = (types.SimpleNamespace(name=name, deps=[]) for name in ("low", "side", "high", "top"))
+        high.deps, top.deps = [low], [side, high]
+        self.assertEqual(wrong_bodies.groups_of([top, side, high, low]), [[top], [side, low], [high]])
+        crates = [self.crate({WRONG: edit("2")}), self.crate(TWO_FUNCTIONS)]
+        crates[1].name = "large"
+        checks = [said(one=NOT), said(one=NOT, other=CALLS).replace("small", "large"), said(other=NOT)]
+        checks = [checks[0] + checks[1], checks[2].replace("small", "large")]
+        with (
+            mock.patch.object(wrong_bodies, "check", side_effect=checks) as check,
+            contextlib.redirect_stdout(io.StringIO()) as printed,
+        ):
+            tried = wrong_bodies.try_all(None, crates)
+        self.assertEqual(
+            [(it.crate, it.refused, it.lines) for it in tried],
+            [("small", ["one"], []), ("large", ["one", "other"], [])],
+        )
+        self.assertEqual(
+            [[it.crate.name for it in call.args[1]] for call in check.call_args_list], [["small", "large"], ["large"]]
+        )
+        self.assertEqual(printed.getvalue(), "small: 1 refused, 0 accepted\nlarge: 2 refused, 0 accepted\n")
 
     def test_a_body_as_a_text(self) -> None:
         """It is always a copy with the clause that it names, beside the function that it can call, and a control that
@@ -277,13 +301,13 @@ class Outcomes(InFolder):
             checks = [said(one=NOT), said(one=HOLES)]
             with self.subTest(file=file), contextlib.redirect_stdout(io.StringIO()):
                 with mock.patch.object(wrong_bodies, "check", side_effect=checks) as check:
-                    found = wrong_bodies.tried_once(None, crate)
+                    (found,) = wrong_bodies.tried_once(None, [crate])
                 self.assertEqual((check.called, found.refused, found.lines), (is_tried, ["one"], []))
         write(self.path(LIB), ONE)
         for _ in range(2):
             with mock.patch.object(wrong_bodies, "check", return_value="only=0\n") as check:
                 with contextlib.redirect_stdout(io.StringIO()):
-                    wrong_bodies.tried_once(None, crate)
+                    wrong_bodies.tried_once(None, [crate])
             self.assertTrue(check.called)
 
     def test_beside_the_proofs(self) -> None:
@@ -298,14 +322,14 @@ class Outcomes(InFolder):
             write(self.path("low.rlib/format"), "")
             with self.subTest(last), mock.patch.object(wrong_bodies.time, "sleep") as slept:
                 slept.side_effect = lambda _: write(path, next(texts))
-                self.assertEqual([*wrong_bodies.each_once_built([high, low], path, room)], [low, high])
+                self.assertEqual([*wrong_bodies.each_once_built([[high], [low]], path, room)], [[low], [high]])
                 self.assertEqual((low.rlib, [*texts]), (f"{room}/low.rlib", []))
                 self.assertTrue(os.path.samefile(f"{room}/low.rlib/format", self.path("low.rlib/format")))
             shutil.rmtree(room)
 
     def test_as_many_at_a_time_as_the_memory_takes(self) -> None:
         processors = mock.patch("os.sched_getaffinity", lambda _: {1, 2, 3, 4})
-        for megabytes, counts in ((500, (1, 1)), (5_000, (3, 1)), (8_000, (4, 2)), (16_000, (4, 4))):
+        for megabytes, counts in ((500, (1, 1)), (5_000, (2, 1)), (8_000, (4, 2)), (16_000, (4, 4))):
             text = f"MemFree: 1 kB\nMemAvailable: {megabytes:9}000 kB\n"
             with mock.patch.object(wrong_bodies.sources, "read", {"/proc/meminfo": text}.get), processors:
                 self.assertEqual((wrong_bodies.at_once(False), wrong_bodies.at_once(True)), counts, megabytes)
