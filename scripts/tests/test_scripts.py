@@ -387,7 +387,7 @@ class StandIns(InFolder):
         """All have a hole and a body that calls nothing, but one that is asked for and those of other names."""
         folder = self.path("crates", "small")
         write(f"{folder}/src/lib.rt", ONE)
-        wanted = read(f"{SCRIPTS}/tests/functions.rt")
+        wanted = read(f"{SCRIPTS}/tests/functions.txt")
         write(f"{folder}/src/part.rt", wanted)
         write(f"{folder}/src/main.rt", "fn main() {\n    one();\n}\n")
         more = "use crate::part::{Other, Some};\n\nimpl Some {\n    fn three() -> u8 {\n        3\n    }\n}\n"
