@@ -2,7 +2,7 @@
 """Runs the lints of the gate, each over a wrong text too, in which it has to find something.
 
 What a file is, its first line says, or its ending; a first line `#!` that is none of INTERPRETERS is a fault. Each
-file of Python is judged by itself, in this process: black says whether its layout is right, pyflakes and
+file of Python is judged by itself, in forks of this process: black says whether its layout is right, pyflakes and
 pycodestyle look at the rest of its style, and this script at how large functions are, and in the tools at the order
 of the imports. Programs judge the types, the shell and the manuals. Settings beside the code are not read, but for
 scripts/mypy.ini; remarks in the code that silence a lint are faults. What had no fault is judged again where one of
@@ -310,14 +310,16 @@ def all_lints(files: Mapping[str, Sequence[str]]) -> list[Lint]:
 
 
 def judged(lints: Mapping[str, Lint]) -> dict[str, list[str]]:
-    """What lints find, by their sums: the programs one after the other in a fork of this process, since mypy keeps for
-    the next run what it has read of the modules that all use, and the others here. More at a time take longer each."""
+    """What lints find, by their sums, in forks of this process: some at a time, but the programs one after the other,
+    since mypy keeps for the next run what it has read of the modules that all use. Looking for what can be freed would
+    take a third of the time."""
     programs = {it: lint for it, lint in lints.items() if isinstance(lint, Program)}
-    gc.disable()  # looking for what can be freed would take a third of the time
-    with ProcessPoolExecutor(1) as pool:
-        found = pool.map(methodcaller("faults"), programs.values(), chunksize=len(programs) or 1)
-        of_others = {it: lint.faults() for it, lint in lints.items() if it not in programs}
-        return dict(zip(programs, found)) | of_others
+    others = {it: lint for it, lint in lints.items() if it not in programs}
+    count = min(len(os.sched_getaffinity(0)), len(lints))
+    with ProcessPoolExecutor(count or 1, initializer=gc.disable) as pool:
+        of_programs = pool.map(methodcaller("faults"), programs.values(), chunksize=len(programs) or 1)
+        found = pool.map(methodcaller("faults"), others.values(), chunksize=4)
+        return dict(zip(programs, of_programs)) | dict(zip(others, found))
 
 
 def main() -> int:
