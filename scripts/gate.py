@@ -82,8 +82,9 @@ def command_of(step: str, is_beside: bool) -> list[str]:
     return [sources.PYTHON, *f"scripts/{step}".split(), *beside]
 
 
-def run(step: str, command: Sequence[str]) -> tuple[int, str, float]:
-    """Runs a step, and returns its status, all that it wrote and the seconds that it took."""
+def run(step: str, command: Sequence[str]) -> tuple[int, str, float, float]:
+    """Runs a step, and returns its status, all that it wrote, and the seconds that it took by the clock and of
+    processors."""
     start = time.monotonic()
     with open(path_of(step), "r+", encoding="utf-8", errors="replace") as said:
         process = subprocess.Popen(
@@ -101,10 +102,11 @@ def run(step: str, command: Sequence[str]) -> tuple[int, str, float]:
             is_over = bool(os.waitid(os.P_PID, process.pid, how))
         with contextlib.suppress(ProcessLookupError):
             os.killpg(process.pid, signal.SIGKILL)
-        status = process.wait()
+        _, ended, used = os.wait4(process.pid, 0)
+        process.returncode = os.waitstatus_to_exitcode(ended)
         said.seek(0)
         fault = "" if is_over else f"it took longer than {LONGEST:.0f} seconds, and was ended\n"
-        return status, said.read() + fault, time.monotonic() - start
+        return process.returncode, said.read() + fault, time.monotonic() - start, used.ru_utime + used.ru_stime
 
 
 def stop(number: int, _: object) -> NoReturn:
@@ -124,20 +126,19 @@ def processor_seconds() -> float:
     return sum(os.times()[:4])
 
 
-def judged(step: str, result: Future[tuple[int, str, float]], kept: dict[str, str], writes: bool) -> int:
+def judged(step: str, result: Future[tuple[int, str, float, float]], kept: dict[str, str], writes: bool) -> int:
     """Waits for a step, and prints what it says where it failed, or else its last line. Returns its status, or 1 where
     that line is another one than is kept; `writes` keeps it."""
-    used = processor_seconds()
     # A signal that comes just before a wait without an end would not end it.
     while not result.done():
         time.sleep(0.05)
-    status, said, taken = result.result()
+    status, said, taken, used = result.result()
     last = VARIES.sub("", said.rstrip("\n").split("\n")[-1])
     if writes and status == 0:
         kept[step] = last
     fault = f"status {status}" if status else f"kept is: {kept.get(step, 'no line')}" * (kept.get(step) != last)
     print(f"{said}{fault}" if fault else last)
-    how_long = f"{taken:.1f} s, {processor_seconds() - used:.1f} of processor"
+    how_long = f"{taken:.1f} s, {used:.1f} of processor"
     print(f"{'FAILED' if fault else 'ok'}: {step}, {how_long}", flush=True)
     return status or int(bool(fault))
 
@@ -146,7 +147,7 @@ def run_all(steps: Sequence[str], kept: dict[str, str], writes: bool, pool: Thre
     """Runs steps, and prints how many passed. Returns the status of the gate."""
     failed = sorted(f"{step}, which is no step" for step in {*kept} - {*ALL})
     print(*failed, sep="\n", end="\n" * bool(failed))
-    begun: dict[str, Future[tuple[int, str, float]]] = {}
+    begun: dict[str, Future[tuple[int, str, float, float]]] = {}
     for count, step in enumerate(steps, 1):
         beside = LAST if step in LAST else (WRONG,) * (step == PROOFS)
         for one in (step, *(it for it in steps[count:] if it in beside)):

@@ -293,7 +293,7 @@ class Gate(InFolder):
         write(self.path("out/steps/hangs-py.txt"), "")
         here = mock.patch.multiple(gate.sources, TOP=self.folder, PYTHON="/bin/sh")
         with here, mock.patch.object(gate, "LONGEST", 2.0):
-            status, said, taken = gate.run("hangs.py", gate.command_of("hangs.py", False))
+            status, said, taken, _ = gate.run("hangs.py", gate.command_of("hangs.py", False))
         started, last = said.splitlines()
         self.assertEqual((status, last), (-9, "it took longer than 2 seconds, and was ended"))
         self.assertGreaterEqual(taken, 2)
