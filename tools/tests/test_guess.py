@@ -378,6 +378,23 @@ class Guesses(unittest.TestCase):
             self.assertIn("; --price may be ", said, names)
             self.assertNotIn(b'"price"', done.stdout)
 
+    def test_amounts_and_numbers_decide_where_names_do_not(self) -> None:
+        """The command of a table whose names are plain, but for which one is meant."""
+        texts = [f"{code};Tea {number}" for number, code in enumerate(CODES, 1)]
+        for more, rows, wanted in (
+            ("VK1;VK2", ("1.99;2.37", "8.40;10.00", "2.05;2.44"), "--price VK2"),  # with 19 %
+            ("Standard price;Price", ("8.00;8.00", "9.00;5.00", "2.00;2.00"), "--price Price"),
+            ("Name EN", ("Tea one", "", "Tea three"), "--title Name"),
+            ("Item ID;Seriennummer", ("1201;S-4711", "1202;S-4712", "1203;S-4713"), "--code EAN"),
+        ):
+            lines = [f"EAN;Name;{more}", *map(";".join, zip(texts, rows))]
+            said, done = self.proposed_and_run("\n".join(lines) + "\n")
+            self.assertIn(f" {wanted} ", said, more)
+            self.assertEqual((done.returncode, done.stdout.count(b"ean13 ")), (0, 3), more)
+        lines = ["priref;Objektnummer;Title", "40012;1956.012;Tea", "40013;1956.013a;Gum"]
+        said, _ = self.proposed_and_run("\n".join(lines) + "\n")
+        self.assertIn("--code may be priref, Objektnummer; try label-table ", said)
+
     def test_variants_of_a_shop(self) -> None:
         """Programs of shops write the title into the first row of an article alone."""
         rows = [

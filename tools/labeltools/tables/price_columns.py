@@ -50,7 +50,7 @@ def price_columns(columns: Mapping[int, ColumnSample]) -> Places:
         is_net = any(one.says("net") for one in may_be.values() if one.texts)
         return Places([*may_be], is_none=not is_net)
     ranks = {at: price_rank(one) for at, one in paid.items()}
-    plainest = sorted(paid, key=lambda at: (ranks[at], at))
+    plainest = sorted(paid, key=lambda at: (ranks[at], len(paid[at].says("regular")), at))
     pairs = combinations(plainest, 2)
     left = paid.keys() - {at for it, at in pairs if yields(paid[at], ranks[at][0], paid[it])}
     first = ranks[plainest[0]]
