@@ -239,6 +239,8 @@ class Prices(RulesTest):
         status, messages, labels = self.said(text, *arguments, "--price-as", "0,00 €")
         self.assertEqual((status, [label["price"] for label, _ in labels]), (1, ["7,50 €"]))
         self.assertIn("it has CHF, and the format of prices has EUR", messages[0])
+        labels = self.said(f"EAN;Preis;Währung\n{SMALL};7.50 €;EUR\n", *arguments)[2]
+        self.assertEqual([label["price"] for label, _ in labels], ["7.50 €"])  # which has it
 
     def test_a_column_that_has_no_currencies(self) -> None:
         """One that is not known is said; one with digits, none, or another one than that of the
