@@ -18,8 +18,9 @@ CODES = ("codes", "own-numbers")
 
 
 def code_columns(columns: Sequence[ColumnSample]) -> Places:
-    """Returns the columns that may have the codes: those of surely EAN or UPC and those that are
-    named so, else those with another number in each row. Of several the plain name is meant.
+    """Returns the columns that may have the codes: those that surely have EAN or UPC, and those
+    that are named so; if there are none, those with another number in each row. Of several the one
+    with the plain name is meant.
     """
     found, plain = found_codes(columns), plain_columns(columns)
     books = [at for at in found if is_of_books(columns[at])]
@@ -36,8 +37,9 @@ def code_columns(columns: Sequence[ColumnSample]) -> Places:
 
 
 def the_code(columns: Sequence[ColumnSample], found: Sequence[int], rest: Sequence[int]) -> Places:
-    """Returns the codes among columns that have some: those of the plainest name, if that says
-    nothing else, and not few rows have one where the rest are numbers of a country.
+    """Returns the one column that is meant among several with codes: the one with the plainest
+    name. None is meant if that name says something else, too, or if few of its rows have a code
+    and the other columns have numbers of one country.
     """
     first = min(code_rank(columns[at]) for at in found)
     best = [at for at in found if code_rank(columns[at]) == first]

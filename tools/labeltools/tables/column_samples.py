@@ -46,8 +46,8 @@ class Plainness(IntEnum):
 
 @dataclass(frozen=True)
 class ColumnSample:
-    """A column: its name, its cells, and words of its name that others have, too, which it is no
-    kind of price for.
+    """A column: its name, its cells, and those words of its name that other columns have, too.
+    These say nothing about what kind of price it has.
     """
 
     name: str

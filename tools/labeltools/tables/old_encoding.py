@@ -119,8 +119,8 @@ class OldEncoding:
 
 
 def old_encoding(data: bytes, name: str, options: TableOptions) -> OldEncoding | None:
-    """Returns the encoding of a table that is not UTF-8; None where several readings are sensible,
-    or none.
+    """Returns the encoding of a table that is not UTF-8, or None where no reading of it makes sense
+    or several do.
     """
     several = in_several_bytes(data, name, options)
     if several:

@@ -21,7 +21,8 @@ from labeltools.tables.money import WORDS
 PAID = ("prices", "taxed", "paid", "sold", "currencies", "beside-prices")  # words of a plain price
 RATES = [1 + Decimal(one) / 100 for one in WORDS["tax-rates"]]
 MOST_RATES = 3  # of a tax in a table, zero among them
-ROUNDED = Decimal("0.012"), Decimal("0.0001")  # what rounding may change, and a part that it may
+ROUNDED_OFF = Decimal("0.012")  # what rounding may change in a price
+PART_OF_PRICE = Decimal("0.0001")  # which part of a high price it may change
 LEAST_PAID = Decimal("0.67")  # what customers pay of what the maker advises
 LAST_DIGITS = (0, 5, 9)  # of the prices of shops, in cents
 
@@ -40,9 +41,9 @@ class PriceKind(IntEnum):
 
 def price_columns(columns: Mapping[int, ColumnSample]) -> Places:
     """Returns the columns that may have the price that customers pay, and the one that surely has.
-    None is a cost, a sum, or without its tax, by its name or by the amounts; nor what has the same
-    amounts as one that says it more plainly, or is in a few rows alone. Of the others the plainest
-    name wins. What is advised yields to it if that is not far below.
+    No such column has costs, sums or prices without tax, by its name or by its amounts, nor the
+    same amounts as one with a plainer name, nor prices in only a few rows. Of the others the one
+    with the plainest name wins. Advised prices yield to it if it is not far below them.
     """
     may_be = {at: one for at, one in columns.items() if may_be_price(one)}
     paid = paid_columns(may_be)
@@ -151,8 +152,7 @@ def is_taxed(column: ColumnSample, whole: ColumnSample) -> bool:
 
 def is_with(bare: Decimal, whole: Decimal, rate: Decimal) -> bool:
     """Returns whether a price is another one with a tax, rounded."""
-    cents, part = ROUNDED
-    return abs(bare * rate - whole) <= max(cents, part * whole)
+    return abs(bare * rate - whole) <= max(ROUNDED_OFF, PART_OF_PRICE * whole)
 
 
 def is_paid_beside(column: ColumnSample, advised: ColumnSample) -> bool:

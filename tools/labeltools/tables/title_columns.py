@@ -16,10 +16,11 @@ Rank = tuple[int, Plainness]
 
 def title_columns(columns: Mapping[int, ColumnSample], keys: Sequence[Sequence[str]]) -> Places:
     """Returns the columns that may have the title: those that are named so, and those with another
-    text in most rows. Those that say it most plainly are meant, and those that have it in far more
-    rows, but for variants, as the cells of keys say; of a short and a long text the first, and of
-    those that have numbers. A first and a last name are one title. What is of some kind is sure
-    only as the only name, and another text only as the only one of the table.
+    text in most rows. The one with the plainest name is meant, unless another one has a text in far
+    more rows; rows of variants, which the cells of `keys` tell, may lack it. A short text is meant
+    before a long one, and of numbered names the first. A first and a last name make one title. A
+    name of some kind is meant only if there is no other name, and another text only if it is the
+    only one of the table.
     """
     texts = {at: one for at, one in columns.items() if may_be_title(one)}
     numbered = [at for at, one in columns.items() if at not in texts and is_plain_name(one)]
