@@ -25,7 +25,7 @@ STATUS = (
 )
 READY = STATUS % (0, 0, 0, 0)
 ERRORS = b"\x02\r\n\r\n  PRINTER STATUS\r\n ERRORS: %d 00000000 %08X\r\n WARNINGS: 0 .. \x03"
-QUIET = 20.0  # seconds without a connection after which the program ends
+QUIET = 600.0  # seconds without a connection after which the program ends
 BROKEN = struct.pack("ii", 1, 0)  # a connection that is closed so is reset
 LEAST = 512  # bytes
 
