@@ -27,7 +27,7 @@ MODULES = {
     "judge.proofs.Differ": "◌=!=◌ differ bytes_differ itself",
 }
 # What the copies say in place of an equality, and of what turns a value round.
-DIFFER = sources.read(f"{sources.TOP}/scripts/differ.antt")
+DIFFER = sources.read(f"{sources.TOP}/scripts/differ.txt")
 ERROR = re.compile(r"^\./proofs/V(\d+)/(\w+)\.antt:\d+:\d+: error: (.*)", re.M)
 
 
