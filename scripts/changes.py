@@ -7,40 +7,24 @@ left out, since they are proved, but for the ranges of the options and what dama
 
 import hashlib
 import re
+import tomllib
 from dataclasses import dataclass
 from typing import Container, Iterable, Iterator, Sequence
 
 import reader
+import sources
 from reader import Declaration, File, Token
 
-CRATES = [
-    *("device", "testing", "gf256", "linear", "qrdata"),
-    *("qrmatrix", "picture", "linear_reading", "reading", "labelcore", "filter", "command", "capi"),
-]
-# The files of worked values, the quick ones first, and the crate that has them where it is another.
-FILES = {
-    "filter": ["DamageExamples", "Examples"],
-    "linear": ["Examples", "DamageExamples"],
-    "qrmatrix": ["ListedTables", "WorkedModules", "Examples", "LargerSymbol", "PositionExamples"],
-}
+# The crates, and the files of worked values of those that have others than Examples, the quick ones first.
+DATA = tomllib.loads(sources.read(f"{sources.TOP}/scripts/changes.toml"))
+CRATES, FILES = DATA["crates"], DATA["files"]
+# The crate that has the worked values, where it is another.
 HOME = {"device": "labelcore"}
 # These propositions are no promises: they say the ranges of the options, and what damage is little.
 RANGES = {"Damage AreClose", "Damage AreNear", "Ranges IsInRange", "Ranges IsMask"}
-# What takes the place of a word and it of that, of a word alone, and of a sign between blanks.
-PAIRS = (
-    *(("true", "false"), ("nat_le", "nat_lt"), ("take", "drop"), ("list_all", "list_any")),
-    *(("min", "max"), ("is_none", "is_some"), ("left", "right"), ("top", "bottom")),
-    *(("width", "height"), ("x", "y"), ("i", "j"), ("row", "column"), ("rows", "columns")),
-    ("first", "second"),
-)
-SINGLE = {"not": "itself", "reverse": "itself", "beq": "differ", "bytes_eq": "bytes_differ"}
-LEVELS = {"L": "M", "M": "Q", "Q": "H", "H": "L", "A": "B", "B": "A", "C": "A"}
-WORDS = {**dict(PAIRS), **{new: old for old, new in PAIRS}, **SINGLE, **LEVELS}
-SIGNS = {
-    **{"&&": "||", "||": "&&", "+": "-", "-": "+", "*": "+"},
-    **{"/": "%", "%": "/", "^": "*", "==": "=!="},
-}
-OF_RANGES = {"≤": "<", "<": "≤"}
+# What takes the place of a word, of a sign between blanks, and of a sign in a range.
+WORDS = DATA["words"] | {one: other for pair in DATA["pairs"] for one, other in (pair, pair[::-1])}
+SIGNS, OF_RANGES = DATA["signs"], DATA["of_ranges"]
 REPLACED = {**WORDS, **SIGNS, **OF_RANGES}
 # These are in a definition only where it binds them, and else after a point.
 VARIABLES = {*"x y i j row column rows columns first second width height".split()}

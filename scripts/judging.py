@@ -27,23 +27,7 @@ MODULES = {
     "judge.proofs.Differ": "◌=!=◌ differ bytes_differ itself",
 }
 # What the copies say in place of an equality, and of what turns a value round.
-DIFFER = """use Rattle.std.specs.Prelude.{ℕ, Bool, not, ◌==◌, List}
-use Rattle.std.specs.Bool.{beq}
-use Rattle.std.specs.Str.{bytes_eq}
-
-infix 40 ◌=!=◌
-abbrev pub ◌=!=◌ : ℕ → ℕ → Bool
-a =!= b = not (a == b)
-
-abbrev pub differ : Bool → Bool → Bool
-differ a b = not (beq a b)
-
-abbrev pub bytes_differ : List ℕ → List ℕ → Bool
-bytes_differ a b = not (bytes_eq a b)
-
-abbrev pub itself : {A : Type 0} → A → A
-itself a = a
-"""
+DIFFER = sources.read(f"{sources.TOP}/scripts/differ.txt")
 ERROR = re.compile(r"^\./proofs/V(\d+)/(\w+)\.antt:\d+:\d+: error: (.*)", re.M)
 
 

@@ -8,13 +8,16 @@ import contextlib
 import functools
 import importlib
 import io
+import json
 import os
 import shutil
+import string
 import subprocess
 import sys
 import tempfile
+import tomllib
 import unittest
-from typing import Callable
+from typing import Any, Callable
 from unittest import mock
 
 sys.path.insert(0, os.path.dirname(os.path.dirname(os.path.abspath(__file__))))
@@ -24,6 +27,12 @@ sources = module("sources")
 TOP, PYTHON, SCRIPTS = sources.TOP, sources.PYTHON, f"{sources.TOP}/scripts"
 read: Callable[[str], str] = sources.read
 run_command: Callable[..., tuple[int, str]] = functools.partial(sources.run, folder="/")
+
+
+def cases_of(test: str, **values: str) -> dict[str, Any]:
+    """The tables of the file of cases beside a test. In these, $NAME between double quotes stands for a value."""
+    quoted = {name: json.dumps(value, ensure_ascii=False)[1:-1] for name, value in values.items()}
+    return tomllib.loads(string.Template(read(f"{SCRIPTS}/tests/{test}.toml")).safe_substitute(quoted))
 
 
 def in_copy(folder: str, name: str, *arguments: str) -> tuple[int, str]:

@@ -4,26 +4,10 @@ import os
 import re
 from unittest import mock
 
-from support import PYTHON, TOP, InCopy, module, read, run_command
+from support import PYTHON, TOP, InCopy, cases_of, module, read, run_command
 
-DIFFER = "crates.txt and the folders crates/*/src differ in: "
-OF_PICTURE = {"crates/picture": f"{DIFFER}picture picture-away"}
-OF_PAGES = {page: f"there is no {page}" for page in ("README.md", "docs/PROOF.md", "crates/device/README.md")}
-# What is moved away together for each step, and what that step says of each.
-MOVED: dict[str, tuple[dict[str, str], ...]] = {
-    "lints.py": ({"debian/tests/shells": "debian/tests has other files"}, {"man": "there is no folder man"}),
-    "pages.py": (OF_PICTURE, {"crates": DIFFER}, OF_PAGES),
-    "unused.py": (OF_PICTURE, {"crates": DIFFER}),
-    "believed.py --check": (OF_PICTURE,),
-    "run_tests.py scripts/tests": ({"scripts/tests": "there is no folder scripts/tests"},),
-}
-HANDLES, END = "Handles allowed: none.", "\n## "
-README, PAGE, INPUT = "README.md", "docs/DEFINITIONS.md", "docs/INPUT.md"
-PROOF, PROMISES, CRATES, STRENGTH = (f"docs/PROOF{name}.md" for name in ("", "-RUN", "-CRATES", "-STRENGTH"))
+README, PROOF, READING = "README.md", "docs/PROOF.md", "crates/picture/specs/Reading.antt"
 COUNTS, RESULTS = "scripts/counts.txt", "scripts/believed_rows.txt"
-READING, ENTRY = "crates/picture/specs/Reading.antt", "crates/command/src/entry.rt"
-POWERS, MUL = "crates/gf256/proofs/PowerLaws.antt", "crates/gf256/proofs/field/mul/Answers.antt"
-FIELD, WORDS = "crates/gf256/src/field.rt", "crates/gf256/specs/Polynomial.antt"
 
 
 def found_in(pattern: str, file: str) -> str:
@@ -33,110 +17,20 @@ def found_in(pattern: str, file: str) -> str:
     return found[0]
 
 
-# How many changes of definitions are judged, as a step and a page have it, and numbers of pages with what is beside.
+# How many changes of definitions are judged, as a step and a page have it, and a number of a page.
 JUDGED = found_in(r"\d+(?= changes of)", COUNTS)
 NUMBER = found_in(r"[\d,]+ lines of\s+\[definitions", README)
-SHOWS, RUNS = (found_in(rf"\| the clause `{name}` of `program` .*\n", PROOF) for name in ("shows", "runs"))
-# What is written in the place of a text, the first one in a file, or at its end, for each step, and what that step
-# says of it. The changes of a step are made together.
-CHANGED = {
-    "lints.py": (
-        ("HANDLES", HANDLES, "Handles allowed: Net.", f"HANDLES is not: {HANDLES}"),
-        ("crates/device/src/lib.rt", "#![tactic(auto)]", "", "crates/device: no line #![tactic(auto)]"),
-        ("tools/labeltools/paper/box.py", "class Box(", "class Area(", "layout/area.py, too"),
-    ),
-    "pages.py": (
-        ("crates/device/README.md", "```rust\n", "```rust\nsink.forget();\n", "lacks: sink.forget();"),
-        ("crates/linear/README.md", "```rust\n", "```text\n", "crates/linear/README.md:1: no example"),
-        ("crates/command/README.md", "\n", "\n\n", "crates/command/README.md:1: 41 lines, and at most 40"),
-        ("docs/PRINTING.md", END, f"\n```sh\nlabels\n{END}", "this block is not closed"),
-        ("docs/WINDOW.md", END, f"\n```sh\nlabels\n```\n{END}", "nothing runs the commands of this page"),
-        ("docs/TICKETS.md", END, f"\n{'<' * 7} HEAD\n{END}", "a merge left: <<<<<<< HEAD"),
-        ("docs/SCANNING.md", END, f"\n| {'a' * 500} |\n{END}", "504 bytes in a line, and at most 500 are wanted"),
-        (INPUT, "](PRINTING.md", "](PRINTIN.md", "a link to no file: PRINTIN.md"),
-        ("designs/README.md", "](jar-38x21.svg", "](jar.svg", "a link to no file: jar.svg"),
-        (INPUT, END, f"\n~~~rust\nfn a() {{}}\n~~~\n{END}", "no script reads blocks of ~~~"),
-        (INPUT, END, f"\n```\nlabels\n```\n{END}", "no script reads blocks of no language"),
-        (PROMISES, "ensures whole {", "ensures half {", "this code is in no file"),
-        (PROMISES, "src/streams.rt", "src/stream.rt", "this code is in no file"),
-        (INPUT, "```console\n$ ", "```console\n", "this session does not begin with a prompt"),
-        (CRATES, "`Buffered::prove_reached`", "`Buffered::nought`", "no `Buffered::nought` in the code"),
-        (STRENGTH, "believed definitions", "definitions", f"{STRENGTH}: no operator"),
-        (COUNTS, f"{JUDGED} changes", f"{JUDGED}0 changes", f"one at a time: {int(JUDGED):,}"),
-        (README, "](docs/PROOF.md", "](docs/PROOF.md#the-promis", "a link to no heading: docs/PROOF.md#the-promis"),
-    ),
-    # Another number, row or name of std on the pages, and another definition.
-    "believed.py --check": (
-        (PAGE, "| `take` | the first n elements of a list |\n", "", "does not say what take means"),
-        (PAGE, "| `remaining` |", "| `contents` |", "does not say what remaining means"),
-        (PAGE, "| `drop` |", "| `no` | a name |\n| `drop` |", "says what no means, which is not needed"),
-        (README, NUMBER, f"9,{NUMBER}", f"+{found_in(f'.*{NUMBER.split()[0]}.*', README)}"),
-        (PROOF, SHOWS, f"{SHOWS[:-1]} 9 |\n", f"-{SHOWS[:-1]} 9 |\n"),
-        (PROOF, RUNS, "", f"+{RUNS}"),
-        ("crates/filter/specs/Damage.antt", "→ IsNotMisread", "→ IsMisread", "-filter/Damage IsGuarded "),
-    ),
-    # Another definition or worked value, a file without a result, a result without a file.
-    "believed_rows.py": (
-        ("crates/labelcore/specs/HeldLine.antt", "1100", "1101", "labelcore/HeldLine: not as it was judged"),
-        (READING, "32 || b == 9", "32 || b == 8", "picture/Reading: not as it was judged"),
-        ("crates/qrdata/specs/Reading.antt", "== 0 || nat_lt", "== 0 && nat_lt", "qrdata/Reading: not as it was"),
-        ("crates/gf256/proofs/Examples.antt", "wrong = (refl, refl, refl, refl)", "", "gf256/ErrorCorrection: not as"),
-        (RESULTS, found_in(r"^testing/FailAt .*\n", RESULTS), "", "testing/FailAt: not as it was judged"),
-        (RESULTS, " defaults\n", "\n", "labelcore/Defaults: not as it was judged"),
-        (RESULTS, "picture/Text ", "picture/Writing ", "picture/Writing: no such file"),
-        (RESULTS, "linear/Ean ¦ (replicate @ A) ¦ 5", "linear/Ean ¦ (replicate @ B) ¦ 5", "no such change"),
-    ),
-    # What is planted and used by nothing: two lemmas of which the second cites the first, one in a module whose
-    # `where` is on a line of its own, and others.
-    "unused.py": (
-        (POWERS, "", "\npub never : ℕ → ℕ\nnever n = never n\n", "nothing uses the lemma never"),
-        (POWERS, "", "\nabove : ℕ → ℕ\nabove n = never n\n", "nothing uses the lemma above"),
-        (POWERS, "", "\nnext : ℕ → ℕ\nnext n = n + 1\n", "nothing uses the lemma next"),
-        (
-            POWERS,
-            "",
-            "\nmodule _ (a : ℕ)\n    (b : ℕ)\n  where\n    pub next-is : next a ≡ a + 1\n    next-is = refl\n",
-            "nothing uses the lemma next-is",
-        ),
-        (POWERS, "", "\npub nil : 0 + 0 ≡ 0\nnil = refl\n", "nothing uses the lemma nil"),
-        (POWERS, "", "\npub cited : ℕ\ncited = 0\n", "nothing uses the lemma cited"),
-        (POWERS, "◌+◌, ", "◌+◌, ◌/◌, ", "the imported name ◌/◌ is not used"),
-        (MUL, "\n", "\nuse Rattle.gf256.proofs.PowerLaws.{cited}\n", f"{MUL}:2: the imported name cited is not used"),
-        (WORDS, "", "\n-- as itself\npub same : ℕ → ℕ\nsame n = n\n", "nothing uses the definition same"),
-        (FIELD, "◌<◌}", "◌<◌, ◌*◌}", "the imported name ◌*◌ is not used"),
-        (FIELD, "alpha, ", "alpha, twice, ", "the imported name twice is not used"),
-        (FIELD, "use crate", "use std::io::{ErrorKind};\nuse crate", "the imported name ErrorKind is not used"),
-        (FIELD, "use crate", "use device::{Sink};\nuse crate", "the imported name Sink is not used"),
-        (FIELD, "", "\nfn lonely() {\n    lonely()\n}\n", "nothing calls the function lonely"),
-        (FIELD, "", "\npub fn one() -> u8 {\n    1\n}\n", "nothing calls the function one"),
-        (FIELD, "", "\nimpl Alpha {\n    fn idle() {}\n}\n", "nothing calls the function idle"),
-        (FIELD, "", "\ntrait Rests {\n    fn slumber() {}\n}\n", "nothing calls the function slumber"),
-        (FIELD, "", "\nmod inner {\n    fn within() {}\n}\n", "nothing calls the function within"),
-    ),
-}
-# The same, one at a time: a line of the code less, what has to be there for the numbers, a `Why: ` that names no
-# definition of its file, a crate less.
-PENALTY = "crates/qrmatrix/specs/Penalty.antt"
-CHANGED_ALONE = {
-    "believed.py --check": (
-        ("crates/device/src/sink.rt", "        requires { 0 < length bytes.now }\n", "", "as the files give it"),
-        (ENTRY, "arguments)\n        (record {", "arguments) (record {", "as the files give it"),
-        (README, NUMBER, "few lines of [definitions", "has to have one number where"),
-        (PROOF, "<!-- believed: end -->", "", "lacks the line '<!-- believed: begin -->' or, after it"),
-        (ENTRY, "ensures shows {", "ensures draws {", f"program in {ENTRY} has no clause shows"),
-        ("crates.txt", "gf256:", "gf65536:\ngf256:", "gf65536"),
-        ("crates/labels/src/main.rt", "from(program(", "from(other(", "does not call program"),
-        ("crates/labelcore/specs/HeldLine.antt", "pub line_limit :", "pub line_bound :", "has no line_limit"),
-    ),
-    "believed.py --show program": (
-        (PENALTY, "`penalty`: in the", "`fine`: in the", f"{PENALTY}: 'Why: "),
-        (PENALTY, "`penalty`: in the", "in the", f"{PENALTY}: 'Why: "),
-    ),
-    "unused.py": (
-        ("crates.txt", "gf256:", "# gf256:", "differ in: gf256"),
-        (FIELD, "fn ", "fn one() ensures { 1 ", "the kit cannot read these files"),
-    ),
-}
+CASES = cases_of(
+    "test_copy",
+    judged=JUDGED,
+    count=f"{int(JUDGED):,}",
+    number=NUMBER,
+    line=found_in(f".*{NUMBER.split()[0]}.*", README),
+    shows=found_in(r"\| the clause `shows` of `program` .*", PROOF),
+    runs=found_in(r"\| the clause `runs` of `program` .*", PROOF),
+    fail_at=found_in(r"^testing/FailAt .*", RESULTS),
+    letters="a" * 500,
+)
 
 
 class Changed(InCopy):
@@ -150,28 +44,30 @@ class Changed(InCopy):
             return super().judged(name, *arguments)
 
     def test_what_is_moved_away(self) -> None:
-        for step, rows in MOVED.items():
-            for row in rows:
-                with self.subTest(step=step, moved=[*row]):
-                    for name in row:
+        for step, together in CASES["moved"].items():
+            for moved in together:
+                with self.subTest(step=step, moved=moved):
+                    for name, _ in moved:
                         os.rename(self.path(name), self.path(f"{name}-away"))
                         self.addCleanup(os.rename, self.path(f"{name}-away"), self.path(name))
                     status, said = self.judged(*step.split())
-                    self.assertEqual((status, [one for one in row.values() if one not in said]), (1, []), said)
+                    self.assertEqual((status, [wanted for _, wanted in moved if wanted not in said]), (1, []), said)
                 self.doCleanups()
 
     def test_what_is_written_otherwise(self) -> None:
-        for step, changes in CHANGED.items():
+        for step, files in CASES["together"].items():
+            changes = [(file, old, new, wanted) for file, rows in files.items() for old, new, wanted in rows]
             with self.subTest(step=step):
                 said = self.fails(step, *changes)
             if step == "unused.py":
                 self.assertEqual(said.count("\n"), len(changes) + 1, said)
 
     def test_what_is_written_otherwise_alone(self) -> None:
-        for step, changes in CHANGED_ALONE.items():
-            for change in changes:
-                with self.subTest(step=step, change=change):
-                    self.fails(step, change)
+        for step, files in CASES["alone"].items():
+            for file, rows in files.items():
+                for old, new, wanted in rows:
+                    with self.subTest(step=step, file=file, old=old, new=new):
+                        self.fails(step, (file, old, new, wanted))
 
     def test_nothing_to_look_at(self) -> None:
         self.replace("crates.txt", "")

@@ -13,49 +13,12 @@ import re
 import unittest
 from typing import Iterable
 
-from support import TOP, module, read
+from support import TOP, cases_of, module, read
 
 edits = module("edits")
 
-# The records and the words by cases, and the functions with the clauses that speak of them.
-RECORDS = {
-    "Runs": "filter/specs/Run.antt",
-    "Produces": "filter/specs/Run.antt",
-    "IsAfter": "filter/specs/Filter.antt",
-    "Stops": "filter/specs/Filter.antt",
-    "Sends": "filter/specs/Filter.antt",
-    "Shows": "filter/specs/Shown.antt",
-    "IsRead": "filter/specs/Readback.antt",
-    "IsAlone": "filter/specs/OneReading.antt",
-    "RunsOver": "command/specs/Program.antt",
-    "Ends": "command/specs/Program.antt",
-    "Finishes": "command/specs/Program.antt",
-    "PutsWhole": "capi/specs/Calls.antt",
-    "PutsModules": "capi/specs/Modules.antt",
-    "PutsBitmap": "capi/specs/Bitmap.antt",
-    "AnswersLayout": "capi/specs/Layout.antt",
-}
-FUNCTIONS = {
-    "Filter::feed": "filter/src/filter.rt",
-    "Filter::finish": "filter/src/filter.rt",
-    "run_streams": "filter/src/streams.rt",
-    "program": "command/src/entry.rt",
-}
-# What no body can break, and the law by which it holds: of all options, all bytes, all scripts, and all images that
-# are read as the full data.
-LAWS = {
-    "IsAfter.range": "prove_ranges",
-    "IsAfter.bytes": "are_bytes",
-    "Filter::feed.bytes": "are_bytes",
-    "Produces.read": "script_of_text_read",
-    "IsRead.full": "image_of_data_read",
-    "IsRead.guarded": "IsGuarded-read",
-    "IsRead.guarded_in_pixels": "IsGuardedInPixels-read",
-    "IsRead.alone": "IsAlone-read",
-    "IsAlone.1": "IsAlone-read",
-    "IsAlone.2": "IsAlone-read",
-}
-
+CASES = cases_of("test_fields")
+RECORDS, FUNCTIONS, LAWS = CASES["records"], CASES["functions"], CASES["laws"]
 # Of these the prover does not find by itself what is left without them (docs/PROOF-STRENGTH.md): `refutes:` names
 # them in a body.
 BESIDE = {"Shows.images", "RunsOver.runs", "RunsOver.whole", *(f"Ends.{case}" for case in range(1, 10))}

@@ -12,8 +12,17 @@ import unittest
 from typing import Any, Iterable, Mapping
 from unittest import mock
 
-from support import PYTHON, SCRIPTS, TOP, InFolder, in_copy, module, read, run_command, write
+from support import PYTHON, SCRIPTS, TOP, InFolder, cases_of, in_copy, module, read, run_command, write
 
+gate = module("gate")
+INSTALL = "apt-get install -y --no-install-recommends zint"
+CASES = cases_of(
+    "test_gate",
+    all=f"{len(gate.ALL)}",
+    but_two=f"{len(gate.ALL) - 2}",
+    install=INSTALL,
+    missing=f"packages are missing; as root: .ci/run --install, or apt-get update && {INSTALL}",
+)
 # Of these one passes, and with --quick two are left out. The ways of single tests run_tests.py is shown in each run.
 WAYS = """import run_tests, subprocess, unittest
 class One(unittest.TestCase):
@@ -91,31 +100,14 @@ class Lints(InFolder):
 
     def test_files_that_no_lint_would_read(self) -> None:
         """Another first line, a lint without files, and settings beside the code that the lints do not look at."""
-        lints, silenced = module("lints"), f"# {'noqa'}"
+        lints = module("lints")
         for name in lints.FOLDERS:
             os.mkdir(self.path(name))
-        for name, text in {
-            "scripts/mypy.ini": "",
-            "scripts/planted.py": f"import os  {silenced}\nx = 'one'\n",
-            "debian/planted.sh": f"#!/bin/sh\n{silenced}\nrm $1\n",
-            "tools/label-other": "#!/usr/bin/python3 -B\nimport os\n",
-            ".flake8": "[flake8]\nextend-ignore = F\n",
-            "setup.cfg": "[pycodestyle]\nignore = E,W\nmax-line-length = 999\n",
-            "pyproject.toml": "[tool.black]\nexclude = '.'\n",
-            ".shellcheckrc": "disable=all\n",
-        }.items():
+        for name, text in CASES["planted"].items():
             write(self.path(name), text)
         with mock.patch.multiple(lints, faults_of_rules=lambda: [], TYPED=()):
             status, said = in_copy(self.folder, "lints.py")
-        for wanted in (
-            "scripts/planted.py:1: UnusedImport",
-            "scripts/planted.py:1: black gives it another layout",
-            f"scripts/planted.py:1: it silences a lint: import os  {silenced}",
-            f"debian/planted.sh:2: it silences a lint: {silenced}",
-            "debian/planted.sh:3:4: note: Double quote",
-            "tools/label-other: no lint knows #!/usr/bin/python3 -B",
-            "shellcheck --norc --format=gcc --shell=bash reads no file: []",
-        ):
+        for wanted in CASES["said_of_planted"]:
             self.assertIn(wanted, said)
         self.assertEqual(status, 1)
 
@@ -141,16 +133,7 @@ class Lints(InFolder):
         path = mock.patch.dict(os.environ, PATH=f"{self.path('bin')}:{os.environ['PATH']}")
         for name in ("packages", "settings"):
             write(self.path(name), "none")
-        for changed, text, status, runs in (
-            ("one", "right", 0, 1),
-            ("packages", "", 0, 1),
-            ("settings", "other", 0, 1),
-            ("", "", 0, 0),
-            ("one", "wrong", 1, 1),
-            ("", "", 1, 1),
-            ("one", "better", 0, 1),
-            ("", "", 0, 0),
-        ):
+        for changed, text, status, runs in CASES["kept"]:
             write(self.path(changed or "none"), text)
             write(self.path("log"), "")
             with self.subTest(changed=changed, text=text), mock.patch.multiple(lints, **bent), path:
@@ -170,50 +153,6 @@ def is_alive(process: str) -> bool:
         return read(f"/proc/{process}/stat").rpartition(")")[2].split()[0] not in "ZX"
     except FileNotFoundError:
         return False
-
-
-# What steps end with, the lines that are kept, and what the gate then says of them: all passed, or which failed.
-RUNS: tuple[tuple[dict[str, int | str], dict[str, str], int, tuple[str, ...]], ...] = (
-    ({}, {}, 0, ("{all} passed, 0 failed",)),
-    (
-        {"pages.py": 77, "lints.py": "fine, but less"},
-        {"unused.py": "", "other.py": "x"},
-        1,
-        (
-            *(
-                "other.py, which is no step\n",
-                "kept is: no line\nFAILED: unused.py, ",
-                "status 77\nFAILED: pages.py, ",
-            ),
-            *("kept is: lints.py is right\nFAILED: lints.py, ", "3 passed, 4 failed"),  # and nothing is proved
-        ),
-    ),
-    ({"rt": 3}, {}, 3, ("7 passed, 1 failed",)),
-    ({"rt": "fewer proofs (1 minute)"}, {}, 1, ("kept is: rt is right\nFAILED: rt ci, ",)),
-    # What comes after these runs all the same.
-    ({"wrong_bodies.py": 1, "instructions.py": 1}, {}, 1, ("{but_two} passed, 2 failed",)),
-    ({"plain_builds.py": 1}, {}, 1, ("8 passed, 1 failed",)),
-)
-INSTALL = "apt-get install -y --no-install-recommends zint"
-MISSING = f"packages are missing; as root: .ci/run --install, or apt-get update && {INSTALL}"
-ANOTHER = "docs/PROOF.md does not name the kit on the path: kit-1 logic 2"
-USAGE = "usage: .ci/run [--install]"
-IN_CI, ZINT = {"CI": "true", "MISSING": "zint"}, {"MISSING": "zint"}
-# Words, variables and changed programs, the status of `.ci/run`, and what it says.
-STARTS: tuple[tuple[str, dict[str, str], dict[str, str], int, str], ...] = (
-    ("", {}, {}, 0, "gate all"),
-    ("--install", ZINT, {}, 0, f"apt-get update\n{INSTALL}\ngate all"),
-    ("--instal", {}, {}, 2, USAGE),
-    ("", ZINT, {}, 1, MISSING),
-    ("", {**IN_CI, "ID": "1000"}, {}, 1, MISSING),
-    ("", {**IN_CI, "CI": "no"}, {}, 1, MISSING),
-    ("", IN_CI, {}, 0, "installing: zint"),
-    ("", IN_CI, {"apt-get": "exit 100"}, 100, "installing: zint"),
-    ("", {}, {"rt": "echo kit-1 logic 2"}, 1, ANOTHER),
-    ("", {"PATH": "/usr/bin:/bin"}, {}, 1, "rt, the command of the Rattle kit, is not on the path"),
-    ("", {"MISSING": "git"}, {}, 1, "--no-install-recommends git"),  # the first and the last of the list
-    ("", {"MISSING": "adwaita-icon-theme"}, {}, 1, "--no-install-recommends adwaita-icon-theme"),
-)
 
 
 class Gate(InFolder):
@@ -242,10 +181,8 @@ class Gate(InFolder):
         return run_command(self.command(steps, kept, processors), PATH=path)
 
     def test_steps(self) -> None:
-        gate = module("gate")
         names = {"rt" if step == "rt ci" else step.split()[0] for step in gate.ALL}
-        how = {"all": len(gate.ALL), "but_two": len(gate.ALL) - 2}
-        for changed, lines, status, said in RUNS:
+        for changed, lines, status, said in CASES["runs"]:
             for name in names:
                 ends = changed.get(name, f"{name} is right (in 2 seconds)" if name == "rt" else f"{name} is right")
                 code, line = (ends, "x") if isinstance(ends, int) else (0, ends)
@@ -253,12 +190,11 @@ class Gate(InFolder):
             kept = {step: f"{'rt' if step == 'rt ci' else step.split()[0]} is right" for step in gate.ALL} | lines
             with self.subTest(changed=changed, lines=lines):
                 found, printed = self.judged(["all"], kept)
-                not_said = [it for it in said if it.format(**how) not in printed]
-                self.assertEqual((found, not_said), (status, []), printed)
+                self.assertEqual((found, [it for it in said if it not in printed]), (status, []), printed)
 
     def test_wrong_bodies_beside_the_proofs(self) -> None:
         """They begin while these are on their way, with the file of what these say, and end where these fail."""
-        steps = module("gate").PROOFS, module("gate").WRONG
+        steps = gate.PROOFS, gate.WRONG
         waits = "echo proofs\nwhile [ ! -e begun ]; do sleep 0.01; done\n"
         for status, more in ((0, ""), (3, "sleep 999\n")):
             self.step("rt", f"{waits}rm begun\nexit {status}\n")
@@ -288,7 +224,6 @@ class Gate(InFolder):
 
     def test_a_step_that_hangs(self) -> None:
         """It is ended, with what it started."""
-        gate = module("gate")
         self.step("hangs.py", "sleep 99 &\necho $!\nsleep 99\n")
         write(self.path("out/steps/hangs-py.txt"), "")
         here = mock.patch.multiple(gate.sources, TOP=self.folder, PYTHON="/bin/sh")
@@ -305,22 +240,16 @@ class Gate(InFolder):
     def test_a_signal_ends_the_step_too(self) -> None:
         self.step("lints.py", "echo $$\nsleep 9999\n")
         said = self.path("out/steps/lints-py.txt")
-        with subprocess.Popen(self.command(["lints.py"], {}), stdout=subprocess.PIPE) as gate:
+        with subprocess.Popen(self.command(["lints.py"], {}), stdout=subprocess.PIPE) as started:
             while not os.path.exists(said) or not read(said).endswith("\n"):
                 time.sleep(0.01)
-            gate.terminate()
-            self.assertEqual(gate.wait(), 128 + signal.SIGTERM)
+            started.terminate()
+            self.assertEqual(started.wait(), 128 + signal.SIGTERM)
         self.assertFalse(is_alive(read(said).strip()))
 
     def test_start(self) -> None:
-        for words, variables, changed, status, said in STARTS:
-            programs = {
-                "rt": "echo kit-1 logic 1",
-                "apt-get": 'echo "apt-get $*"',
-                "id": "echo ${ID:-0}",
-                "dpkg-query": 'for name; do [ "$name" = "$MISSING" ] || echo "installed $name"; done',
-            }
-            for name, text in {**programs, **changed}.items():
+        for words, variables, changed, status, said in CASES["starts"]:
+            for name, text in {**CASES["programs"], **changed}.items():
                 write(self.path("bin", name), f"#!/bin/sh\n{text}\n", is_program=True)
             for name in (".ci/run", "scripts/packages.txt", "Makefile"):
                 write(self.path(name), read(os.path.join(TOP, name)))
@@ -371,7 +300,6 @@ class Packages(unittest.TestCase):
 
     def test_each_script_is_a_step(self) -> None:
         """Each program of scripts/ is a step of the gate, or is run by `.ci/run` or a page."""
-        gate = module("gate")
         names = {"gate.py", *(step.split()[0] for step in gate.ALL if step != gate.PROOFS)}
         pages = [read(os.path.join(TOP, page)) for page in module("pages").RUN]
         names |= {name for page in pages for name in re.findall(r"(?m)^scripts/(\S+) ", page)}

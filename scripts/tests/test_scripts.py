@@ -11,7 +11,7 @@ import unittest
 from typing import Any, Callable, Iterable, Iterator
 from unittest import mock
 
-from support import PYTHON, SCRIPTS, TOP, InFolder, in_copy, module, read, run_command, write
+from support import PYTHON, SCRIPTS, TOP, InFolder, cases_of, in_copy, module, read, run_command, write
 
 compare_symbols = module("compare_symbols")
 read_foreign = module("read_foreign")
@@ -63,6 +63,7 @@ pub fn one() -> u8
     1
 }
 """
+CASES = cases_of("test_scripts", one=ONE)
 OTHER = "\nfn other() -> u8 {\n    7\n}\n"
 THIRD = "\nfn third() -> u8 {\n    9\n}\n"
 LIB, WRONG, RIGHT = "src/lib.rt", "wrong-bodies/one.edit", "right-bodies/one.edit"
@@ -284,18 +285,7 @@ class Outcomes(InFolder):
         self.enterContext(mock.patch.object(wrong_bodies.sources, "TOP", self.folder))
         for name in wrong_bodies.SCRIPTS:
             write(self.path("scripts", f"{name}.py"), "")
-        steps: tuple[tuple[str, str, bool], ...] = (
-            ("", "", True),
-            ("", "", False),
-            (LIB, ONE + "\n", True),
-            (WRONG, edit("3"), True),
-            ("right-bodies/two.edit", edit("0 + 1"), True),
-            ("", "", False),
-            ("scripts/edits.py", "x", True),
-            ("out/wrong-bodies/small", "0" * 64 + " 0 one", True),
-            ("", "", False),
-        )
-        for file, text, is_tried in steps:
+        for file, text, is_tried in CASES["kept"]:
             if file:
                 write(self.path(file), text)
             checks = [said(one=NOT), said(one=HOLES)]
@@ -336,19 +326,7 @@ class Outcomes(InFolder):
         self.assertGreaterEqual(wrong_bodies.at_once(True), 1)
 
     def test_calls_of_a_function_by_itself(self) -> None:
-        for number, (head, is_method, wanted) in enumerate(
-            (
-                ("fn one() -> u8", False, "one()"),
-                ("fn one() -> u8", True, "Self::one()"),
-                (
-                    "pub fn one<'a, T: Sink, const N: usize>(mut a: &mut [T; N], b: (u8, u8))",
-                    False,
-                    "one::<T, N>(a, b)",
-                ),
-                ("fn one<'a>(&'a mut self, a: Option<(u8, T)>, b: &'a u8)", True, "self.one(a, b)"),
-                ("fn one(self)", True, "self.one()"),
-            )
-        ):
+        for number, (head, is_method, wanted) in enumerate(CASES["calls"]):
             name = f"src/call_{number}.rt"
             write(self.path(name), f"{head} {{\n}}\n")
             (item,) = edits.file_at(self.folder, name).declarations
@@ -487,36 +465,6 @@ class Judges(unittest.TestCase):
         self.assertEqual(found, [(3, pages.MOST_WORDS + 1), (5, pages.MOST_WORDS + 1)])
 
 
-# What stands in for the programs that debian/tests calls, as they are and as they must not be. That of the library
-# is tried in lib/tests.
-RIGHT_PROGRAMS = {
-    "labels": "read line; case $line in *8) echo 'line 1: check digit is 8, should be 7' >&2 ;; *) echo P1 ;; esac"
-    " # GLIBC_2.14 GLIBC_2.34 GLIBC_2.4",
-    "dpkg-query": "echo 'libc6 (>= 2.34)'",
-    "label-table": "printf 'ean13 4006381333931\\nean13 4006381333948\\n'",
-    "label-print": "[ $1 = --stock ] && echo %PDF-1.5 || printf '^XA\\n^XA\\n'",
-    "man": "echo SYNOPSIS",
-    "bash": "true",
-    "fish": "case $2 in *format*) echo ascii ;; *) echo zpl ;; esac",
-    "zsh": "true",
-}
-WRONG_PROGRAMS = (
-    ("program", {"labels": "echo P1"}),
-    ("program", {"labels": "read line; case $line in *8) echo 'line 1: check digit is 8, should be 7' >&2 ;; esac"}),
-    ("program", {"dpkg-query": "echo 'libc6 (>= 2.17)'"}),
-    ("program", {"dpkg-query": "echo libgcc-s1"}),
-    ("tools", {"label-table": "echo ean13 4006381333931"}),
-    ("tools", {"label-print": "echo %PDF-1.5"}),
-    ("tools", {"label-print": "printf '^XA\\n^XA\\n'"}),
-    ("tools", {"label-print": "[ $1 = --stock ] && echo %!PS || printf '^XA\\n^XA\\n'"}),
-    ("tools", {"man": "[ $3 = labels ] && echo NAME || echo SYNOPSIS"}),
-    ("tools", {"man": "[ $3 = label-table ] && echo NAME || echo SYNOPSIS"}),
-    ("tools", {"man": "[ $3 = label-print ] && echo NAME || echo SYNOPSIS"}),
-    ("shells", {"bash": "false"}),
-    ("shells", {"fish": "echo ascii"}),
-    ("shells", {"fish": "echo zpl"}),
-    ("shells", {"zsh": "false"}),
-)
 # In the place of Python, which writes the table: what stands in for the tools reads none.
 NO_TABLE = {"python3": "true"}
 PAGES = ("README.md", "docs/INPUT.md", "docs/pictures/sheet.png")
@@ -528,22 +476,22 @@ class PackageTests(InFolder):
     def passes(self, name: str, pages: str, **programs: str) -> bool:
         """Whether a test of the packages passes with these programs in the place of right ones."""
         folder = tempfile.mkdtemp(dir=self.folder)
-        for program, text in {**RIGHT_PROGRAMS, **programs}.items():
+        for program, text in {**CASES["right_programs"], **programs}.items():
             write(os.path.join(folder, "bin", program), f"#!/bin/sh\n{text}\n", is_program=True)
         where = {"PATH": f"{folder}/bin:/usr/bin:/bin", "AUTOPKGTEST_TMP": folder, "PAGES": pages}
         return run_command([f"{TOP}/debian/tests/{name}"], **where)[0] == 0
 
     def test_right_programs_pass(self) -> None:
-        names = {name for name, *_ in WRONG_PROGRAMS}
+        names = {name for name, *_ in CASES["wrong_programs"]}
         self.assertEqual(names, {*os.listdir(f"{TOP}/debian/tests")} - {"control", "library"})
         for name in names:
             self.assertTrue(self.passes(name, TOP), name)
             self.assertTrue(self.passes(name, TOP, **NO_TABLE), name)
 
     def test_wrong_programs_fail(self) -> None:
-        for name, programs in WRONG_PROGRAMS:
-            with self.subTest(name, programs=programs):
-                self.assertFalse(self.passes(name, TOP, **NO_TABLE, **programs))
+        for name, program, text in CASES["wrong_programs"]:
+            with self.subTest(name, program=program, text=text):
+                self.assertFalse(self.passes(name, TOP, **NO_TABLE, **{program: text}))
         for gone in PAGES:
             for page in PAGES:
                 write(self.path(gone, page), "")
