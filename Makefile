@@ -92,7 +92,8 @@ install: all install-library
 	install -D -m 644 -t $(DESTDIR)$(DATADIR)/metainfo tools/data/$(WINDOW).metainfo.xml
 	$(PYTHON) tools/help/installed_pages.py $(DESTDIR)$(DATADIR)/doc/labels $(DOCUMENTS)
 	install -D -m 644 -t $(DESTDIR)$(DATADIR)/man/man1 man/*.1
-	sed -i 's|/usr/share/doc|$(DATADIR)/doc|' $(DESTDIR)$(DATADIR)/man/man1/label*.1
+	install -D -m 644 -t $(DESTDIR)$(DATADIR)/man/man5 man/*.5
+	sed -i 's|/usr/share/|$(DATADIR)/|' $(DESTDIR)$(DATADIR)/man/man[15]/label*.[15]
 	install -D -m 644 completions/labels.bash $(DESTDIR)$(DATADIR)/bash-completion/completions/labels
 	install -D -m 644 -t $(DESTDIR)$(DATADIR)/fish/vendor_completions.d completions/labels.fish
 	install -D -m 644 -t $(DESTDIR)$(ZSHDIR) completions/_labels

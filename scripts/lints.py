@@ -41,7 +41,7 @@ INTERPRETERS = {
     "#!/bin/sh": "shell",
     "#!/usr/bin/make -f": "",
 }
-ENDINGS = {".py": "python", ".bash": "completion", ".1": "manual", ".3": "manual"}
+ENDINGS = {".py": "python", ".bash": "completion", ".1": "manual", ".3": "manual", ".5": "manual"}
 # The most that a function may have: ways through it, as McCabe counts them, and statements without its docstring.
 MOST_WAYS, MOST_STATEMENTS = 15, 30
 # How many columns a line of the tools has at most, and one elsewhere and of a text in tests.

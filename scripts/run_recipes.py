@@ -242,7 +242,7 @@ def wrong_cases() -> Iterator[tuple[str, bool]]:
 def main() -> int:
     program = Path(sources.program_given(__doc__))
     commands = {page: [*commands_of(page)] for page in pages.RUN}
-    manuals = {f"man/{page.name}": examples_of(page) for page in sorted((TOP / "man").glob("*.1"))}
+    manuals = {f"man/{page.name}": examples_of(page) for page in sorted((TOP / "man").glob("*.[15]"))}
     commands |= {name: found for name, found in manuals.items() if found or name == "man/labels.1"}
     # The tools start more than a hundred times, and without byte code each time from their texts.
     by_sum = py_compile.PycInvalidationMode.CHECKED_HASH

@@ -99,10 +99,11 @@ class Install(unittest.TestCase):
 
     def test_manuals_name_pages_that_are_there(self) -> None:
         share = self.folder / "share"
-        for name in ("labels", *TOOLS):
-            page = (share / f"man/man1/{name}.1").read_text(encoding="utf-8")
-            self.assertIn(f".TH {name.upper()} 1 ", page)
-            for named in re.findall(r"^\.I (/\S*/share/doc/\S+)", page, re.M):
+        for name, section in (*((name, 1) for name in ("labels", *TOOLS)), ("label-table", 5)):
+            page = (share / f"man/man{section}/{name}.{section}").read_text(encoding="utf-8")
+            self.assertIn(f".TH {name.upper()} {section} ", page)
+            plain = page.replace("\\-", "-")
+            for named in re.findall(r"^\.IR? (/\S*/share/\S+)", plain, re.M):
                 is_there = Path(named).exists() and named.startswith(str(share))
                 self.assertTrue(is_there, f"{name}: {named}")
 

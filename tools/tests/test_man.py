@@ -16,7 +16,7 @@ from labeltools.printing import job
 from labeltools.sending import network, outlets, stream
 from labeltools.sheets import csv_table, workbook
 
-PAGES = sorted((support.TOP / "man").glob("label*.1"))
+PAGES = sorted((support.TOP / "man").glob("label*.[15]"))
 TOOLS = sorted(path.name for path in support.TOOLS.glob("label-*"))
 
 # What a page says of an option that is left out.
@@ -25,7 +25,7 @@ NAMED = re.compile(
     r"|The default is (\w+)\.|(\w+), which is the default"
 )
 NUMBER = re.compile(r"LABELS_[A-Z0-9_]+")
-# Numbers of label-print(1) and label-table(1), and what they are in the tools.
+# Numbers of label-print(1) and of label-table(1) and (5), and what they are in the tools.
 NUMBERS = (
     (r"svg, which take (\d+)", job.DRAWING_DPI),
     (r"sheets are drawn at (\d+) dpi", job.DRAWING_DPI),
@@ -43,7 +43,7 @@ NUMBERS = (
         r"at most (nine) such messages",
         {8: "nine"}.get(report.MOST_REASONS),
     ),  # and that of the others
-    (r"with at most (\d+) rows that were skipped", file.MOST_LEFT_OUT),
+    (r"rows that were skipped, at most (\d+)", file.MOST_LEFT_OUT),
     (r"a part of more than (\d+) MB", workbook.LARGEST_PART >> 20),
     (r"CSV of more than (\d+) MB", csv_table.LARGEST_FILE >> 20),
     (r"than (\d+) rows or", workbook.MOST_ROWS),
@@ -142,7 +142,8 @@ class Pages(unittest.TestCase):
 
     def test_numbers_are_those_of_the_tools(self) -> None:
         support.needs("mandoc")
-        text = " ".join(f"{shown('label-print.1')} {shown('label-table.1')}".split())
+        pages = map(shown, ("label-print.1", "label-table.1", "label-table.5"))
+        text = " ".join(" ".join(pages).split())
         for pattern, wanted in NUMBERS:
             found = re.search(pattern, text)
             said = found[1].replace(",", "") if found else None

@@ -46,7 +46,8 @@ EXAMPLES = """examples:
   label-table --code EAN --title Name --price Price articles.xlsx > articles.lines
   label-table --code Place --symbology code128 racks.csv > racks.lines
 
-label-print prints these files; man label-table has all details."""
+label-print prints these files. man label-table explains the options, and
+man 5 label-table says what is accepted in each kind of column."""
 SETTINGS = re.compile("[a-z-]+=[A-Za-z0-9]+(?:,[a-z-]+=[A-Za-z0-9]+)*")
 DELIMITER = re.compile('[^"\r\n\0 \x80-\U0010ffff]|tab|none')
 ROW_NUMBER = re.compile("[1-9][0-9]{0,6}")
