@@ -37,7 +37,8 @@ import sources
 # The pages whose commands run_recipes.py runs.
 README = "README.md"
 DESIGNS = "designs/README.md"
-RUN = (README, "docs/INPUT.md", "docs/PRINTING.md", "docs/TICKETS.md", "docs/RECIPES.md", DESIGNS)
+PRINTING = ("docs/PRINTING.md", "docs/SHEETS.md", "docs/ROLLS.md")
+RUN = (README, "docs/INPUT.md", *PRINTING, "docs/TICKETS.md", "docs/RECIPES.md", DESIGNS)
 QUOTED = {"rust", "python", "c"}
 COMMANDS = {"sh", "sh kit", "console"}
 LANGUAGES = {"text", *COMMANDS, *QUOTED}
