@@ -24,6 +24,7 @@ from labeltools.tables.money import (
     parse_unit_price,
     plain_signs,
 )
+from labeltools.tables.name_words import column_words, folded
 from labeltools.tables.once import Once
 from labeltools.tables.prices import ARITHMETIC, MOST_LOST, nearest, PROGRAM_DECIMALS
 from labeltools.tables.table_options import Columns, TableOptions
@@ -133,13 +134,13 @@ class DraftReader:
 
     def names_others(self, row: Row) -> bool:
         """Returns whether half of the cells of a row are names of columns, and one that is asked
-        for is in another place, or has another name in its place. A row whose code is the name of
-        a kind of codes names others, too, where no other cell has digits.
+        for is in another place, or has another name in its place. A row whose code is what columns
+        of codes are called names others, too, where no other cell has digits.
         """
         texts = list(map(name_of, bare_texts(row)))
         place = self.columns.code.place
         code, *others = (*texts[place : place + 1], *texts[:place], *texts[place + 1 :])
-        if self.names and KIND_OF_CODES.fullmatch(code) and code != self.code_name:
+        if self.names and code != self.code_name and is_name_of_codes(code):
             return any(others) and not any(map(HAS_DIGIT.search, others))
         named = sum(text in self.names for text in texts if text)
         if not self.names or named < 2 or 2 * named < sum(map(bool, texts)):
@@ -296,6 +297,17 @@ class DraftReader:
 def bare_texts(row: Row) -> Iterator[str]:
     """Yields the cells of a row as they were typed."""
     return (cell if isinstance(cell, str) else cell.value for cell in row.cells)
+
+
+def is_name_of_codes(text: str) -> bool:
+    """Returns whether columns of codes are called so.
+
+    >>> is_name_of_codes("GTIN-13"), is_name_of_codes("Código de barras"), is_name_of_codes("A-1")
+    (True, True, False)
+    """
+    if KIND_OF_CODES.fullmatch(text):
+        return True
+    return not HAS_DIGIT.search(text) and column_words()["codes"].has(folded(text).replace(" ", ""))
 
 
 def symbology_in(column: Column, row: Row, default: str) -> str:
