@@ -481,6 +481,7 @@ class Heads(CellTest):
             ("Name;EAN;Stock;VK", f"Tea;{SMALL};1;2,22"),
             ("GTIN-13;Artikel;EK", f"{SMALL};Tea;1,11"),
             ("Código de barras;Artikel;EK", f"{SMALL};Tea;1,11"),
+            ("EAN;Artikel;EK", f"{SMALL};Tea;1,11"),
         ):
             table = f"EAN;Name;VK;Stock;\n{PENCIL};Tea;3,33;7;\n"
             fill = ";" * (4 - head.count(";"))

@@ -134,13 +134,13 @@ class DraftReader:
 
     def names_others(self, row: Row) -> bool:
         """Returns whether half of the cells of a row are names of columns, and one that is asked
-        for is in another place, or has another name in its place. A row whose code is what columns
-        of codes are called names others, too, where no other cell has digits.
+        for is in another place, or has another name in its place. A row whose code is the name of its
+        column, or of codes, names others, too, where no other cell has digits.
         """
         texts = list(map(name_of, bare_texts(row)))
         place = self.columns.code.place
         code, *others = (*texts[place : place + 1], *texts[:place], *texts[place + 1 :])
-        if self.names and code != self.code_name and is_name_of_codes(code):
+        if self.names and code and (code == self.code_name or is_name_of_codes(code)):
             return any(others) and not any(map(HAS_DIGIT.search, others))
         named = sum(text in self.names for text in texts if text)
         if not self.names or named < 2 or 2 * named < sum(map(bool, texts)):
