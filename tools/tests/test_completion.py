@@ -156,6 +156,7 @@ class Completion(unittest.TestCase):
                 with self.subTest(name=name, shell=shell):
                     self.assertEqual(proposed(shell, f"{name} ", self.folder), wanted)
 
+    @support.slow
     def test_after_an_equals_sign_and_a_letter(self) -> None:
         self.assertEqual(proposed("bash", "labels --level =", self.folder), ["H", "L", "M", "Q"])
         self.assertEqual(proposed("bash", "labels --level = H", self.folder), ["H"])

@@ -90,6 +90,7 @@ class Glyphs(unittest.TestCase):
         self.assertGreater(self.compare(False, texts), 60)
         self.assertGreater(self.compare(True, texts), 60)
 
+    @support.slow
     def test_letters_of_all_kinds(self) -> None:
         chosen = random.Random(7)
         texts = []

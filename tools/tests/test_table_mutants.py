@@ -236,6 +236,7 @@ class Mutants(unittest.TestCase):
         self.assertGreater(min(whole, refused), count // 20, "mutants of one kind alone say little")
         self.assertLess(support.processor_seconds() - before, 600)
 
+    @support.slow
     def test_a_mutant_that_takes_too_long_is_found(self) -> None:
         with in_time(0.1):
             time.sleep(0.3)

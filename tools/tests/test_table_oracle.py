@@ -459,6 +459,7 @@ class Oracle(unittest.TestCase):
         )
         self.assertGreater(names[""], cells * 3 // 4, names)
 
+    @support.slow
     def test_a_wrong_reader_is_seen(self) -> None:
         made = by_hand(random.Random(SEED), 6)
         mine, theirs = ours(made.data), gnumerics(made.data, "ods")

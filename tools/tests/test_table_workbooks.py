@@ -63,6 +63,7 @@ class Written(WorkbookTest):
         """Shared strings, each with something before and after its text."""
         return "".join(f"<si>{before}<t>{escape(one)}</t>{after}</si>" for one in self.NAMES)
 
+    @support.slow
     def test_each_form_says_the_same_wherever_its_pieces_end(self) -> None:
         plain, strings = "".join(self.ROWS), self.strings()
         odd = plain.replace('"><v>', '" ph="0"><v>').replace("<row r", "\n<row  r")
