@@ -170,6 +170,11 @@ class Answers(Desk):
         self.result(printer, 0, "^label-print: 30 labels printed by tcp://127")
         self.assertEqual(printer.asked.count(b"~HS"), 5)
 
+    def test_a_slow_printer_is_asked_as_long_as_it_prints(self) -> None:
+        printer = Printer(answers=(READY, *map(left, range(8, 0, -1)), READY))
+        with mock.patch.multiple("labeltools.sending.watch", IDLE=2.0, LOOKS=(0.4, 0.4)):
+            self.result(printer, 0, "^label-print: 30 labels printed by tcp://127")
+
     def test_what_is_left_and_why(self) -> None:
         for printer, said in (
             (

@@ -585,6 +585,18 @@ class Devices(unittest.TestCase):
                 self.assertIn(f"label-print: {said}", support.messages(done)[-1])
             self.assertEqual(device.read_bytes(), plain * 2)
 
+    def test_it_is_let_go_at_the_end(self) -> None:
+        """The window prints again, and the system gives the printer to one program at a time."""
+        with tempfile.TemporaryDirectory() as folder:
+            device = Path(folder, "lp0")
+            os.mkfifo(device)
+            reader = os.open(device, os.O_RDONLY | os.O_NONBLOCK)
+            self.addCleanup(os.close, reader)
+            done = support.printed(*self.WORDS, "--print", str(device), input=LINES)
+            self.assertEqual(done.returncode, 0)
+            self.assertTrue(os.read(reader, 1 << 20))
+            self.assertEqual(os.read(reader, 1), b"")  # nobody has it open
+
     def begun(self, device: Path) -> "subprocess.Popen[bytes]":
         """Starts to print on a device; it ends with the test."""
         words = [str(support.TOOLS / "label-print"), *self.WORDS, "--print", str(device)]

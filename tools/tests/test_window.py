@@ -273,7 +273,8 @@ class Keeper(unittest.TestCase):
         boxes = [one.answers for one in asked if one.get_visible()] + [*self.window.helps]
         if self.window.stack.get_visible_child_name() == "asking":
             boxes = [self.window.answers]
-        found = {one.get_label() or one.get_child().get_text(): one for b in boxes for one in b}
+        seen = [one for box in boxes for one in box if one.get_visible()]
+        found = {one.get_label() or one.get_child().get_text(): one for one in seen}
         act = self.window.bar_act
         return {**found, act.get_label(): act} if self.said() and act.get_visible() else found
 
