@@ -454,7 +454,16 @@ class Texts(CellTest):
                 titles, said = self.ran(f"EAN;Name\n{PENCIL};{name}\n".encode(), *PRICED[:4])
                 self.assertEqual((titles, len(said)), ([], 1), name)
                 self.assertIn(f'which was encoded twice, for "{meant}"', said[0])
-        for text in ("NESCAFÉ®", "Mousse d’été", "OPCIÓ…", "Її сік", "«área»", "Cóż", "√2 ¬"):
+        for text in (
+            "NESCAFÉ®",
+            "CASĂ®",
+            "Mousse d’été",
+            "OPCIÓ…",
+            "Її сік",
+            "«área»",
+            "Cóż",
+            "√2 ¬",
+        ):
             titles, said = self.ran(f"EAN;Name\n{PENCIL};{text}\n".encode(), *PRICED[:4])
             self.assertEqual((titles, said), ([text], []))
 

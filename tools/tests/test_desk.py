@@ -60,6 +60,8 @@ class Chosen(Desk):
         self.assertEqual(len(labels_in(done)), 3)
         copies = support.file_of([("qr A", {"copies": 2}), ("qr B", {})])
         self.said(printed("--unique", input=copies), 1, "row 2: has copies")
+        none = support.file_of([("qr A", {"copies": 0}), ("qr A", {})])
+        self.assertEqual(len(labels_in(printed("--unique", input=none))), 1)
 
     def test_the_bars_of_upca_are_those_of_an_ean13(self) -> None:
         """A code is one, however its line has it."""

@@ -660,6 +660,11 @@ class Guesses(unittest.TestCase):
             (f"EAN+Name+Preis\n{CODES[0]}+Tee+1,20\n", "--delimiter + --decimal comma", ""),
             (f"Liste, Mai\nEAN;Name\n{CODES[0]};Tee\n", "", "--header-row 2"),
             (
+                f"Liste, Mai\nEAN;Name\n{CODES[0]};Tee\n",
+                "--header-row 2",
+                f"--title Name --header-row 2 {folder}",
+            ),
+            (
                 "Platz;Platz\nA-01-01;Ost\nA-01-02;Ost\n",
                 "",
                 "--symbology code128 --header-row 1",
