@@ -134,8 +134,8 @@ class DraftReader:
 
     def names_others(self, row: Row) -> bool:
         """Returns whether half of the cells of a row are names of columns, and one that is asked
-        for is in another place, or has another name in its place. A row whose code is the name of its
-        column, or of codes, names others, too, where no other cell has digits.
+        for is in another place, or has another name in its place. A row whose code is the name of
+        its column, or of codes, names others, too, where no other cell has digits.
         """
         texts = list(map(name_of, bare_texts(row)))
         place = self.columns.code.place
