@@ -346,6 +346,8 @@ class Said(unittest.TestCase):
                 found = re.findall(r"a label of at least ([0-9.]+) by ([0-9.]+) mm", message)
                 self.assertEqual(len(found), 1, message)
                 self.assertIn("rows 2-4: ", message)
+                self.assertEqual(", less text" in message, " is too high, " in message)
+                self.assertEqual(", shorter data" in message, line != EAN)
                 larger = float(found[0][0]), float(found[0][1])
                 self.assertTrue(printed(labels, *sheet(larger, dpi)))
 
