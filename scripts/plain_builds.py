@@ -14,6 +14,7 @@ import os
 import re
 import shutil
 import sys
+from multiprocessing import get_context
 from typing import Any
 
 import libraries
@@ -32,13 +33,15 @@ MADE = {
 ARM64 = ["--jobs", "1", "--target", "aarch64-unknown-linux-gnu"]
 
 
-def build_for_arm64(library: Any) -> int:
-    """Builds the library for arm64. Its file has the name of that for amd64, and is moved away. Returns its status."""
+def build_libraries(library: Any) -> int:
+    """Builds the library for arm64, whose file has the name of that for amd64 and is moved away, and then that one.
+    Returns the status."""
     status: int = library.build_static(ARM64)
     if status == 0:
         built = f"{library.folder}/out/lib{library.name}.a"
         os.makedirs(f"{library.folder}/out/arm64", exist_ok=True)
         os.replace(built, f"{library.folder}/out/arm64/{os.path.basename(built)}")
+        status = library.build_static(FLAGS)
     return status
 
 
@@ -67,10 +70,13 @@ def main() -> int:
         return 1
     program.held = []  # the locks that `rt run` lets go before the program runs
     program.out = io.StringIO()
+    beside = get_context("fork").Process(target=lambda: sys.exit(build_libraries(library)))
+    beside.start()
     status = int(program.run(FLAGS, []))
+    beside.join()
+    status = status or beside.exitcode or 0
     verdict = program.out.getvalue()
     print(verdict, end="")
-    status = status or build_for_arm64(library) or int(library.build_static(FLAGS))
     fault = f"status {status}" if status else fault_of_page(sources.read(PAGE), verdict) or fault_of_make()
     if not fault:
         sources.library()
