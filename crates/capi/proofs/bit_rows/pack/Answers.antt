@@ -1,7 +1,14 @@
-use Rattle.std.proofs.Common.{◌*◌, arith, length}
+use Rattle.std.proofs.Common.{◌*◌, arith, length, rules}
 use Rattle.std.proofs.lemmas.List.FromFn.{fill_by_all}
+use Rattle.std.proofs.lemmas.Grind.{common_steps}
 use Rattle.capi.specs.Bitmap.{byte_at}
 use Rattle.capi.proofs.bit_rows.pack.Goals as goal
+
+pub loop-j-preserved : goal.loop-j-preserved
+loop-j-preserved c = record {
+  size = search rules;
+  so_far = λ k below. grind (arith, common_steps, c.loop-j.invariant.so_far k);
+}
 
 pub returns : goal.returns
 returns c =

@@ -1,4 +1,5 @@
-use Rattle.std.proofs.Common.{◌/◌, ◌∙◌, get_or, refl, sym}
+use Rattle.std.proofs.Common.{◌/◌, ◌∙◌, get_or, refl, sym, arith}
+use Rattle.std.proofs.lemmas.Grind.{common_steps}
 use Rattle.labelcore.specs.declared.symbology.Symbology.TheVariants.{Ean13}
 use Rattle.filter.specs.Symbol.{quiet_zone}
 use Rattle.reading.specs.Found.{found_of, reading_as, symbologies}
@@ -6,6 +7,9 @@ use Rattle.reading.specs.Private.{can_begin, reading_from}
 use Rattle.reading.proofs.FoundLaws.{at_no_scale, at_scale, next_asked, or_absent, or_present}
 use Rattle.reading.proofs.found.read_first.Goals as goal
 use Rattle.reading.proofs.found.read_first.Goals.{in-Some+else-is_some, in_default}
+
+pub read_as-found-requires-clause-some : goal.read_as-found-requires-clause-some
+read_as-found-requires-clause-some g c = grind (arith, common_steps)
 
 pub returns-then-is_some : goal.returns-then-is_some
 returns-then-is_some g c =
@@ -40,3 +44,6 @@ loop-place-preserved g c =
           rw (at_no_scale (can_begin p x y s) (x / (quiet_zone s).left) (λ scale. reading_as turns p scale s)
           (sym c.scale_from.ensures ∙ w.in_default.is)) refl
     ]
+
+pub returns : goal.returns
+returns g c = grind (arith, common_steps)

@@ -1,13 +1,23 @@
-use Rattle.std.proofs.Common.{◌≡◌, Some, true, sym, ap, ◌∙◌, option_map}
+use Rattle.std.proofs.Common.{◌≡◌, Some, true, sym, ap, ◌∙◌, option_map, arith}
+use Rattle.std.proofs.lemmas.Grind.{common_steps}
 use Rattle.filter.specs.Reading.{read_modules}
 use Rattle.filter.specs.Symbol.{quiet_zone}
 use Rattle.picture.specs.Picture.{Picture}
 use Rattle.picture.specs.Reading.{raster}
 use Rattle.reading.specs.Labels.{read_short}
 use Rattle.reading.specs.Private.{are_whole_cells, modules_in}
-use Rattle.reading.proofs.LabelLaws.{whole_read}
+use Rattle.reading.proofs.LabelLaws.{whole_read, part_unread}
 use Rattle.reading.proofs.WidthLaws.{told_if}
 use Rattle.reading.proofs.labels.read.Goals as goal
+
+pub returns-in_err-modules : goal.returns-in_err-modules
+returns-in_err-modules g c = grind (arith, part_unread, whole_read)
+
+pub returns-in_err-data : goal.returns-in_err-data
+returns-in_err-data g c = grind (arith, part_unread, whole_read)
+
+pub are_cells-requires-clause-whole : goal.are_cells-requires-clause-whole
+are_cells-requires-clause-whole g c = grind (arith, common_steps)
 
 pub returns : goal.returns
 returns g c =

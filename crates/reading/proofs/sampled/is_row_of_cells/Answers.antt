@@ -1,7 +1,17 @@
 use Rattle.std.proofs.Common.{◌≡◌, ◌+◌, ◌-◌, ◌*◌, ◌/◌, ◌≤◌, ◌&&◌, ◌∙◌, arith, refl, sym}
 use Rattle.std.proofs.lemmas.Bool.{and_parts, leb-true}
+use Rattle.std.proofs.lemmas.Grind.{common_steps}
 use Rattle.reading.proofs.CellLaws.{cell_decides, colour, rest_is, singles_row}
 use Rattle.reading.proofs.sampled.is_row_of_cells.Goals as goal
+
+pub overflow_mul-from : goal.overflow_mul-from
+overflow_mul-from g c = grind (arith, common_steps)
+
+pub overflow_add-from : goal.overflow_add-from
+overflow_add-from g c = grind (arith, common_steps)
+
+pub is_row_of_cell-requires-clause-wide : goal.is_row_of_cell-requires-clause-wide
+is_row_of_cell-requires-clause-wide g c = grind (arith, common_steps)
 
 pub returns-then-not-is_row_of_cell : goal.returns-then-not-is_row_of_cell
 returns-then-not-is_row_of_cell g c =

@@ -1,5 +1,12 @@
 use Rattle.std.proofs.Common.{◌≡◌, ◌+◌, ◌*◌, ◌==◌, get_or, ap, ◌∙◌, arith}
+use Rattle.std.proofs.lemmas.Grind.{common_steps}
 use Rattle.reading.proofs.dots.DotsGrid.equal_rows.Goals as goal
+
+pub overflow_mul-place : goal.overflow_mul-place
+overflow_mul-place c = grind (arith, common_steps)
+
+pub equal_rows-requires-clause-inside : goal.equal_rows-requires-clause-inside
+equal_rows-requires-clause-inside c = grind (arith, common_steps)
 
 pub returns : goal.returns
 returns c =

@@ -1,6 +1,10 @@
 use Rattle.std.proofs.Common.{◌∙◌, ◌&&◌, arith, sym}
 use Rattle.std.specs.Prelude.{nat_lt}
+use Rattle.std.proofs.lemmas.Grind.{common_steps}
 use Rattle.reading.proofs.packed.Packed.of.Goals as goal
+
+pub loop-y-preserved : goal.loop-y-preserved
+loop-y-preserved g c = grind (arith, common_steps)
 
 pub returns : goal.returns
 returns g c =
