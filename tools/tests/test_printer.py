@@ -119,6 +119,13 @@ class Drivers(unittest.TestCase):
             queue = Queue("office", own, {dots: f"{dots}dpi" for dots in others})
             self.assertEqual((queue.dpi_for(True), queue.dpi_for(False)), (of_sheet, of_roll))
 
+    def test_a_driver_that_has_several_and_tells_none(self) -> None:
+        """Labels at what these are multiples of are exact at each: none has to be scanned."""
+        job = planned(PrintOptions(stock="Avery L7160", dpi=300))
+        for common, is_doubted in ((300, False), (600, False), (360, True), (0, True)):
+            queue = Queue("office", 0, {}, common=common)
+            self.assertEqual(bool(queue.doubt(job)), is_doubted, common)
+
     def test_dots_of_a_driver(self) -> None:
         """What is told last counts, the fewer of those across and down; none that do not fit."""
         for code, dots in (
