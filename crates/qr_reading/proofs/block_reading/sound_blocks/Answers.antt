@@ -1,7 +1,6 @@
 use Rattle.std.proofs.Common.{rules, ap, arith, length, length-append, sym, ◌≡◌, ◌-◌, ◌++◌, ◌∙◌}
 use Rattle.std.proofs.lemmas.List.{length-replicate}
 use Rattle.std.proofs.lemmas.List.Sums.{sum_by-drop_more}
-use Rattle.std.proofs.lemmas.Grind.{common_steps}
 use Rattle.qr_reading.proofs.DeinterleavingLaws.{all_blocks, one_block}
 use Rattle.qr_reading.proofs.block_reading.sound_blocks.Goals as goal
 
@@ -15,12 +14,6 @@ loop-block-init c =
           c.new-message.result.items (length lengths - 0) c.new-message.ensures (omega arith) (omega (arith, ec_count));
       room = omega (arith, ap length c.new-message.ensures);
     }
-
-pub is_multiple-requires-clause-count : goal.is_multiple-requires-clause-count
-is_multiple-requires-clause-count c = grind (arith, common_steps)
-
-pub push_codewords-requires : goal.push_codewords-requires
-push_codewords-requires c = grind (arith, common_steps)
 
 pub loop-block-preserved : goal.loop-block-preserved
 loop-block-preserved c =
@@ -43,6 +36,3 @@ loop-block-preserved c =
         c.loop-block.invariant.room,
       );
     }
-
-pub returns-clause-len : goal.returns-clause-len
-returns-clause-len c = grind (arith, common_steps)
