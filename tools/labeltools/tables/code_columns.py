@@ -37,9 +37,9 @@ def code_columns(columns: Sequence[ColumnSample]) -> Places:
 
 
 def the_code(columns: Sequence[ColumnSample], found: Sequence[int], rest: Sequence[int]) -> Places:
-    """Returns the one column that is meant among several with codes: the one with the plainest
-    name. None is meant if that name says something else, too, or if few of its rows have a code
-    and the other columns have numbers of one country.
+    """Returns which of the columns with codes may be meant, and the one that surely is: the only
+    one with the plainest name. Beside other numbers none is sure if that name says something else,
+    too, or if few rows have a code, and it is not named for codes or the others are of a country.
     """
     first = min(code_rank(columns[at]) for at in found)
     best = [at for at in found if code_rank(columns[at]) == first]
