@@ -114,7 +114,7 @@ def read_bodies(path: str) -> list[Body]:
     wrong = [dataclasses.replace(one, name=f"{name}:{it[-1]}", fields=it) for it in alone]
     left = {it: (*it.fields[:-1], it.fields[-1].partition(".")[0]) for it in wrong}
     right = [dataclasses.replace(it, name=f"{it.name}-less", is_right=True, fields=left[it]) for it in wrong]
-    # Lines that differ in the last field alone leave the same right body, which is tried once.
+    # Lines that differ only in the last field leave the same right body, which is tried once.
     return [*wrong, *{it.fields: it for it in right}.values()] or [one]
 
 

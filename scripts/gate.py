@@ -36,7 +36,7 @@ QUICK = (
     "unused.py",
     "pages.py",
     "lints.py",
-    "run_tests.py scripts/tests",
+    "run_tests.py scripts/tests --quick",
     "run_tests.py tools/tests --quick",
 )
 PROOFS = "rt ci"
@@ -46,6 +46,7 @@ BUILT = (
     "believed_rows.py --sample --built",
     "run_tests.py tools/tests",
     "run_tests.py lib/tests",
+    "run_tests.py scripts/tests",
     "compare_symbols.py",
     "scan_damaged.py",
     "read_foreign.py",

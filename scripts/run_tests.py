@@ -2,12 +2,12 @@
 """Runs the tests of a folder, those of a file in a process of their own, as many at a time as there are processors.
 
 A test passes where it ran to its end and nothing was wrong. Any other one failed: one that is skipped, one that passes
-though it is expected to fail, each test of a class or a file that cannot be read or set up. With --quick a test of
-the tools that draws, or takes seconds, is left out: the gate runs it after the proofs. A folder without tests is a
-failure. A test that takes too long is ended and failed, and so is what is read or set up for tests. What all tests of
-a folder need the function `prepare` of its module `support` makes, once. In each run tests are shown that end in each
-way, of which just the right one may pass. The last line is `N passed, M failed`, with `, L left out` after it where
-some were; the status is 1 where some failed.
+though it is expected to fail, each test of a class or a file that cannot be read or set up. With --quick a test that
+draws, or takes seconds, is left out: the gate runs it after the proofs. A folder without tests is a failure. A test
+that takes too long is ended and failed, and so is what is read or set up for tests. What all tests of a folder need
+the function `prepare` of its module `support` makes, once. In each run tests are shown that end in each way, of which
+just the right one may pass. The last line is `N passed, M failed`, with `, L left out` after it where some were; the
+status is 1 where some failed.
 """
 
 import gc
@@ -24,7 +24,7 @@ from typing import IO, Any, Iterable, Iterator, NoReturn, TextIO
 
 import sources
 
-# Why a test of the tools is left out before the proofs.
+# Why a test is left out before the proofs.
 LEFT_OUT = ("is not built: run ", "takes seconds: ")
 # Seconds that a test may take, on a busy machine too, and what is read or set up before it.
 LONGEST = 900.0

@@ -27,6 +27,8 @@ sources = module("sources")
 TOP, PYTHON, SCRIPTS = sources.TOP, sources.PYTHON, f"{sources.TOP}/scripts"
 read: Callable[[str], str] = sources.read
 run_command: Callable[..., tuple[int, str]] = functools.partial(sources.run, folder="/")
+# A test that takes seconds of a processor: `make quick` leaves it to the gate, which runs all.
+slow = unittest.skipIf(os.environ.get("QUICK"), "takes seconds: the gate runs it")
 
 
 def cases_of(test: str, **values: str) -> dict[str, Any]:

@@ -4,7 +4,7 @@ import os
 import re
 from unittest import mock
 
-from support import PYTHON, TOP, InCopy, cases_of, module, read, run_command
+from support import PYTHON, TOP, InCopy, cases_of, module, read, run_command, slow
 
 README, PROOF, READING = "README.md", "docs/PROOF.md", "crates/picture/specs/Reading.antt"
 COUNTS, RESULTS = "scripts/counts.txt", "scripts/believed_rows.txt"
@@ -54,6 +54,7 @@ class Changed(InCopy):
                     self.assertEqual((status, [wanted for _, wanted in moved if wanted not in said]), (1, []), said)
                 self.doCleanups()
 
+    @slow
     def test_what_is_written_otherwise(self) -> None:
         for step, files in CASES["together"].items():
             changes = [(file, old, new, wanted) for file, rows in files.items() for old, new, wanted in rows]
@@ -110,6 +111,7 @@ class Believed(InCopy):
                 self.assertEqual([it for it in has if it not in said], [])
                 self.assertEqual([it for it in has_not if it in said], [])
 
+    @slow
     def test_results_as_they_are(self) -> None:
         """They hold with another comment, too."""
         text = read(self.path(READING))

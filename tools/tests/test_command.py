@@ -33,6 +33,7 @@ main_of("small-tool", function)
         done = support.run("/bin/bash", *words, input=data, locale="C")
         return done.returncode, done.stdout, done.stderr.decode()
 
+    @support.slow
     def test_how_it_ends(self) -> None:
         missing = "small-tool: nothing.txt: No such file or directory; is its name right?\n"
         for body, ended in (
@@ -65,6 +66,7 @@ main_of("small-tool", function)
             given.close()
             self.assertEqual(taken.read(), b"True True True\n")
 
+    @support.slow
     def test_a_full_disk(self) -> None:
         full = (1, b"", "small-tool: standard output: No space left on device\n")
         for unbuffered in ("", "export PYTHONUNBUFFERED=1; "):

@@ -336,6 +336,7 @@ class German(unittest.TestCase):
             ran = self.ran(language, sys.executable, "-c", code, PYTHONPATH=str(support.TOOLS))
             self.assertEqual(ran.stdout, f"{said}\n", ran.stderr)
 
+    @support.slow
     def test_who_speaks_a_language_reads_it(self) -> None:
         """Without a translation it is English."""
         with tempfile.TemporaryDirectory() as folder:

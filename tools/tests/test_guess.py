@@ -434,6 +434,7 @@ class Guesses(unittest.TestCase):
             found = guessed(f"{names}\n{row}\n")
             self.assertEqual((found.columns, found.beside.get("title")), (wanted, second), row)
 
+    @support.slow
     def test_an_old_encoding_is_proposed_where_one_reading_is_sensible(self) -> None:
         """By the letters of the language of the names; where other letters are sensible, too, it is
         asked as before, and without a proposal nothing is read in an old encoding.

@@ -46,6 +46,7 @@ class Prices(unittest.TestCase):
                     money.parse(cell)
         self.assertGreater(count, 500)
 
+    @support.slow
     def test_common_prices_are_those_of_the_grammar(self) -> None:
         numbers = ("0", "7", "10", "999", "1234", "123456", "1234567", "007")
         groups = ("1.234", "1,234", "1'234", "12.345", "999,000", "1.23", "0.123", "1.234.567")

@@ -307,6 +307,7 @@ class Cells(TableTest):
 
 
 class Columns(TableTest):
+    @support.slow
     def test_by_name_and_by_number(self) -> None:
         table = f'name;"the\ncode";2\na;{SMALL};{PENCIL}\n'
         self.check(table, ["--code", "the code"], [f"ean8 {SMALL}"])
@@ -879,6 +880,7 @@ class Arguments(TableTest):
             problem = f"standard input is CSV: leave out {words[0]}"
             self.check(f"code\n{SMALL}\n", ["--code", "code", *words], [], [problem], 2)
 
+    @support.slow
     def test_standard_input(self) -> None:
         (self.folder / "-").write_text(f"code\n{PENCIL}\n")
         for arguments in ((), ("-",)):
