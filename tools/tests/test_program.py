@@ -3,6 +3,7 @@
 Expected values come from the standards, the man page, and other programs: none of them is output of `labels` itself.
 """
 
+import contextlib
 import errno
 import fcntl
 import re
@@ -14,7 +15,7 @@ import termios
 import time
 import unittest
 from pathlib import Path
-from typing import Sequence
+from typing import Iterator, Sequence
 
 import support
 from program_lines import DRAWN, EAN8, OPTIONS, pbm, REFUSED
@@ -230,9 +231,16 @@ def ran_in_two(first: bytes, second: bytes) -> Ran:
         return running.returncode, out, err
 
 
-def limit_files(size: int) -> None:
-    """Has each file of this process end at a size: a write beyond it fails."""
-    resource.setrlimit(resource.RLIMIT_FSIZE, (size, size))
+@contextlib.contextmanager
+def limited_files(size: int) -> Iterator[None]:
+    """Has each file that is written meanwhile end at a size, of programs that begin then too: a write beyond it
+    fails."""
+    before = resource.getrlimit(resource.RLIMIT_FSIZE)
+    resource.setrlimit(resource.RLIMIT_FSIZE, (size, before[1]))
+    try:
+        yield
+    finally:
+        resource.setrlimit(resource.RLIMIT_FSIZE, before)
 
 
 def code128_of_one(byte: int) -> str:
@@ -276,19 +284,23 @@ class Pieces(unittest.TestCase):
         command = [str(support.labels_program()), *OPTIONS]
         data = b"\n".join(line for line, _ in DRAWN)
         pictures = b"".join(pbm(rows) for _, rows in DRAWN)
-        with tempfile.TemporaryFile() as taken:
+        with tempfile.TemporaryFile() as taken, tempfile.TemporaryFile() as given:
+            given.write(data)
             for size in range(len(pictures)):
                 taken.seek(0)
                 taken.truncate()
-                done = subprocess.run(
-                    command,
-                    input=data,
-                    stdout=taken,
-                    stderr=-1,
-                    timeout=support.SECONDS,
-                    restore_signals=False,  # Python ignores the signal of a full file, and so does the program
-                    preexec_fn=lambda: limit_files(size),
-                )
+                given.seek(0)
+                # Python ignores the signal of a full file, and so does the program. Between `fork` and the program
+                # nothing is left to do: so the system copies nothing of this process.
+                with limited_files(size):
+                    done = subprocess.run(
+                        command,
+                        stdin=given,
+                        stdout=taken,
+                        stderr=-1,
+                        timeout=support.SECONDS,
+                        restore_signals=False,
+                    )
                 taken.seek(0)
                 found = done.returncode, taken.read(), done.stderr
                 self.assertEqual(found, (3, pictures[:size], b"labels: write failed\n"))

@@ -107,6 +107,7 @@ def load() -> None:
     )
     Gdk, Gio, GLib, Gtk = gtk.Gdk, gtk.Gio, gtk.GLib, gtk.Gtk
     Gtk.init([])
+    Gtk.Settings.get_default().set_property("gtk-enable-animations", False)
 
 
 def tearDownModule() -> None:
