@@ -9,8 +9,8 @@
 - Each link from one file of the repository to another leads to a file and a heading.
 - Each name between backticks in the pages of NAMING, such as `Filter::feed`, is of words that the code has.
 - Each crate has a page of at most 40 lines. Each line of a block of Rust in it, but for imports and comments, is a
-  line of the function page_of_NAME in crates/tests/src/pages.rt, in the same order, white space apart; of the page of
-  `command` it is one of the `main` in crates/labels/src/main.rt.
+  line of the function page_of_NAME in crates/tests/src/pages.rt, in the same order, white space apart; of the pages in
+  CALLERS it is one of the function that calls them.
 - A number of a page that a step of the gate counts is the one in scripts/counts.txt.
 - No line is a mark of a merge that somebody has to settle. None, not even that of a table, has more than LONGEST_LINE
   bytes: Debian's lintian takes longer ones for the work of a program.
@@ -68,9 +68,12 @@ FILE = re.compile(r"\b(?:crates/[\w/]+\.rt|lib/[\w/]+\.\w+)\b")
 # A name of the code: words that are joined by colons or points, as in `Filter::feed`, `answer.length`.
 NAME = re.compile(r"[^\W\d]\w*(?:(?:::|\.)[^\W\d]\w*)*(?:\(\))?")
 # The functions that have the lines of the pages' examples, by their names, and in which files they are.
-FUNCTION = re.compile(r"^fn (\w+)\(.*?\{\n(.*?)^\}", re.MULTILINE | re.DOTALL)
+FUNCTION = re.compile(r"^(?:pub extern \"C\" )?fn (\w+)\(.*?\{\n(.*?)^\}", re.MULTILINE | re.DOTALL)
 OF_PAGES = "crates/tests/src/pages.rt"
-OF_COMMAND = "crates/labels/src/main.rt"
+CALLERS = {
+    "command": ("main", "crates/labels/src/main.rt"),
+    "capi": ("labels_proved_draw", "crates/labels_c/src/lib.rt"),
+}
 NOT_CHECKED = "Not checked:"
 # What pages say, with the step whose line in scripts/counts.txt has the number, and how it is found there.
 IN_PAGES = (
@@ -225,7 +228,7 @@ def words_of(code: str) -> str:
 
 def example_of(name: str) -> tuple[str, str]:
     """The function that has the lines of a crate's example, and its words."""
-    function, path = ("main", OF_COMMAND) if name == "command" else (f"page_of_{name}", OF_PAGES)
+    function, path = CALLERS.get(name, (f"page_of_{name}", OF_PAGES))
     bodies = dict(FUNCTION.findall(sources.read(path)))
     return f"{function} of {path}", words_of(bodies.get(function, ""))
 

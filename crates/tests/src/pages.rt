@@ -1,5 +1,4 @@
 //! The examples of the crates' pages (`crates/*/README.md`). `scripts/pages.py` compares them with the pages.
-use capi::{CallOptions, CallRegion, draw_into, read_bits_into, read_into, read_modules_into};
 use device::{Buffered, Sink, write_whole};
 use filter::{Status, run};
 use gf256::{Generator, mul, pow_alpha};
@@ -173,34 +172,4 @@ fn page_of_filter(rt: HostRuntime) {
     assert!(rt; result == Ok(Status::Refused));
     assert!(rt; images.bytes().len() == 91);
     assert!(rt; messages.bytes() == b"line 2: unknown symbology\n".as_slice());
-}
-
-#[test]
-fn page_of_capi(rt: HostRuntime) {
-    let options = CallOptions {
-        format: 1,
-        scale: 1,
-        height: 1,
-        level: 1,
-        min_version: 1,
-        mask: 8,
-        escapes: 0,
-        reserved: [0; 5],
-    };
-    let mut out = [7; 200];
-    let mut message = [0; 103];
-    let answer = draw_into(&options, 1, b"7351353", &mut out, &mut message);
-    assert!(rt; answer.code == 0 && answer.length == 164 && out[163] == b'\n' && out[164] == 7);
-    assert!(rt; read_into(1, 1, 81, 1, &[b'0'; 81], &mut out).code == 17);
-    assert!(rt; read_modules_into(4, 9, 9, &[0; 81], &mut out).code == 17);
-    let region = CallRegion {
-        stride: 11,
-        left: 0,
-        top: 0,
-        width: 81,
-        height: 1,
-        dark: 1,
-        reserved: [0; 3],
-    };
-    assert!(rt; read_bits_into(&region, &[0; 11], &mut out).answer.code == 17);
 }
