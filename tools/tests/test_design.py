@@ -93,6 +93,7 @@ REFUSED = (
     ("<g>" * 100_000 + "</g>" * 100_000 + CODE, "is not SVG: "),
     (f"<!--{'x' * 8_000_000}-->{CODE}", "has more than 8 MB; make its pictures smaller"),
     (PICTURE.format("webp", "aGVsbG8="), f"image {NOT_EMBEDDED}"),
+    (PICTURE.format("svg+xml", "PHN2Zy8+"), "an SVG is embedded as a picture; in Inkscape import"),
     (f'<image href="data:image/png,hello"/>{CODE}', f"image {NOT_EMBEDDED}"),
     (PICTURE.format("png", png_of(20_000, 20_000)), PIXELS),
     (PICTURE.format("png", png_of(4_000, 4_000)) * 2, PIXELS),

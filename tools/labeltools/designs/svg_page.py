@@ -38,6 +38,7 @@ MOST_PIXELS = 25  # millions, of its pictures: each takes 16 bytes when it is dr
 LARGEST = 4000.0  # millimetres of a page
 PACKED = b"\x1f\x8b"  # what .svgz begins with
 WITHIN = re.compile("#|data:image/(?:png|jpeg);base64,")
+DRAWING = re.compile(r"data:image/svg\+xml\b")
 OUTSIDE = re.compile(r"url\((?!\s*[\"']?(?:#|data:))|@import", re.IGNORECASE)
 # what is drawn, and what draws nothing anywhere
 ELEMENTS = frozenset(
@@ -173,13 +174,23 @@ def check_elements(file: str, root: Element) -> None:
         if tag_of(element) in ("a", "color-profile"):  # links in PDF fail, profiles are not used
             element.tag = f"{SPACE}g"
         elif not all(map(WITHIN.match, links)) or any(map(OUTSIDE.search, styles)):
-            what = Text("{}: {} is of another file, or is not PNG or JPEG", file, tag_of(element))
-            raise ToolError(what, Text("embed it, in Inkscape by Extensions, Images, Embed Images"))
+            raise refused_picture(file, tag_of(element), any(map(DRAWING.match, links)))
         elif tag_of(element) == "image":
             pixels += sum(pixels_of(file, link.partition(",")[2]) for link in links)
     if pixels > MOST_PIXELS * 1_000_000:
         what = Text("{}: pictures have more than {} million pixels", file, MOST_PIXELS)
         raise ToolError(what, SMALLER)
+
+
+def refused_picture(file: str, tag: str, is_drawing: bool) -> ToolError:
+    """Returns why a picture is not drawn: it is an SVG itself, or in another file, or of another
+    kind.
+    """
+    if is_drawing:
+        what = Text("{}: an SVG is embedded as a picture", file)
+        return ToolError(what, Text("in Inkscape import it again as editable objects"))
+    what = Text("{}: {} is of another file, or is not PNG or JPEG", file, tag)
+    return ToolError(what, Text("embed it, in Inkscape by Extensions, Images, Embed Images"))
 
 
 def pixels_of(file: str, data: str) -> int:
