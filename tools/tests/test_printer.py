@@ -403,6 +403,7 @@ class Queues(unittest.TestCase):
         for queue, words, said in (
             ("general", self.ROLL, f"general does not say {edges}"),
             ("any-size", small, "below 25.4 by 25.4 mm: if it takes 60 by 24 mm all the same give"),
+            ("any-size", small, "; for a label printer give"),
             ("any-size", (*self.ROLL, given), "would be cut; give --edge 4.3,4.3,4.3,4.3"),
             ("silent", self.ROLL, "resolution: look at its manual, and give --dpi 203 or 300 or"),
             ("zebra", (*self.ROLL, "--to", "zpl", given), f"{given} is only for a PDF on a queue"),

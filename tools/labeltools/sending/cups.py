@@ -164,13 +164,11 @@ class Queue:
         is_given = job.options.is_paper_as_given
         try:
             return self.papers.paper(self.name, job.plan.sheet.page, is_given)
-        except Unsaid:
-            raise
         except ToolError as error:
             if not (job.plan.sheet.is_single and self.papers.is_office):
                 raise
-            hints = Text("{}; {}", error.hint, self.past_driver())
-            raise ToolError(error.what, hints, BAD_ARGUMENTS) from error
+            hints = joined("; ", (error.hint, self.past_driver()))
+            raise type(error)(error.what, hints, BAD_ARGUMENTS) from error
 
     def check_dots(self, job: Job) -> None:
         """Raises `Unsaid` where nobody says at which resolution a roll is printed: label printers
