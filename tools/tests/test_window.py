@@ -98,7 +98,9 @@ def setUpModule() -> None:
 
 
 def load() -> None:
-    """Loads the window, where there is a screen."""
+    """Loads the window, where there is a screen. Nothing moves on it, since each step of a movement
+    would be drawn.
+    """
     global application, bar, gtk, printers, questions, sheets, shop, ways, window, work
     global Gdk, Gio, GLib, Gtk
     sys.path.insert(0, str(support.TOOLS))
