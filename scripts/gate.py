@@ -8,7 +8,7 @@ is the one that scripts/counts.txt has: how many tests passed, symbols were read
 out unseen: a test or a label that is gone, and a step that does less, are a line of the diff. --write runs the steps
 and writes their lines.
 
-quick: what needs no program and no proof, some 30 seconds of a processor. all: that, every proof from nothing (but of
+quick: what needs no program and no proof, some 40 seconds of a processor. all: that, every proof from nothing (but of
 crates that an earlier `rt ci` proved on this machine), the wrong bodies, the program as users get it, and built: what
 needs that program and the library. The proofs wait for one another, and most of what comes after the builds runs on
 one processor: so the wrong bodies of a crate are tried beside the proofs, once the crates below it are proved, and of

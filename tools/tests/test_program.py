@@ -233,8 +233,7 @@ def ran_in_two(first: bytes, second: bytes) -> Ran:
 
 @contextlib.contextmanager
 def limited_files(size: int) -> Iterator[None]:
-    """Has each file that is written meanwhile end at a size, of programs that begin then too: a write beyond it
-    fails."""
+    """Meanwhile a write beyond this size of a file fails, also in programs that begin then."""
     before = resource.getrlimit(resource.RLIMIT_FSIZE)
     resource.setrlimit(resource.RLIMIT_FSIZE, (size, before[1]))
     try:
@@ -290,8 +289,8 @@ class Pieces(unittest.TestCase):
                 taken.seek(0)
                 taken.truncate()
                 given.seek(0)
-                # Python ignores the signal of a full file, and so does the program. Between `fork` and the program
-                # nothing is left to do: so the system copies nothing of this process.
+                # Python ignores the signal of a full file, and so does the program. The limit is set here, and not in
+                # a fork, which would copy this process each time.
                 with limited_files(size):
                     done = subprocess.run(
                         command,

@@ -174,7 +174,7 @@ def check_elements(file: str, root: Element) -> None:
         if tag_of(element) in ("a", "color-profile"):  # links in PDF fail, profiles are not used
             element.tag = f"{SPACE}g"
         elif not all(map(WITHIN.match, links)) or any(map(OUTSIDE.search, styles)):
-            raise refused_picture(file, tag_of(element), any(map(DRAWING.match, links)))
+            raise refused_link(file, tag_of(element), any(map(DRAWING.match, links)))
         elif tag_of(element) == "image":
             pixels += sum(pixels_of(file, link.partition(",")[2]) for link in links)
     if pixels > MOST_PIXELS * 1_000_000:
@@ -182,9 +182,9 @@ def check_elements(file: str, root: Element) -> None:
         raise ToolError(what, SMALLER)
 
 
-def refused_picture(file: str, tag: str, is_drawing: bool) -> ToolError:
-    """Returns why a picture is not drawn: it is an SVG itself, or in another file, or of another
-    kind.
+def refused_link(file: str, tag: str, is_drawing: bool) -> ToolError:
+    """Returns why what an element refers to is not drawn: it is an SVG, or in another file, or a
+    picture of another kind.
     """
     if is_drawing:
         what = Text("{}: an SVG is embedded as a picture", file)
