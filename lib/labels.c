@@ -296,6 +296,9 @@ int labels_read_bits(const labels_region *region, const void *bits, size_t size,
     out = write_to(out, room);
     if (!region || are_bad(bits, size, out, room))
         return refuse(answer);
-    labels_proved_read_bits(region, bits, size, out, room, found, answer);
+    /* Rows that take no bytes have no dots, and may be billions: of these the answer is that of none. */
+    labels_region none = *region;
+    none.height = 0;
+    labels_proved_read_bits(region->stride ? region : &none, bits, size, out, room, found, answer);
     return finish(answer);
 }

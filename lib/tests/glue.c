@@ -130,7 +130,7 @@ void labels_proved_read_modules(uint32_t symbology, uint32_t width, uint32_t row
 
 void labels_proved_read_bits(const labels_region *region, const void *bits, size_t size, char *out, size_t room,
                              labels_found *found, labels_answer *answer) {
-    SEE(region == given.region && region->stride == given.stride);
+    SEE(region->stride ? region == given.region && region->stride == given.stride : region->height == 0);
     see_data(given.options, bits, size);
     see_room(out, room);
     memset(out, MARK, room);
@@ -292,6 +292,16 @@ static void see_no_region(void) {
     SEE(labels_read_bits(NULL, NULL, 0, NULL, NULL, 0, NULL) == LABELS_BAD_ARGUMENT && given.calls == 0);
 }
 
+/* Rows without bytes may be billions, and are not looked at. */
+static void see_no_rows(void) {
+    static const labels_region region = {0, 0, 0, 0, UINT32_MAX, 0, {0, 0, 0}};
+    given.calls = 0;
+    given.data = given.to = NULL;
+    given.size = given.room = 0;
+    labels_read_bits(&region, NULL, 0, NULL, NULL, 0, NULL);
+    SEE(given.calls == 1);
+}
+
 static void see_layout(void) {
     char *memory = guarded();
     for (int is_last = 0; is_last < 2; is_last++) {
@@ -316,6 +326,7 @@ int main(void) {
         see_bad(call);
     }
     see_no_region();
+    see_no_rows();
     see_layout();
     printf("%d calls were passed on as they were made\n", done);
     return 0;
