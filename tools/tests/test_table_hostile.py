@@ -72,7 +72,7 @@ class Hostile(TableTest):
         stream = io.BytesIO(packed({one: text for one, text in parts.items() if one != sheet}))
         with zipfile.ZipFile(stream, "a", zipfile.ZIP_DEFLATED) as archive:
             archive.writestr(sheet, f"{begin}{'<a/>' * MANY}<sheetData>{end}")
-        self.assertIn("more than 1 MB", self.ended(stream.getvalue()))
+        self.assertIn("takes too much", self.ended(stream.getvalue()))
 
     @support.slow
     def test_lines_of_csv(self) -> None:

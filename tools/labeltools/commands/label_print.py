@@ -326,6 +326,11 @@ def check_journal(options: PrintOptions, journal: Journal) -> None:
         names = ", ".join(sorted(journal.printers())) or Text("nothing")
         what = Text("{} has no label of {}", journal.path, options.again)
         raise ToolError(what, Text("--again: the journal has these printers: {}", names))
+    if journal.has_readers:
+        what = Text(
+            "{} can be read by users who may not write it, and who can stop it", journal.path
+        )
+        write_message(TOOL, sentence(what, Text("put it into a folder of your own")))
     if OUTPUT in journal.printers() and not options.queue and not options.is_stream:
         output = standard_output().fileno()
         state = os.fstat(output)

@@ -11,6 +11,7 @@ from pathlib import Path
 from typing import Any, Callable, Sequence, TypeVar
 
 from labeltools.common.arguments import flag, Parser, value, words_of, wrong_argument
+from labeltools.common.budget import Budget
 from labeltools.common.messages import (
     BadArguments,
     Origin,
@@ -323,12 +324,13 @@ def proposed(words: Sequence[str], arguments: argparse.Namespace) -> Text:
         return NOTHING
     name, data = read_input(arguments.table)
     options = TableOptions(file=made(FileOptions, arguments))
-    old = None if arguments.encoding else old_encoding(data, name, options)
+    budget = Budget(name, len(data))
+    old = None if arguments.encoding else old_encoding(data, name, options, budget)
     if old:
         write_message(TOOL, sentence(old.text, old.hint))
         words = ["--encoding", old.name, *words]
         options = replace(options, file=replace(options.file, encoding=old.name))
-    sheet, guess = guess_of_sheets(data, name, options)
+    sheet, guess = guess_of_sheets(data, options, budget)
     if sheet:
         words = ["--sheet", sheet, *words]
     is_given = made(CodeRules, arguments) != CodeRules() or arguments.symbology_column is not None
@@ -354,19 +356,19 @@ def proposed(words: Sequence[str], arguments: argparse.Namespace) -> Text:
     return joined("; ", [*said, tried]) if commands else NOTHING
 
 
-def guess_of_sheets(data: bytes, name: str, options: TableOptions) -> tuple[str, Guess]:
+def guess_of_sheets(data: bytes, options: TableOptions, budget: Budget) -> tuple[str, Guess]:
     """Returns a guess of a table, and the sheet that alone has EAN or UPC, where there are several;
     raises `ToolError`.
     """
     try:
-        return "", guess_of(data, name, options, Silence())
+        return "", guess_of(data, budget.name, options, Silence(), budget)
     except ToolError as error:
         found = {}
         for remedy in remedies_of(error.hint):
             if remedy.option == "sheet":
                 one = replace(options, file=replace(options.file, sheet=remedy.value))
                 with suppress(ToolError):
-                    guess = guess_of(data, name, one, Silence())
+                    guess = guess_of(data, budget.name, one, Silence(), budget)
                     if any(ways.are_sure for ways in guess.codes.values()):
                         found[remedy.value] = guess
         if len(found) != 1:

@@ -33,12 +33,19 @@ def temporary() -> Iterator[None]:
 
 
 def save(file: IO[bytes], path: Path, number: int = 1) -> None:
-    """Writes a whole file, which has its name once it is whole; raises `OSError` with its name."""
+    """Writes a whole file, which has its name once it is whole; raises `OSError` with its name. It
+    has no name before, where the disk can do so: nothing is left of it if the tool is ended.
+    """
     part = path.with_name(PART.format(number=number))
     try:
-        with part.open("xb") as stream:
+        with nameless(path.parent) or part.open("xb") as stream:
             while data := file.read(BLOCK):
                 stream.write(data)
+            stream.flush()
+            if stream.name != str(part):
+                part.unlink(missing_ok=True)  # of a tool that was ended in this moment
+                own = stream.fileno()
+                os.link(f"/proc/self/fd/{own}", part, src_dir_fd=own)  # so that it follows the link
         part.rename(path)
     except OSError as error:
         if not isinstance(error, FileExistsError):
@@ -47,6 +54,14 @@ def save(file: IO[bytes], path: Path, number: int = 1) -> None:
     except BaseException:
         part.unlink(missing_ok=True)
         raise
+
+
+def nameless(folder: Path) -> IO[bytes] | None:
+    """Returns a new file without a name in a folder; None where the disk has none."""
+    try:
+        return open(os.open(folder, os.O_TMPFILE | os.O_WRONLY | os.O_CLOEXEC, 0o666), "wb")
+    except OSError:
+        return None
 
 
 def write_whole(data: bytes, output: int) -> None:

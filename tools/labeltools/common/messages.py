@@ -5,12 +5,15 @@ writes a message.
 import sys
 import unicodedata
 from contextlib import suppress
+from pathlib import Path
 from typing import NamedTuple
 
 from labeltools.common.text import joined, NOTHING, Text, translated
 
 BAD_ARGUMENTS = 2
+UNEXPECTED = 4  # the status of a tool that ends by an exception which nobody expected
 FAULT = Text("this is a fault of label-print: nothing of it was sent; report it")
+OURS = Path(__file__).parents[1]
 MOST_LETTERS = 40  # of a cell that a message quotes
 # the classes of characters in Unicode that change what a terminal shows, or that cut a message
 UNSEEN = ("Cc", "Cf", "Cs", "Zl", "Zp")
@@ -116,6 +119,22 @@ def of_system(error: OSError) -> ToolError:
     """Returns what the system says as an error of a tool."""
     what = Text("{}: {}", error.filename or Text("standard output"), error.strerror or error)
     return ToolError(what, OF_SYSTEM.get(type(error), NOTHING))
+
+
+def fault_of(error: Exception) -> Text:
+    """Returns what is said of an exception that nobody expected, and where it was raised.
+
+    >>> fault_of(MemoryError())
+    'there is not enough memory'
+    """
+    if isinstance(error, MemoryError):
+        return Text("there is not enough memory")
+    from traceback import extract_tb  # which takes time, in each run without a fault, too
+
+    places = extract_tb(error.__traceback__)
+    own = [one for one in places if Path(one.filename).is_relative_to(OURS)] or places
+    where = (type(error).__name__, own[-1].lineno, Path(own[-1].filename).name)
+    return Text("this is a fault of the program: report it as {} in line {} of {}", *where)
 
 
 def sentence(what: Text, hint: Text) -> Text:

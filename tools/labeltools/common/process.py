@@ -1,22 +1,25 @@
 """How a tool starts and ends: standard input and output, signals, messages and statuses."""
 
 import os
+import select
 import signal
+import stat
 import sys
 import time
 from contextlib import contextmanager, suppress
 from importlib import import_module
 from io import RawIOBase, TextIOWrapper
-from pathlib import Path
 from typing import Any, BinaryIO, Callable, Iterator, NoReturn
 
 from labeltools.common.messages import (
     BadArguments,
+    fault_of,
     of_system,
     Origin,
     sentence,
     Talk,
     ToolError,
+    UNEXPECTED,
     visible,
     write_message,
 )
@@ -24,6 +27,9 @@ from labeltools.common.text import NOTHING, Text, translated
 
 STANDARD_ERROR = 2
 SHOWN = 60  # letters of what is waited for
+MOST_INPUT = 1 << 29  # bytes
+BLOCK = 1 << 22  # bytes that are read at once
+WRITER = 10.0  # seconds in which a FIFO has a writer, if it gets one
 QUIET, BETWEEN = 1.0, 0.3  # seconds before progress is shown, and until it is shown again
 DRAWING = ("python3-gi-cairo", "gir1.2-pango-1.0")  # the packages that draw labels
 ENDING = (signal.SIGHUP, signal.SIGINT, signal.SIGTERM)
@@ -70,12 +76,44 @@ def read_input(path: str | None) -> tuple[str, bytes]:
     if is_standard and sys.stdin is None:
         raise ToolError(Text("standard input is closed"))
     name = Text("standard input") if is_standard else str(path)
-    data = sys.stdin.buffer.read() if is_standard else Path(str(path)).read_bytes()
+    data = read_all(sys.stdin.buffer, name) if is_standard else read_file(str(path))
     if not data:
         hint = Text("did the command that wrote it report an error?")
         hint = hint.in_window(Text("is it the right file?"))
         raise ToolError(Text("{} is empty: nothing is printed", name), hint)
     return name, data
+
+
+def read_file(path: str) -> bytes:
+    """Returns the bytes of a file; of a FIFO it waits for a writer, but not for ever. Raises as
+    `read_input`.
+    """
+    with open(path, "rb", opener=lambda name, how: os.open(name, how | os.O_NONBLOCK)) as file:
+        if stat.S_ISFIFO(os.fstat(file.fileno()).st_mode):
+            writer = select.poll()
+            writer.register(file, select.POLLIN)
+            if not writer.poll(WRITER * 1000):
+                raise ToolError(Text("{}: no program writes to it", path))
+        os.set_blocking(file.fileno(), True)
+        return read_all(file, path)
+
+
+def read_all(file: BinaryIO, name: str) -> bytes:
+    """Returns what is in a file, up to its end; raises `ToolError` if that is more than any input
+    has, of a file before it is read: one with holes has bytes that nobody sent.
+    """
+    size = 0
+    with suppress(OSError):  # it is no file of the system
+        size = os.fstat(file.fileno()).st_size
+    if size <= MOST_INPUT:
+        found = []
+        left = MOST_INPUT
+        while left >= 0 and (data := file.read(BLOCK)):
+            found.append(data)
+            left -= len(data)
+        if left >= 0:
+            return b"".join(found)
+    raise ToolError(Text("{} has more than {} MB", name, MOST_INPUT >> 20))
 
 
 def standard_output() -> BinaryIO:
@@ -159,6 +197,9 @@ def status_of(tool: str, function: Callable[[], int | None]) -> int:
     except OSError as error:
         write_message(tool, of_system(error).args[0])
         return 1
+    except Exception as error:
+        write_message(tool, fault_of(error))
+        return UNEXPECTED
 
 
 def buffer_output() -> None:

@@ -102,8 +102,9 @@ class Remedy:
     def __format__(self, form: str) -> str:
         if form != "value":
             return str(self)
+        safe = shlex.quote(self.value)
         has_letter = any(map(str.isalnum, self.value))
-        return shlex.quote(self.value) if has_letter else f"'{self.value}'"
+        return safe if has_letter or safe != self.value else f"'{self.value}'"
 
 
 def either(remedies: Iterable[Remedy]) -> Text:

@@ -27,6 +27,9 @@ class Background(Below):
         # and loses no gradients, but what librsvg makes pictures of has as few dots
         is_in_points = medium.is_pdf and not design.page.has("filter", "mask")
         self.unit = medium.dpi / POINTS if is_in_points else 1.0
+        self.size = tuple(max(1, int(side * medium.dpi / MILLIMETRES)) for side in design.label)
+        if medium.is_dots:
+            design.page.check_dots(*self.size)
         self.tinted: set[Place] = set()  # places that have dots of a tint behind them
         self.recorded = cache(self.new_recorded)
         self.dots = cache(self.new_dots)
@@ -52,8 +55,7 @@ class Background(Below):
         """
         from labeltools.designs.black_dots import BlackDots  # Pillow takes 40 ms, in PDF too
 
-        dot = MILLIMETRES / self.medium.dpi
-        wide, high = (max(1, int(side / dot)) for side in self.design.label)
+        wide, high = self.size
         scale = wide / self.design.label[0]
         light = lightness(lambda canvas: self.design.draw(canvas, scale, absent), wide, high)
         ends = {place: ends_of(place, scale) for place in self.design.places}

@@ -25,7 +25,15 @@ import cairo
 from labeltools.common.messages import BAD_ARGUMENTS, ToolError
 from labeltools.common.text import Remedy, Text
 from labeltools.designs.places import key_of, part_of, PARTS, Place, place_of, title_of
-from labeltools.designs.svg_page import handle_of, HOLDERS, read_page, rsvg, SvgPage, tag_of
+from labeltools.designs.svg_page import (
+    handle_of,
+    HOLDERS,
+    MOST_SEEN,
+    read_page,
+    rsvg,
+    SvgPage,
+    tag_of,
+)
 from labeltools.layout.fitting import Colour
 from labeltools.paper.plan import Edges
 from labeltools.paper.stock import Size, size_text
@@ -36,6 +44,7 @@ NEAR = 1.0  # millimetres by which a page may differ from a label
 ALIKE = 0.015  # by which the proportions of a page without millimetres may
 MOST_PLACES = 400
 KEPT = 16  # drawings
+BLOCK = 1 << 22  # bytes of dots
 SHAPES = ("path", "circle", "ellipse", "polygon", "polyline", "line", "image", "use", "text")
 FILLED = re.compile(r"(?<![\w-])fill:\s*url\(")  # by a picture, or a gradient
 THIN = "1e-7px"  # the height of what shows the upper edge of a place
@@ -43,7 +52,6 @@ TINY = 0.01  # millimetres
 BLACK = (0.0, 0.0, 0.0)
 WHITE = (1.0, 1.0, 1.0)
 CHECKED = 12.0  # dots a millimetre, in which a drawing is looked at, and
-MOST_SEEN = 4_000_000  # the most of all: of A4 8 a millimetre
 WHITEST = bytes((254, 255))  # what symbols take behind them: a line far thinner than a dot is seen
 LIGHT = bytes(range(128, 256))  # what is white in dots
 # the least part of a place, but for so many millimetres at its edges, that some letters may lie on
@@ -411,11 +419,26 @@ def lightness(paint: Callable[[Any], None], wide: int, high: int) -> bytes:
     canvas.paint()
     paint(canvas)
     surface.flush()
-    data = bytes(surface.get_data())
-    if not data[0::4] == data[1::4] == data[2::4]:  # colours, which take longer to be
+    grey = greys(surface)
+    if grey is None:  # colours, which take longer to be
         canvas.set_operator(cairo.Operator.HSL_COLOR)  # grey, as light as they are
         canvas.set_source_rgb(1, 1, 1)
         canvas.paint()
         surface.flush()
-        data = bytes(surface.get_data())
-    return data[0::4]
+        data = surface.get_data()
+        return b"".join(bytes(data[at : at + BLOCK])[::4] for at in range(0, len(data), BLOCK))
+    return grey
+
+
+def greys(surface: cairo.ImageSurface) -> bytes | None:
+    """Returns how light the dots of a surface are; None where some are of a colour. It goes on part
+    by part: of a whole large page each copy would take much.
+    """
+    data = surface.get_data()
+    found = []
+    for at in range(0, len(data), BLOCK):
+        part = bytes(data[at : at + BLOCK])
+        found.append(part[0::4])
+        if not found[-1] == part[1::4] == part[2::4]:
+            return None
+    return b"".join(found)

@@ -14,11 +14,13 @@ from base64 import b64decode
 from dataclasses import dataclass
 from functools import cached_property, lru_cache
 from io import BytesIO
-from math import prod
+from math import ceil, prod
 from pathlib import Path
 from typing import Any
 from xml.etree import ElementTree
 from xml.etree.ElementTree import Element
+
+import cairo
 
 from labeltools.common.messages import OF_SYSTEM, ToolError
 from labeltools.common.text import NOTHING, Remedy, Text
@@ -34,10 +36,14 @@ MOST_BYTES = 8_000_000
 MOST_SECONDS = 5  # of a processor, in which a page has to be drawn
 MOST_MEMORY = 500_000_000  # bytes that this may take
 TRIAL = str(Path(__file__).with_name("trial.py"))
+MOST_SEEN = 4_000_000  # dots of a page that is looked at, on which each is drawn first
+MOST_DOTS = 40_000_000  # of a drawing: A4 at 600 dpi has 35 million
+KEPT = 4  # drawings that are known to take little
 MOST_PIXELS = 25  # millions, of its pictures: each takes 16 bytes when it is drawn
 LARGEST = 4000.0  # millimetres of a page
 PACKED = b"\x1f\x8b"  # what .svgz begins with
 WITHIN = re.compile("#|data:image/(?:png|jpeg);base64,")
+KINDS = ("PNG", "JPEG")
 DRAWING = re.compile(r"data:image/svg\+xml\b")
 OUTSIDE = re.compile(r"url\((?!\s*[\"']?(?:#|data:))|@import", re.IGNORECASE)
 # what is drawn, and what draws nothing anywhere
@@ -72,8 +78,27 @@ class SvgPage:
         return ElementTree.tostring(self.root)
 
     def draw(self, canvas: Any, area: Any, sheet: str) -> None:
-        """Draws all of it into an area, in a style sheet of its own."""
-        handle_of(self.file, self.data, sheet).render_document(canvas, area)
+        """Draws all of it into an area, in a style sheet of its own, which can only hide something.
+        Raises `ToolError` where that takes too much: a larger area than any before is drawn by
+        another process first.
+        """
+        way = "dots" if isinstance(canvas.get_target(), cairo.ImageSurface) else "lines"
+        wide, high = ceil(area.width), ceil(area.height)
+        if wide * high > MOST_SEEN:
+            check_cost(self.file, self.data, way, wide, high)
+        try:
+            handle_of(self.file, self.data, sheet).render_document(canvas, area)
+        except gi_library("GLib", "2.0").Error as error:
+            raise ToolError(
+                Text("{} cannot be drawn: {}", self.file, error.message), PLAIN
+            ) from error
+
+    def check_dots(self, wide: int, high: int) -> None:
+        """Raises `ToolError` for a drawing in more dots than any printer's label has."""
+        if wide * high > MOST_DOTS:
+            what = Text("{} has {} by {} dots, which are too many to draw", self.file, wide, high)
+            hint = Text("give a smaller {}, or {}", Remedy("dpi"), Remedy("to", "pdf"))
+            raise ToolError(what, hint.in_window(Text("make it smaller")))
 
     def has(self, *tags: str) -> bool:
         """Returns whether it has an element of one of some tags."""
@@ -83,7 +108,7 @@ class SvgPage:
 def read_page(file: str) -> SvgPage:
     """Returns the page of a file; raises `ToolError` where that is none, or would not be drawn."""
     data = data_of(file)
-    check_cost(file, data)
+    check_cost(file, data, "dots")
     try:
         root = ElementTree.fromstring(data)
     except (ElementTree.ParseError, LookupError, ValueError) as error:
@@ -114,13 +139,15 @@ def data_of(file: str) -> bytes:
     return data
 
 
-@lru_cache(1)
-def check_cost(file: str, data: bytes) -> None:
-    """Raises `ToolError` for a page that takes too much: another process draws it once. That is no
-    fork, in which librsvg waits for threads that this process has, and it has not.
+@lru_cache(KEPT)
+def check_cost(file: str, data: bytes, way: str, *sides: int) -> None:
+    """Raises `ToolError` for a page that takes too much: another process draws it once, in dots or
+    lines, on an area with such sides, or without them on as many dots as it is looked at. That is
+    no fork, in which librsvg waits for threads that this process has, and it has not.
     """
     rsvg()
-    command = (sys.executable, "-I", TRIAL, str(MOST_SECONDS), str(MOST_MEMORY))
+    limits = (MOST_SECONDS, MOST_MEMORY)
+    command = (sys.executable, "-I", TRIAL, *map(str, limits), way, *map(str, sides))
     if subprocess.run(command, input=data, stderr=subprocess.DEVNULL, check=False).returncode:
         most = (MOST_SECONDS, MOST_MEMORY // 1_000_000)
         raise ToolError(Text("{} cannot be drawn in {} seconds and {} MB", file, *most), PLAIN)
@@ -199,7 +226,8 @@ def pixels_of(file: str, data: str) -> int:
 
     Image.MAX_IMAGE_PIXELS = None  # its own limit is a warning
     try:
-        return int(prod(Image.open(BytesIO(b64decode(data))).size)) if data else 0
+        picture = Image.open(BytesIO(b64decode(data)), formats=KINDS) if data else None
+        return int(prod(picture.size)) if picture else 0
     except (OSError, ValueError) as error:
         raise ToolError(Text("{}: a picture is broken", file), Text("embed it again")) from error
 

@@ -28,6 +28,7 @@ from labeltools.lines.symbologies import check_digit, SYMBOLOGIES
 
 MOST_COPIES = 9999
 MOST_LEFT_OUT = 20  # rows that the last remark names
+MOST_NUMBER = 10**12  # of a row, or a count
 OBJECT = b"#{"
 FIRST = '#{"labels"'  # how the first remark begins
 LAST = '#{"end"'  # and the last one
@@ -56,8 +57,8 @@ KEYS: dict[str, Any] = {
 ONE_LINE = ("price", "unit", "was")
 MAKE_AGAIN = Text("make it again")
 # what Pango cuts a text at or takes for a line end: controls (but LF), separators of lines and
-# paragraphs; surrogates
-UNPRINTABLE = re.compile("[\x00-\x09\x0b-\x1f\x7f-\x9f\u2028\u2029\ud800-\udfff]")
+# paragraphs; surrogates; what turns the letters around it, so that another price is seen
+UNPRINTABLE = re.compile("[\x00-\x09\x0b-\x1f\x7f-\x9f\u2028-\u202e\u2066-\u2069\ud800-\udfff]")
 encode = json.JSONEncoder(ensure_ascii=False, separators=(",", ":")).encode
 decode = json.JSONDecoder().decode
 
@@ -308,7 +309,7 @@ def is_of(value: object, kind: Any) -> bool:
     if isinstance(kind, list):
         return isinstance(value, list) and all(is_of(one, kind[0]) for one in value)
     if isinstance(value, int):
-        return type(value) is kind and value >= 0
+        return type(value) is kind and 0 <= value <= MOST_NUMBER
     return type(value) is kind and not UNPRINTABLE.search(str(value))
 
 

@@ -58,6 +58,7 @@ class Query:
 # ZPL II: `~HS` answers three lines between STX and ETX, of numbers with commas between them
 STATUS = re.compile(rb"\x02([0-9,]+)\x03\s*\x02([0-9,]+)\x03\s*\x02([0-9,]+)\x03")
 LEAST_FIELDS = 12, 11, 2
+MOST_DIGITS = 9  # of a count
 # the fields that are 1 where something is wrong, by their line and place
 FLAGS: Mapping[tuple[int, int], Trouble] = {
     (0, 1): NO_PAPER,
@@ -99,6 +100,8 @@ def read_status(heard: bytes) -> Reply | None:
     found = STATUS.search(heard)
     lines = [line.split(b",") for line in found.groups()] if found else []
     if not found or any(len(line) < least for line, least in zip(lines, LEAST_FIELDS)):
+        return None
+    if max(len(lines[line][at]) for line, at in LEFT) > MOST_DIGITS:
         return None
     troubles = [told for (line, at), told in FLAGS.items() if lines[line][at] == b"1"]
     return Reply(troubles, sum(int(lines[line][at] or 0) for line, at in LEFT))

@@ -199,8 +199,9 @@ class Queue:
     def past_driver(self) -> Text:
         """Returns how a label printer takes labels whose queue has the driver of another one."""
         device, ways = direct_ways(self.device)
-        line = f"lpadmin -p {self.name}-labels -E -v {shlex.quote(device)} -m raw"
-        to = Remedy("print", f"{self.name}-labels")
+        labels = f"{self.name}-labels"
+        line = shlex.join(["lpadmin", "-p", labels, "-E", "-v", device, "-m", "raw"])
+        to = Remedy("print", labels)
         return Text(
             "for a label printer give {}, or make a queue without a driver and give {}: {}",
             either(Remedy("print", way) for way in ways),
@@ -322,7 +323,7 @@ class SentJob:
             return JobState(NOTHING, said, True, True)
         found = trouble_of(self.queue, printer)
         if state == HELD and found is None:
-            line = f"lp -i {self.queue}-{self.number} -H resume"
+            line = shlex.join(["lp", "-i", f"{self.queue}-{self.number}", "-H", "resume"])
             found = Trouble(Text("job {} is held: {}", self.number, said), lets_go_on(line))
         trouble = Text("{}: {}", self.queue, found.what) if found else NOTHING
         is_stopped = printer["printer-state"] == PRINTER_STOPPED
@@ -363,12 +364,12 @@ def trouble_of(queue: str, printer: Mapping[str, Any]) -> Trouble | None:
     """Returns what keeps a queue from printing, by its attributes in CUPS; None if nothing does."""
     reasons = printer.get("printer-state-reasons", ())
     if any(reason.startswith("paused") for reason in reasons):
-        return Trouble(Text("it is paused"), lets_go_on(f"cupsenable {queue}"))
+        return Trouble(Text("it is paused"), lets_go_on(shlex.join(["cupsenable", queue])))
     for name, trouble in REASONS.items():
         if any(reason.startswith(name) for reason in reasons):
             return trouble
     if printer.get("printer-state") == PRINTER_STOPPED:
-        return Trouble(Text("it has stopped"), lets_go_on(f"cupsenable {queue}"))
+        return Trouble(Text("it has stopped"), lets_go_on(shlex.join(["cupsenable", queue])))
     return None
 
 
@@ -518,7 +519,8 @@ def lp_line(job: Job, name: str) -> str:
     dpi = job.plan.dpi
     options = Queue(name, 0, {dpi: f"{dpi}dpi"}).options(job)
     words = ["raw"] if options is RAW else [f"{name}={value}" for name, value in options.items()]
-    return " -o ".join([f"lp -d {name}", *words]) + f" FILE.{job.form.name}"
+    given = [shlex.join(["lp", "-d", name]), *map(shlex.quote, words)]
+    return " -o ".join(given) + f" FILE.{job.form.name}"
 
 
 def media_of(page: Size) -> str:

@@ -8,7 +8,8 @@ A code that is there goes out no more. So several lanes print one file: each tak
 that none has. One that was `sending` when its lane ended may be on paper or not.
 
 A lane locks a byte far behind the end of the file for as long as it runs, and one more while it
-reads and writes. A lane that gives a label up leaves its number with it.
+reads and writes. A lane that gives a label up leaves its number with it. Who may only read a file
+can lock it too, and so stop all lanes: so nobody may read a journal who may not write it.
 
 A last line that was cut off is taken out: the label of `sending` was not sent, that of `taken` is
 in doubt. Only a line of `sending` that has all its fields stays: an editor may have left out its
@@ -38,6 +39,7 @@ MOST_LANES = 64
 STUCK = 60.0  # seconds that a lane may wait for another one
 PAUSE = 0.001  # seconds between two looks whether it ends
 FAR = 1 << 62  # of a file: bytes that are locked and never written
+READERS, WRITERS = 0o044, 0o022  # others than the owner
 NO_JOURNAL = Text("give a file that label-print --journal has made, or a new name")
 NOT_WRITTEN = Text("make it writable")
 NO_LOCKS = Text("put the journal on a disk that locks files")
@@ -67,9 +69,10 @@ class Journal:
         self.records = records
         self.printer = printer.replace("\t", " ")
         flags = os.O_RDWR | os.O_CREAT | os.O_CLOEXEC | os.O_NONBLOCK  # it waits for no FIFO
-        self.file = os.open(path, flags, 0o644)
+        self.file = os.open(path, flags, 0o600)
         if not stat.S_ISREG(os.fstat(self.file).st_mode):
             raise ToolError(Text("{} is not a journal", path), NO_JOURNAL)
+        self.has_readers = not is_closed_to_readers(self.file)
         self.entries: dict[bytes, Entry] = {}  # of codes as they stand in the file
         self.end = 0
         self.lines = 0
@@ -284,6 +287,18 @@ class Journal:
             raise
         self.end += len(line)
         self.lines += 1
+
+
+def is_closed_to_readers(file: int) -> bool:
+    """Takes a file away from those who may read it and not write it, and returns whether none of
+    them may; not every disk can do so.
+    """
+    mode = stat.S_IMODE(os.fstat(file).st_mode)
+    left = mode & ~(READERS & ~(mode & WRITERS) << 1)
+    with suppress(OSError):
+        if left != mode:
+            os.fchmod(file, left)
+    return stat.S_IMODE(os.fstat(file).st_mode) == left
 
 
 def is_in_place(path: str, file: int) -> bool:

@@ -7,7 +7,7 @@ from pathlib import Path
 from typing import Any, Callable, Iterable, Iterator, Mapping, Sequence, Sized
 
 from labeltools.common.files import save
-from labeltools.common.messages import sentence, Talk, ToolError
+from labeltools.common.messages import fault_of, sentence, Talk, ToolError, UNEXPECTED
 from labeltools.common.process import standard_output
 from labeltools.common.report import MOST_RANGES, places_text
 from labeltools.common.text import counted, joined, NOTHING, Remedy, Text
@@ -84,10 +84,13 @@ class Sender:
                     self.before(self.outlet.close)
                     raise ToolError(Text("{}: {}", self.outlet.name, self.so_far()))
                 self.send(press, part, not self.taken)
-            except ToolError as error:
+            except OSError:
+                raise
+            except Exception as error:
+                known = expected(error, ToolError)
                 if not self.outlet.is_direct:
-                    raise
-                told = self.told(error, self.named(part.items))
+                    raise known from error
+                told = self.told(known, self.named(part.items))
                 self.before(self.outlet.close)
                 raise told from error
             self.done += part.count
@@ -108,9 +111,14 @@ class Sender:
         """
         try:
             return act()
-        except Broken as error:
-            what = Text("{}: {}", error.what, self.so_far())
-            raise ToolError(what, self.may_be_missing()) from error
+        except OSError:
+            raise
+        except Exception as error:
+            known = expected(error, Broken)
+            if not isinstance(known, Broken):
+                raise
+            what = Text("{}: {}", known.what, self.so_far())
+            raise ToolError(what, self.may_be_missing(), known.status) from error
 
     def send(self, press: Press, part: Batch, is_first: bool, is_last: bool = False) -> int:
         """Sends what goes out as a whole, and returns how many bytes it has; 0 if the journal has
@@ -149,14 +157,17 @@ class Sender:
                 self.outlet.close()
             if self.journal is not None:
                 self.journal.take(record)
-        except ToolError as error:
-            is_of_outlet = isinstance(error, (Broken, Untaken))
+        except OSError:
+            raise
+        except Exception as error:
+            known = expected(error, Broken)
+            is_of_outlet = isinstance(known, (Broken, Untaken))
             self.is_at_end = is_of_outlet and self.outlet.name == OUTPUT
             if self.journal is None:
-                raise
+                raise known from error
             with suppress(ToolError):  # something else is reported
                 self.journal.give_up()
-            raise Broken(error.what, error.hint) from error
+            raise Broken(known.what, known.hint, known.status) from error
 
     def so_far(self) -> Text:
         """Returns how many labels went out whole."""
@@ -300,6 +311,13 @@ class Sender:
                     joined("; ", some),
                     printer,
                 )
+
+
+def expected(error: Exception, kind: type[ToolError]) -> ToolError:
+    """Returns the error of a tool for any exception: of a kind for one that nobody expected."""
+    if isinstance(error, ToolError):
+        return error
+    return kind(fault_of(error), status=UNEXPECTED)
 
 
 def direct_outlet(printer: str) -> Outlet:

@@ -24,7 +24,15 @@ from queue import Queue
 from threading import Thread
 from typing import Any, BinaryIO, Iterator, Sequence
 
-from labeltools.common.messages import sentence, Silence, ToolError, visible, write_message
+from labeltools.common.messages import (
+    fault_of,
+    sentence,
+    Silence,
+    ToolError,
+    UNEXPECTED,
+    visible,
+    write_message,
+)
 from labeltools.common.process import ENDING, hold_signals, standard_output
 from labeltools.common.report import places_text
 from labeltools.common.text import NOTHING, Text, translated
@@ -40,6 +48,7 @@ from labeltools.sending.sender import Sender
 
 SKIPPED = (b'#{"labels"', b'#{"end"')
 MOST_AHEAD = 1000  # lines of a FIFO that wait to be printed
+LONGEST_LINE = 1 << 16  # bytes that are read; labels(1) refuses far shorter ones
 LOOK = 5.0  # seconds between two looks whether a FIFO has its name still
 CUT_OFF = Text("cut off before its line end")
 TOOL = "label-print"  # begins what is a message and no answer
@@ -114,12 +123,14 @@ class Ahead:
         signal.pthread_sigmask(signal.SIG_BLOCK, ENDING)
         try:
             while True:
-                self.found.put(self.fifo.readline())
+                self.found.put(self.fifo.readline(LONGEST_LINE + 1))
         except Exception as error:
             self.found.put(error)
 
-    def readline(self) -> bytes:
-        """Returns a line; nothing at the end of a writer. Raises `ToolError` and `OSError`."""
+    def readline(self, _: int = 0) -> bytes:
+        """Returns a line, or the next part of a long one; nothing at the end of a writer. Raises
+        `ToolError` and `OSError`.
+        """
         found = self.found.get()
         if isinstance(found, Exception):
             raise found
@@ -141,9 +152,11 @@ def source_of(path: str | None) -> tuple[str, Source]:
 
 
 def next_line(source: Source) -> bytes:
-    """Returns a line; nothing at the end. Raises `ToolError` where it cannot be read."""
+    """Returns a line, or the next part of a long one; nothing at the end. Raises `ToolError` where
+    it cannot be read.
+    """
     try:
-        return source.readline()
+        return source.readline(LONGEST_LINE + 1)
     except OSError as error:
         raise ToolError(Text("the lines cannot be read: {}", error.strerror)) from error
 
@@ -159,9 +172,13 @@ def jobs(source: Source) -> Iterator[Sequence[InputLine]]:
             before = []
             continue
         number += 1
+        end = line
+        while len(end) > LONGEST_LINE and not end.endswith(b"\n"):
+            end = next_line(source)
+        line += b"\n" if end.endswith(b"\n") and end is not line else b""
         is_whole = line.endswith(b"\n")
-        if is_whole and line.startswith(OBJECT):
-            before = [] if line.startswith(SKIPPED) else [*before, (number, line)]
+        if is_whole and line.startswith(OBJECT):  # of many before a line it is enough to see two
+            before = [] if line.startswith(SKIPPED) else [*before[:1], (number, line)]
         elif not is_whole or not line.startswith((b"#", b"\n")):
             yield [*before, (number, line)]
             before = []
@@ -194,10 +211,15 @@ class Stream:
             size = self.print(parts)
             return ("taken", Text("{} {}", size, text)) if size else ("known", Text("{}", text))
         except ToolError as error:
-            if error.status == LABELS_FAILED:
+            if error.status in (LABELS_FAILED, UNEXPECTED):
                 self.status = error.status
             word = {NoLabel: "refused", Broken: "doubtful"}.get(type(error), "unsent")
             return word, sentence(error.what, error.hint)
+        except OSError:
+            raise
+        except Exception as error:  # before anything goes out: see `Sender.give`
+            self.status = UNEXPECTED
+            return "unsent", fault_of(error)
         finally:
             self.sender.outlet.drop()  # it is left to others if nothing went out by it
 
@@ -228,7 +250,7 @@ class Stream:
             try:
                 size += self.sender.send(press, copy, copy is copies[0], copy is copies[-1])
             except ToolError as error:
-                raise Broken(error.what, error.hint) if size else error
+                raise Broken(error.what, error.hint, error.status) if size else error
         if reason := NOTHING if size else self.sender.doubt(record):
             raise Broken(reason)
         if self.options.is_each_once and self.sender.journal is None:

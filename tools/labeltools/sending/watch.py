@@ -3,6 +3,7 @@
 import time
 from collections.abc import Sequence
 from contextlib import suppress
+from math import inf
 
 from labeltools.common.messages import sentence, Talk
 from labeltools.common.text import counted, joined, NOTHING, Text
@@ -10,6 +11,7 @@ from labeltools.sending.answers import MORE, QUERIES, Query, Reply
 from labeltools.sending.outlets import Broken, Outlet
 
 IDLE = 10.0  # seconds in which a printer with labels left may print none
+LONGEST = 60.0  # seconds in which it has never fewer labels left, as where others print too
 LOOKS = 0.1, 0.5  # seconds between two questions, at first and later
 
 
@@ -42,11 +44,14 @@ class Watch:
 
     def end(self) -> None:
         """Asks a printer that answers until nothing is left in it, or something is wrong, or it has
-        printed none for a while, or somebody stops that. Raises `Broken`.
+        printed none for a while, or somebody stops that. Raises `Broken`. One whose number only
+        goes up and down is not asked for ever.
         """
         pause, longest = LOOKS
         end = time.monotonic() + IDLE
+        last = time.monotonic() + LONGEST
         before = self.answer
+        least: float = inf
         while self.question is not None:
             self.answer = self.ask()
             answer = self.answer
@@ -55,7 +60,10 @@ class Watch:
             if before is None or answer.left != before.left:
                 before = answer
                 end = time.monotonic() + IDLE
-            if self.outlet.came or time.monotonic() > end:
+            if answer.left < least:
+                least = answer.left
+                last = time.monotonic() + LONGEST
+            if self.outlet.came or time.monotonic() > min(end, last):
                 return
             time.sleep(pause)
             pause = min(2 * pause, longest)

@@ -27,9 +27,11 @@ MOST_LINES = 1000  # that are tried
 MOST_WORDS = 500
 LONGEST_WORD = 40
 TOLERANCE = 0.25  # a reading with a larger part of odd words than the best one is not shown
-OTHER_LINE = re.compile(rb"[^\n]*[\x80-\xff][^\n]*\n?")
-OTHER_BYTES = re.compile(rb'[^\s;,|"]*[\x80-\xff][^\s;,|"]*')
-OTHER_WORD = re.compile(r'[^\s;,|"]*[^\x00-\x7f\s][^\s;,|"]*')
+# each begins where a line or a word does: else a long one without such a letter is looked at again
+# from each of its letters
+OTHER_LINE = re.compile(rb"^[^\n\x80-\xff]*[\x80-\xff][^\n]*\n?", re.MULTILINE)
+OTHER_BYTES = re.compile(rb'(?<![^\s;,|"])[^\s;,|"\x80-\xff]*[\x80-\xff][^\s;,|"]*')
+OTHER_WORD = re.compile(r'(?<![^\s;,|"])[^\s;,|"\x80-\U0010ffff]*[^\x00-\x7f\s][^\s;,|"]*')
 CURRENCY = "€£¥₤₺"
 IN_WORDS = "’‘´`‐–・ー〜"  # signs that words have between letters
 SIGNS = f"{CURRENCY}{IN_WORDS}°²³½¼¾®™©§«»„“”‚—…·×µºª№¡¿¢"  # that tables have beside words

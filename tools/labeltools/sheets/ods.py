@@ -7,8 +7,8 @@ from datetime import date, datetime
 from decimal import Decimal
 from itertools import groupby
 from typing import NamedTuple
-from zipfile import ZipFile
 
+from labeltools.common.budget import CELLS
 from labeltools.common.messages import quoted, RowError, Talk, ToolError
 from labeltools.common.text import Text
 from labeltools.sheets.cells import (
@@ -30,6 +30,7 @@ from labeltools.sheets.cells import (
 from labeltools.sheets.number_format import date_section, date_text, DAY_ZERO, digits_of, Formatter
 from labeltools.sheets.rows import Merge, Row
 from labeltools.sheets.workbook import (
+    Archive,
     Attributes,
     chosen,
     elements,
@@ -196,7 +197,7 @@ def styled_lettering(said: Mapping[str, str]) -> Lettering:
     return Lettering(Mark.WHITE if is_white else Mark.NONE, points)
 
 
-def styles_of(archive: ZipFile) -> Styles:
+def styles_of(archive: Archive) -> Styles:
     """Returns the styles that a file has beside those of its content."""
     styles = Styles()
     part = "styles.xml" if "styles.xml" in archive.namelist() else ""
@@ -206,7 +207,7 @@ def styles_of(archive: ZipFile) -> Styles:
 
 
 def rows_of_ods(
-    archive: ZipFile, wanted: str | None, formatter: Formatter, talk: Talk
+    archive: Archive, wanted: str | None, formatter: Formatter, talk: Talk
 ) -> Iterator[Row]:
     """Yields the rows of the sheet that is wanted, else of the only one that is visible and has
     data.
@@ -241,8 +242,9 @@ class OdsReader(Reader[tuple[OdsSheet, Row]]):
     read; `row_depth` and `cell_depth` are those of their elements, 0 for none.
     """
 
-    def __init__(self, archive: ZipFile, formatter: Formatter) -> None:
+    def __init__(self, archive: Archive, formatter: Formatter) -> None:
         super().__init__()
+        self.budget = archive.budget
         self.formatter = formatter
         self.styles = styles_of(archive)
         self.path: list[str] = []  # around the rows
@@ -379,7 +381,7 @@ class OdsReader(Reader[tuple[OdsSheet, Row]]):
         attributes, place = self.cell, self.place
         repeat = 1
         if "number-columns-repeated" in attributes:
-            repeat = min(repeats(attributes, "number-columns-repeated"), MOST_COLUMNS + 1)
+            repeat = min(repeats(attributes, "number-columns-repeated"), MOST_COLUMNS + 1 - place)
         self.place = min(place + repeat, MOST_COLUMNS)
         if not (self.lines or "value-type" in attributes or "formula" in attributes):
             return
@@ -407,6 +409,8 @@ class OdsReader(Reader[tuple[OdsSheet, Row]]):
             beside = merges, self.links, self.hidden_places
             row = Row(self.number, self.cells, None, is_hidden, *beside)
             rows = rows_from(row, self.letters, repeat)
+            self.found.append((self.sheet, next(rows)))
+            self.budget.take(CELLS, (repeat - 1) * len(self.cells))
             self.found += ((self.sheet, one) for one in rows)
         self.number += repeat
 

@@ -43,7 +43,7 @@ class Row(NamedTuple):
         """Returns whether the row has nothing in it."""
         if self.problem:
             return False
-        for cell in self.cells:
+        for cell in filter(None, self.cells):
             if not isinstance(cell, str) or cell.strip():
                 return False
         return True

@@ -17,6 +17,7 @@ from typing import Generic, NamedTuple, TypeVar
 from xml.parsers.expat import ExpatError, ParserCreate
 from zipfile import BadZipFile, ZIP_DEFLATED, ZIP_STORED, ZipFile
 
+from labeltools.common.budget import Budget, LETTERS, PARTS, TooMuch
 from labeltools.common.messages import BAD_ARGUMENTS, quoted, ToolError
 from labeltools.common.text import counted, give, Remedy, Text
 from labeltools.sheets.cells import Cell
@@ -74,6 +75,8 @@ def named_errors(name: str) -> Iterator[None]:
     """Puts the name of a file before what is wrong with it."""
     try:
         yield
+    except TooMuch:
+        raise
     except ToolError as error:
         what = Text("{} {}", name, error.what)
         raise ToolError(what, error.hint, error.status) from None
@@ -86,9 +89,17 @@ def named_errors(name: str) -> Iterator[None]:
         raise ToolError(what, SAVE_AGAIN) from None
 
 
-def opened(data: bytes) -> ZipFile:
+class Archive(ZipFile):
+    """The zip of a workbook, of which its budget allows to read so much."""
+
+    def __init__(self, data: bytes, budget: Budget) -> None:
+        super().__init__(BytesIO(data))
+        self.budget = budget
+
+
+def opened(data: bytes, budget: Budget) -> Archive:
     """Returns the zip of a workbook; raises `ToolError`, or an error of `DAMAGE`."""
-    archive = ZipFile(BytesIO(data))
+    archive = Archive(data, budget)
     names = archive.namelist()
     if len(names) > MOST_PARTS or len(set(names)) < len(names):
         raise ValueError("one part twice, or too many parts")
@@ -102,7 +113,7 @@ def opened(data: bytes) -> ZipFile:
     return archive
 
 
-def is_ods(archive: ZipFile) -> bool:
+def is_ods(archive: Archive) -> bool:
     """Returns whether a workbook is .ods, as its first part says."""
     if "mimetype" not in archive.namelist():
         return False
@@ -138,10 +149,13 @@ def chosen(sheets: Iterable[Worksheet], wanted: str | None) -> Iterator[Row]:
         raise ToolError(Text("has {} with data", what), hint, BAD_ARGUMENTS)
 
 
-def pieces(archive: ZipFile, part: str) -> Iterator[bytes]:
-    """Yields a part, piece by piece."""
+def pieces(archive: Archive, part: str) -> Iterator[bytes]:
+    """Yields a part, piece by piece, as far as the budget allows."""
     with archive.open(part) as stream:
-        yield from iter(partial(stream.read, PIECE), b"")
+        for piece in iter(partial(stream.read, PIECE), b""):
+            archive.budget.take(LETTERS, len(piece))
+            archive.budget.look()
+            yield piece
 
 
 class LocalNames(dict[str, str]):
@@ -176,7 +190,7 @@ class Reader(Generic[F]):
         self.depth = self.size = self.others = 0
         self.is_inside = False
 
-    def read(self, archive: ZipFile, part: str) -> Iterator[F]:
+    def read(self, archive: Archive, part: str) -> Iterator[F]:
         """Yields what is found in a part."""
         parser = self.parser = ParserCreate()
         parser.buffer_text = True
@@ -189,6 +203,7 @@ class Reader(Generic[F]):
             self.feed(piece)
             if self.size > LARGEST_ROW or self.others > MOST_OTHERS:
                 raise ToolError(TOO_LARGE, SAVE_AGAIN)
+            archive.budget.take(PARTS, len(self.found))
             yield from self.found
             self.found.clear()
 
@@ -345,7 +360,7 @@ def refuse_document_type(*_: object) -> None:
     raise ToolError(Text("has a document type (DOCTYPE), which no spreadsheet writes"), SAVE_AGAIN)
 
 
-def elements(archive: ZipFile, part: str, passed: str = "") -> Iterator[Element]:
+def elements(archive: Archive, part: str, passed: str = "") -> Iterator[Element]:
     """Yields the paths of the elements of a part below the outermost one, with their attributes; a
     part that the file does not have has no name, and none.
     """

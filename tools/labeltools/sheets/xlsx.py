@@ -6,8 +6,8 @@ from collections.abc import Iterator, Mapping, Sequence
 from dataclasses import dataclass, field
 from decimal import Decimal
 from typing import NamedTuple
-from zipfile import ZipFile
 
+from labeltools.common.budget import CELLS
 from labeltools.common.messages import RowError, Talk, ToolError
 from labeltools.common.text import Text
 from labeltools.sheets import number_format
@@ -30,6 +30,7 @@ from labeltools.sheets.cells import (
 from labeltools.sheets.number_format import BUILT_IN, BUILT_IN_DATES, Formatter, LANGUAGE
 from labeltools.sheets.rows import Merge, Row
 from labeltools.sheets.workbook import (
+    Archive,
     Attributes,
     chosen,
     column_index,
@@ -261,7 +262,7 @@ class XlsxNumber(Special):
 
 
 def rows_of_xlsx(
-    archive: ZipFile, wanted: str | None, formatter: Formatter, talk: Talk
+    archive: Archive, wanted: str | None, formatter: Formatter, talk: Talk
 ) -> Iterator[Row]:
     """Yields the rows of the sheet that is wanted, else of the only one that is visible and has
     data.
@@ -270,7 +271,7 @@ def rows_of_xlsx(
     return chosen(sheets_of(archive, path, formatter, talk), wanted)
 
 
-def sheets_of(archive: ZipFile, path: str, formatter: Formatter, talk: Talk) -> Iterator[Worksheet]:
+def sheets_of(archive: Archive, path: str, formatter: Formatter, talk: Talk) -> Iterator[Worksheet]:
     """Yields the sheets of a workbook."""
     targets = relations(archive, path)
     parts = dict(targets.values())
@@ -291,17 +292,21 @@ def sheets_of(archive: ZipFile, path: str, formatter: Formatter, talk: Talk) -> 
         kind, part = targets[sheet["id"]]
         if kind == "worksheet":
             is_visible = sheet.get("state", "visible") == "visible"
-            reader = SheetReader(book, beside_of(archive, part, looks.of_conditions))
-            yield Worksheet(sheet["name"], is_visible, reader.read(archive, part))
+            yield Worksheet(sheet["name"], is_visible, rows_of_sheet(archive, part, book, looks))
 
 
-def strings_of(archive: ZipFile, part: str) -> dict[str, str | XlsxRuns]:
+def rows_of_sheet(archive: Archive, part: str, book: Book, looks: Looks) -> Iterator[Row]:
+    """Yields the rows of a sheet; of one that nobody wants nothing is read."""
+    yield from SheetReader(book, beside_of(archive, part, looks.of_conditions)).read(archive, part)
+
+
+def strings_of(archive: Archive, part: str) -> dict[str, str | XlsxRuns]:
     """Returns the shared strings by their numbers."""
     strings = SharedStrings().read(archive, part) if part else ()
     return {str(number): string for number, string in enumerate(strings)}
 
 
-def looks_of(archive: ZipFile, part: str) -> Looks:
+def looks_of(archive: Archive, part: str) -> Looks:
     """Returns the styles of a file."""
     looks: dict[str, Look] = {}
     of_conditions: list[Lettering] = []
@@ -360,7 +365,7 @@ def having(form: Lettering, name: str, attributes: Mapping[str, str]) -> Letteri
     return form
 
 
-def relations(archive: ZipFile, path: str) -> dict[str, Target]:
+def relations(archive: Archive, path: str) -> dict[str, Target]:
     """Returns what a part refers to, by the names that it uses; for no part, what the file refers
     to.
     """
@@ -369,10 +374,12 @@ def relations(archive: ZipFile, path: str) -> dict[str, Target]:
     targets: dict[str, Target] = {}
     for name, found in elements(archive, part):
         if name == "Relationship":
-            target = found["Target"]
+            kind, target = posixpath.basename(found["Type"]), found["Target"]
             if found.get("TargetMode") != "External":
                 target = posixpath.normpath(posixpath.join("/", folder, target))[1:]
-            targets[found["Id"]] = posixpath.basename(found["Type"]), target
+                if kind == "hyperlink":  # an address would be drawn as the name of a part
+                    continue
+            targets[found["Id"]] = kind, target
     return targets
 
 
@@ -389,7 +396,7 @@ class Beside:
     has_condition: bool = False
 
 
-def beside_of(archive: ZipFile, path: str, of_conditions: Sequence[Lettering]) -> Beside:
+def beside_of(archive: Archive, path: str, of_conditions: Sequence[Lettering]) -> Beside:
     """Returns what a sheet has beside its rows, above and below them."""
     beside = Beside()
     targets: dict[str, Target] = {}
@@ -401,11 +408,14 @@ def beside_of(archive: ZipFile, path: str, of_conditions: Sequence[Lettering]) -
             targets = targets or relations(archive, path)
             row, place = range_corners(found["ref"])[0]
             place_in_page = f"#{found['location']}" if found.get("location") else ""
-            address = targets[found["id"]][1] + place_in_page
-            beside.links.setdefault(row, {})[place] = address
+            if found["id"] in targets:
+                address = targets[found["id"]][1] + place_in_page
+                beside.links.setdefault(row, {})[place] = address
         elif name == "cols/col" and found.get("hidden") in TRUE:
             ends = whole_number(found["min"], 1) - 1, whole_number(found["max"])
-            beside.hidden_places.update(range(ends[0], min(ends[1], MOST_COLUMNS)))
+            places = range(ends[0], min(ends[1], MOST_COLUMNS))
+            archive.budget.take(CELLS, len(places))
+            beside.hidden_places.update(places)
         elif name == "conditionalFormatting/cfRule" and "dxfId" in found:
             form = of_conditions[whole_number(found["dxfId"])]
             beside.has_condition = beside.has_condition or form.mark in NO_LETTERS

@@ -11,7 +11,13 @@ from labeltools.tables.code_readings import (
     is_isbn_10,
     LEAST,
 )
-from labeltools.tables.column_samples import ColumnSample, DIGITS, Places, Plainness
+from labeltools.tables.column_samples import (
+    ColumnSample,
+    DIGITS,
+    MOST_COMPARED,
+    Places,
+    Plainness,
+)
 from labeltools.tables.title_columns import is_plain_name
 
 CODES = ("codes", "own-numbers")
@@ -82,7 +88,8 @@ def found_codes(columns: Sequence[ColumnSample]) -> Sequence[int]:
             sure.append(at)
         elif is_of_own_numbers(one) and not one.has(is_isbn_10):
             own.append(at)
-    pairs = [both for both in permutations(sure, 2) if is_again(*(columns[at] for at in both))]
+    compared = sure if len(sure) <= MOST_COMPARED else ()
+    pairs = [both for both in permutations(compared, 2) if is_again(*(columns[at] for at in both))]
     again = {at for at, it in pairs if at > it or (it, at) not in pairs}
     named = [at for at, one in enumerate(columns) if is_named_code(one) and may_be_codes(one)]
     found = sorted({*sure, *own} - again) if sure else named

@@ -16,6 +16,7 @@ from labeltools.tables.name_words import column_words, words_in
 
 DIGITS = re.compile("[0-9]+")
 MANY = 6  # names that begin alike by no chance
+MOST_COMPARED = 40  # columns, each with each other one
 
 
 class Places(NamedTuple):

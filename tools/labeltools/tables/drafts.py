@@ -137,7 +137,10 @@ class DraftReader:
         for is in another place, or has another name in its place. A row whose code is the name of
         its column, or of codes, names others, too, where no other cell has digits.
         """
-        texts = list(map(name_of, bare_texts(row)))
+        texts = [
+            name_of(cell if isinstance(cell, str) else cell.value) if cell else ""
+            for cell in row.cells
+        ]
         place = self.columns.code.place
         code, *others = (*texts[place : place + 1], *texts[:place], *texts[place + 1 :])
         if self.names and code and (code == self.code_name or is_name_of_codes(code)):

@@ -9,6 +9,7 @@ from collections.abc import Container, Mapping, Sequence
 from dataclasses import dataclass, field, replace
 from itertools import islice, zip_longest
 
+from labeltools.common.budget import Budget
 from labeltools.common.messages import Talk
 from labeltools.sheets.cells import FORMULA_OF_TEXT
 from labeltools.tables.cell_kinds import COUNT
@@ -31,6 +32,7 @@ from labeltools.tables.table_options import TableOptions
 from labeltools.tables.title_columns import title_columns
 
 SAMPLE = 300  # rows that are looked at
+LONGEST = 1000  # letters of a cell, whose kind these show
 OWN = CodeReading([ANY_TEXT])
 ALIKE = 0.8  # part of the titles that differ where many things are the same
 
@@ -65,20 +67,23 @@ class Guess:
         return bool(DIGITS.search(name)) and DIGITS.sub("0", name) == DIGITS.sub("0", example)
 
 
-def guess_of(data: bytes, name: str, options: TableOptions, talk: Talk) -> Guess:
+def guess_of(
+    data: bytes, name: str, options: TableOptions, talk: Talk, budget: Budget | None = None
+) -> Guess:
     """Returns a guess of a table; raises `ToolError` where it cannot be read."""
-    start = head_of(data, name, options, talk)
+    budget = budget or Budget(name, len(data))
+    start = head_of(data, name, options, talk, budget)
     file, head = options.file, start.head.row
     below = list(islice(start.rows, SAMPLE))
     if file.has_header is None and file.header_row is None:
         top = guessed_header([head, *below])
         named = replace(file, has_header=True, header_row=top.number)
-        found = guess_of(data, name, replace(options, file=named), talk)
+        found = guess_of(data, name, replace(options, file=named), talk, budget)
         is_article = passing_share([one for one in column_names(top) if one], is_code) > 0
         if not is_article and not any(map(found.is_named_as_code, found.codes)):
             return found
         file = replace(file, has_header=False)
-        return guess_of(data, name, replace(options, file=file), talk)
+        return guess_of(data, name, replace(options, file=file), talk, budget)
     shown = (row for row in below if options.file.hidden or not row.is_hidden)
     right = (row for row in shown if not (row.problem or row.is_blank()))
     cells = [texts_of(row) for row in right if column_names(row) != start.head.names]
@@ -129,8 +134,9 @@ def text_in(cell: str) -> str:
     >>> text_in(' ="007"'), text_in('<a href="x">')
     ('007', '<a href="x">')
     """
-    kept = FORMULA_OF_TEXT.fullmatch(cell.strip())
-    return kept[1] if kept else cell.strip()
+    text = cell.strip()[:LONGEST]
+    kept = FORMULA_OF_TEXT.fullmatch(text)
+    return kept[1] if kept else text
 
 
 def copies_columns(columns: Mapping[int, ColumnSample]) -> Places:

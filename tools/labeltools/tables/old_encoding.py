@@ -9,6 +9,7 @@ from dataclasses import dataclass, replace
 from functools import cached_property
 from pathlib import Path
 
+from labeltools.common.budget import Budget
 from labeltools.common.messages import quoted, Silence, ToolError
 from labeltools.common.text import joined, Remedy, Text
 from labeltools.common.word_lists import lists_by_section
@@ -118,18 +119,21 @@ class OldEncoding:
         return hint.in_window(Text("check the letters"))
 
 
-def old_encoding(data: bytes, name: str, options: TableOptions) -> OldEncoding | None:
+def old_encoding(
+    data: bytes, name: str, options: TableOptions, budget: Budget | None = None
+) -> OldEncoding | None:
     """Returns the encoding of a table that is not UTF-8, or None where no reading of it makes sense
     or several do.
     """
-    several = in_several_bytes(data, name, options)
+    budget = budget or Budget(name, len(data))
+    several = in_several_bytes(data, options, budget)
     if several:
         return several
     codecs = dict.fromkeys(one for encodings in GROUPS.values() for one in encodings)
     tried = (Reading(own, words) for words, own in other_words(data, codecs).items())
     every = [one for one in tried if one.is_sensible]
     every = [one for one in every if not any(it.is_better_than(one) for it in every)]
-    found = the_one(every, languages_of(data, name, options, every))
+    found = the_one(every, languages_of(data, options, every, budget))
     if found is None:
         return None
     encoding, reading = found
@@ -139,7 +143,7 @@ def old_encoding(data: bytes, name: str, options: TableOptions) -> OldEncoding |
     return OldEncoding(encoding, shown_words(reading)) if text else None
 
 
-def in_several_bytes(data: bytes, name: str, options: TableOptions) -> OldEncoding | None:
+def in_several_bytes(data: bytes, options: TableOptions, budget: Budget) -> OldEncoding | None:
     """Returns the encoding of a table in which a letter has several bytes; None if the names of its
     columns are no words of such a language in any.
     """
@@ -147,7 +151,7 @@ def in_several_bytes(data: bytes, name: str, options: TableOptions) -> OldEncodi
     for language, encodings in OF_SEVERAL_BYTES.items():
         for encoding in encodings if is_old(data) else ():
             words = OTHER_WORD.findall(text_by(data, encoding))
-            names = names_by(data, name, options, encoding) if words else ()
+            names = names_by(data, options, encoding, budget) if words else ()
             known = sum(map(words_of_languages()[language].has, names))
             if known > most:
                 best, most = OldEncoding(encoding, words[:MOST_SHOWN]), known
@@ -176,14 +180,14 @@ def the_one(every: Sequence[Reading], languages: Collection[str]) -> tuple[str, 
 
 
 def languages_of(
-    data: bytes, name: str, options: TableOptions, readings: Iterable[Reading]
+    data: bytes, options: TableOptions, readings: Iterable[Reading], budget: Budget
 ) -> Collection[str]:
     """Returns the languages that know most words of the names of the columns, of all that English
     does not know, as the reading has them of which most are known.
     """
     best: dict[int, set[str]] = {}
     for reading in readings:
-        words = names_by(data, name, options, reading.encodings[0])
+        words = names_by(data, options, reading.encodings[0], budget)
         for language, known in words_of_languages().items():
             count = sum(map(known.has, words))
             if count >= min(LEAST_NAMES, LEAST_PART * len(words)):
@@ -192,11 +196,11 @@ def languages_of(
     return best[most] & LANGUAGES.keys() if most else ()
 
 
-def names_by(data: bytes, name: str, options: TableOptions, encoding: str) -> Collection[str]:
+def names_by(data: bytes, options: TableOptions, encoding: str, budget: Budget) -> Collection[str]:
     """Returns the words of the names of the columns, as an encoding reads them."""
     file = replace(options.file, encoding=encoding)
     with suppress(ToolError):
-        names = guess_of(data, name, replace(options, file=file), Silence()).names
+        names = guess_of(data, budget.name, replace(options, file=file), Silence(), budget).names
         return {word for one in names for word in words_in(one)}
     return ()
 

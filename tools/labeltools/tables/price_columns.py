@@ -15,7 +15,13 @@ from labeltools.tables.cell_kinds import (
     is_paid,
 )
 from labeltools.tables.code_readings import LEAST, passing_share
-from labeltools.tables.column_samples import amounts_of, ColumnSample, Places, Plainness
+from labeltools.tables.column_samples import (
+    amounts_of,
+    ColumnSample,
+    MOST_COMPARED,
+    Places,
+    Plainness,
+)
 from labeltools.tables.money import WORDS
 
 PAID = ("prices", "taxed", "paid", "sold", "currencies", "beside-prices")  # words of a plain price
@@ -43,9 +49,12 @@ def price_columns(columns: Mapping[int, ColumnSample]) -> Places:
     """Returns the columns that may have the price that customers pay, and the one that surely has.
     No such column has costs, sums or prices without tax, by its name or by its amounts, nor the
     same amounts as one with a plainer name, nor prices in only a few rows. Of the others the one
-    with the plainest name wins. Advised prices yield to it if it is not far below them.
+    with the plainest name wins. Advised prices yield to it if it is not far below them. Of very
+    many none is sure: each would be compared with each other one.
     """
     may_be = {at: one for at, one in columns.items() if may_be_price(one)}
+    if len(may_be) > MOST_COMPARED:
+        return Places([*may_be])
     paid = paid_columns(may_be)
     if not paid or not any(one.texts for one in may_be.values()):
         is_net = any(one.says("net") for one in may_be.values() if one.texts)

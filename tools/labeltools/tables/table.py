@@ -6,6 +6,7 @@ from functools import reduce
 from itertools import chain
 from typing import Iterator, NamedTuple
 
+from labeltools.common.budget import Budget, CELLS
 from labeltools.common.column_names import said_of_empty
 from labeltools.common.messages import BAD_ARGUMENTS, quoted, RowError, Talk, ToolError
 from labeltools.common.report import listed
@@ -46,7 +47,8 @@ OF_WORKBOOKS = ("sheet", "hidden", "date_as", "links")
 SO = Text("Read it all the same")
 MOST_HELD = 1000  # rows that are wrong, before the first one that is right
 SUMS = WORDS["sums"]  # what is in front of a sum below a table
-BETWEEN = 256  # rows between two calls of `go_on`
+BETWEEN = 256  # rows between two calls of `go_on`, or two looks at the budget
+MANY = 1 << 16  # cells, behind which it is looked at, too
 
 
 @dataclass(frozen=True)
@@ -95,12 +97,15 @@ def lines_of_table(data: bytes, name: str, options: TableOptions, talk: Talk) ->
     return Lines(output, writer.count, left_out, work.hidden, writer.totals)
 
 
-def head_of(data: bytes, name: str, options: TableOptions, talk: Talk) -> Start:
+def head_of(
+    data: bytes, name: str, options: TableOptions, talk: Talk, budget: Budget | None = None
+) -> Start:
     """Returns a table that is open; raises `ToolError` where it cannot be read. A window shows its
-    first rows.
+    first rows. A table that is read several times may have one budget for all of them.
     """
+    budget = budget or Budget(name, len(data))
     formatter = Formatter(local_signs(options.file.decimal), options.file.date_as, local_date())
-    rows = table_rows(data, name, options, formatter, talk)
+    rows = affordable(table_rows(data, options, formatter, talk, budget), budget)
     wanted = options.file.header_row
     below = (row for row in rows if wanted or not row.is_blank())
     first = next((row for row in below if row.number >= (wanted or 0)), None)
@@ -119,12 +124,25 @@ def head_of(data: bytes, name: str, options: TableOptions, talk: Talk) -> Start:
     return Start(Head(first, column_names(first)), rows, formatter)
 
 
+def affordable(rows: Iterator[Row], budget: Budget) -> Iterator[Row]:
+    """Yields rows as far as a budget allows; raises `TooMuch`."""
+    cells = 0
+    for number, row in enumerate(rows):
+        cells += len(row.cells)
+        if cells > MANY or number % BETWEEN == 0:
+            budget.take(CELLS, cells)
+            budget.look()
+            cells = 0
+        yield row
+
+
 def table_rows(
-    data: bytes, name: str, options: TableOptions, formatter: Formatter, talk: Talk
+    data: bytes, options: TableOptions, formatter: Formatter, talk: Talk, budget: Budget
 ) -> Iterator[Row]:
     """Returns the rows of a table, whose kind its first bytes say; raises `ToolError` for another
     kind.
     """
+    name = budget.name
     if NO_TABLE.match(data):
         what = Text("{} is an old .xls, XML, HTML, or has a password", name)
         raise ToolError(what, Text("save it as .xlsx, without a password"))
@@ -140,14 +158,14 @@ def table_rows(
     if is_csv:
         how = CsvOptions(options.file, options.columns.asked, options.codes.is_free)
         return csv_table(data, name, how).rows()
-    return rows_of_workbook(data, name, options.file.sheet, formatter, talk)
+    return rows_of_workbook(data, options.file.sheet, formatter, talk, budget)
 
 
 def rows_of_workbook(
-    data: bytes, name: str, wanted: str | None, formatter: Formatter, talk: Talk
+    data: bytes, wanted: str | None, formatter: Formatter, talk: Talk, budget: Budget
 ) -> Iterator[Row]:
     """Yields the rows of a sheet of a workbook."""
-    with named_errors(name), opened(data) as archive:
+    with named_errors(budget.name), opened(data, budget) as archive:
         kind = rows_of_ods if is_ods(archive) else rows_of_xlsx
         yield from kind(archive, wanted, formatter, talk)
 

@@ -9,6 +9,7 @@ from typing import Any
 CONFIG = os.environ.get("XDG_CONFIG_HOME") or Path.home() / ".config"
 FOLDER = Path(CONFIG, "labels")
 MOST = 200  # values in a file
+OWN = 0o600  # who may read it
 
 
 class Memory:
@@ -37,8 +38,15 @@ class Memory:
             values[name] = value
         kept = dict(list(values.items())[-MOST:])
         with suppress(OSError):
-            FOLDER.mkdir(parents=True, exist_ok=True)
-            (FOLDER / self.file).write_text(json.dumps(kept, indent=1), encoding="utf-8")
+            write_own(FOLDER / self.file, json.dumps(kept, indent=1).encode())
+
+
+def write_own(path: Path, data: bytes) -> None:
+    """Writes a file that its owner alone may read, in a folder of such files; raises `OSError`."""
+    path.parent.mkdir(0o700, parents=True, exist_ok=True)
+    with open(path, "wb", opener=lambda name, how: os.open(name, how, OWN)) as file:
+        os.fchmod(file.fileno(), OWN)  # it may be older
+        file.write(data)
 
 
 TABLES = Memory("window.json", dict)  # what was chosen, by the names of columns

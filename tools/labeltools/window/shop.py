@@ -228,8 +228,7 @@ class Table:
         before = self.printed_records()
         old = (record for record in before if (record.symbology, record.data) not in codes)
         with suppress(OSError):
-            self.printed.parent.mkdir(parents=True, exist_ok=True)
-            self.printed.write_bytes(file_of([*old, *new]))
+            memory.write_own(self.printed, file_of([*old, *new]))
 
     def keep_waiting(self, made: MadeLabels, sent: Prepared, job: SentJob) -> Path:
         """Keeps the lines of the labels of a job until it is known whether they were printed, for a
@@ -237,8 +236,8 @@ class Table:
         """
         path = self.printed.with_suffix(f".{job.key}{WAITING}")
         with suppress(OSError):
-            path.parent.mkdir(parents=True, exist_ok=True)
-            path.write_bytes(file_of(self.records_of(made, sent)) if self.key else b"")
+            data = file_of(self.records_of(made, sent)) if self.key else b""
+            memory.write_own(path, data)
         return path
 
     def end_waiting(self, path: Path, is_printed: bool) -> None:

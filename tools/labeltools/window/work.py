@@ -9,7 +9,7 @@ from functools import partial
 from typing import Any
 
 from labeltools.common.language import _
-from labeltools.common.messages import Cancelled, of_system, ToolError
+from labeltools.common.messages import Cancelled, fault_of, of_system, ToolError
 from labeltools.window.gtk import GLib
 from labeltools.window.shop import WindowTalk
 
@@ -58,6 +58,8 @@ class Work:
         except (ToolError, OSError) as error:
             problem = of_system(error) if isinstance(error, OSError) else error
             self.window.show_problem(problem)
+        except Exception as error:
+            self.window.show_problem(ToolError(fault_of(error)))
 
     def leave(self) -> None:
         """Lets labels go out again where there are some: there is no work that anyone waits for."""

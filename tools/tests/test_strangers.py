@@ -1,0 +1,535 @@
+"""Files, printers and users that are strangers: what they are given takes little, says why it is
+refused, and what is private stays so.
+"""
+
+import json
+import os
+import random
+import re
+import resource
+import shutil
+import signal
+import subprocess
+import sys
+import tempfile
+import time
+import unittest
+from base64 import b64encode
+from io import BytesIO
+from pathlib import Path
+from types import SimpleNamespace
+from typing import Any
+from unittest import mock
+
+from PIL import Image
+
+import support
+from desk import Desk, printed, ROLL, TICKETS
+from labeltools.commands.label_print import print_options
+from labeltools.common import files, process
+from labeltools.common.budget import Budget, CELLS, SECONDS, TooMuch
+from labeltools.common.messages import Silence, ToolError, UNEXPECTED
+from labeltools.common.text import Remedy
+from labeltools.designs import svg_page
+from labeltools.lines.file import read_lines
+from labeltools.printing.job import planned
+from labeltools.printing.press import labels_of
+from labeltools.sending import stream, watch
+from labeltools.sending.answers import Query, read_status, Reply
+from labeltools.sending.cups import trouble_of
+from labeltools.sending.journal import Journal
+from labeltools.sending.outlets import Outlet
+from labeltools.sheets.encoding import OTHER_BYTES, OTHER_LINE, OTHER_WORD
+from labeltools.window.memory import Memory, write_own
+from printers import Printer
+from test_examples import entry_of
+from workbooks import ods, ods_cell, packed, rows, table, unpacked, xlsx
+
+SIGNS = "'\"`$\\;&|<>(){}[]*?!#~%=+-.,:/@^ \t\nab1éß$''"
+LETTERLESS = ["'; . ./*; '", "';${!#}<<<x;'", "$(())", "`:`", "'", "!", "~", "-", "--", "=", "''"]
+NOBODY = 65534
+CODE = "4006381333931"
+SECONDS_OF_A_BOMB = 12  # of a processor; each took more than twice as many, or did not end
+HOLD = """
+import fcntl, os, sys
+os.setgroups([]); os.setgid(65534); os.setuid(65534)
+try:
+    file = os.open(sys.argv[1], os.O_RDONLY)
+    for byte in (1 << 62, (1 << 62) + 1):
+        fcntl.lockf(file, fcntl.LOCK_SH, 1, byte)
+    print("held", flush=True)
+    sys.stdin.read()
+except OSError as error:
+    print(error.strerror)
+"""
+
+
+def ean(number: int) -> str:
+    """The EAN-13 of a number."""
+    digits = f"400{number:09d}"
+    total = sum(int(digit) * (3 if at % 2 else 1) for at, digit in enumerate(digits))
+    return digits + str(-total % 10)
+
+
+class Words(unittest.TestCase):
+    """What a message proposes is pasted into a shell."""
+
+    def in_bash(self, line: str) -> list[str]:
+        """The words that bash makes of a line, which does nothing else."""
+        script = f"printf '%s\\0' {line}"
+        subprocess.run(["bash", "-n", "-c", script], check=True, capture_output=True)
+        with tempfile.TemporaryDirectory() as folder:
+            Path(folder, "do").write_text("touch PWNED")
+            done = subprocess.run(
+                ["bash", "-c", script], check=True, capture_output=True, cwd=folder
+            )
+            self.assertEqual(os.listdir(folder), ["do"])
+        return done.stdout.decode().split("\0")[:-1]
+
+    def test_any_value_is_one_word(self) -> None:
+        chance = random.Random(12)
+        values = ["".join(chance.choices(SIGNS, k=chance.randint(1, 12))) for _ in range(2000)]
+        remedies = [Remedy("sheet", value) for value in (*LETTERLESS, *values)]
+        wanted = [word for remedy in remedies for word in remedy.words]
+        self.assertEqual(self.in_bash(" ".join(map(str, remedies))), wanted)
+        for value in LETTERLESS:
+            self.assertEqual(
+                self.in_bash(str(Remedy("sheet", value))), [*Remedy("sheet", value).words]
+            )
+            self.assertEqual(len(self.in_bash(f"{Remedy('sheet', value):value}")), 1)
+
+    def test_a_sheet_whose_name_is_a_command(self) -> None:
+        name = "'; . ./*; '"
+        data = xlsx(rows(["EAN"], [CODE]), (name, "visible", rows(["EAN"], [CODE])))
+        done = support.run("label-table", "--code", "EAN", input=data)
+        given = support.messages(done)[-1].partition("give --sheet Tabelle1 or ")[2]
+        self.assertEqual(self.in_bash(given), [name])
+
+    def test_a_queue_whose_name_is_a_command(self) -> None:
+        states: list[dict[str, Any]] = [{"printer-state-reasons": ["paused"]}, {"printer-state": 5}]
+        for state in states:
+            trouble = trouble_of("a;do&b", state)
+            assert trouble is not None
+            line = str(trouble.cure).removesuffix(" lets it go on")
+            self.assertEqual(self.in_bash(line), ["cupsenable", "a;do&b"])
+
+
+class Bombs(unittest.TestCase):
+    """Small files that would keep a computer busy."""
+
+    def ended(self, data: bytes, *words: str) -> str:
+        """The last message of label-table, which has so many seconds and so much memory."""
+        with tempfile.NamedTemporaryFile() as file:
+            file.write(data)
+            file.flush()
+
+            def limit() -> None:
+                resource.setrlimit(resource.RLIMIT_AS, (600 << 20,) * 2)
+                resource.setrlimit(resource.RLIMIT_CPU, (SECONDS_OF_A_BOMB,) * 2)
+
+            command = [str(support.TOOLS / "label-table"), *words, file.name]
+            done = subprocess.run(
+                command, capture_output=True, env=support.environment(), preexec_fn=limit
+            )
+        self.assertIn(done.returncode, (0, 1, 2), done.stderr[-300:])
+        self.assertNotIn(b"fault", done.stderr)
+        return support.messages(done)[-1] if done.stderr else ""
+
+    def test_rows_of_ods_that_are_repeated(self) -> None:
+        wide = '<table:table-cell table:number-columns-repeated="16382"/>' + ods_cell("x")
+        row = f'<table:table-row table:number-rows-repeated="61000">{wide}</table:table-row>'
+        said = self.ended(ods(table(["EAN"], [CODE], end=row * 17)), "--code", "EAN")
+        self.assertRegex(said, "takes too much, more than 4,00.,... cells")
+
+    def test_cells_of_ods_that_are_repeated(self) -> None:
+        empty = (
+            '<table:table-cell office:value-type="string" table:number-columns-repeated="16384"/>'
+        )
+        end = f"<table:table-row>{empty * 11_000}</table:table-row>" * 9
+        self.assertEqual(self.ended(ods(table(["EAN"], [CODE], end=end)), "--code", "EAN"), "")
+
+    def test_cells_far_to_the_right(self) -> None:
+        far = "".join(f'<row r="{n}"><c r="XFD{n}"><v>1</v></c></row>' for n in range(3, 100_000))
+        said = self.ended(xlsx(rows(["EAN"], [CODE]) + far), "--code", "EAN")
+        self.assertIn(" cells, with the empty ones before others", said)
+
+    def test_columns_that_are_hidden_again_and_again(self) -> None:
+        columns = '<cols><col min="1" max="16384" hidden="1"/>' + (
+            '<col min="1" max="16384" hidden="1"/>' * 100_000 + "</cols>"
+        )
+        said = self.ended(xlsx(rows(["EAN"], [CODE]), before=columns), "--code", "EAN")
+        self.assertIn(" cells, with the empty ones before others", said)
+
+    def test_strings_that_no_cell_has(self) -> None:
+        data = xlsx(rows(["EAN"], [CODE]), strings="<si><t>ab</t></si>" * 2_000_000)
+        self.assertIn("rows, texts, links and merged cells", self.ended(data, "--code", "EAN"))
+
+    def test_hidden_sheets_are_not_read(self) -> None:
+        """Many may name one part."""
+        data = xlsx(rows(["EAN"], [CODE]), before="<x>" + "<a/>" * 400_000 + "</x>")
+        parts = unpacked(data)
+        book = parts["xl/workbook.xml"]
+        one = book[book.index("<sheet ") : book.index("/>", book.index("<sheet ")) + 2]
+        name = one[one.index('name="') + 6 :].partition('"')[0]
+        others = [
+            re.sub(' state="[a-z]*"', "", one)
+            .replace(f'"{name}"', f'"h{n}"')
+            .replace("<sheet ", '<sheet state="hidden" ')
+            for n in range(300)
+        ]
+        parts["xl/workbook.xml"] = book.replace(one, one + "".join(others))
+        self.assertEqual(self.ended(packed(parts), "--code", "EAN"), "")
+
+    def test_a_word_without_an_end(self) -> None:
+        word = b"a" * 300_000
+        for data in (b"EAN;Name\n%b;K\xe4se\n%b;%b\n" % (CODE.encode(), CODE.encode(), word),):
+            self.ended(data)
+        begin = time.process_time()
+        for pattern in (OTHER_LINE, OTHER_BYTES):
+            self.assertEqual(pattern.findall(word), [])
+        self.assertEqual(OTHER_WORD.findall(word.decode()), [])
+        self.assertLess(time.process_time() - begin, 1)
+
+    def test_words_are_found_as_before(self) -> None:
+        text = 'Käse, "für" 1;ab  ×2\u00a0é ab é|xé,\nzé'
+        wanted = ["Käse", "für", "×2", "é", "é", "xé", "zé"]
+        self.assertEqual(OTHER_WORD.findall(text), wanted)
+        old = text.encode("cp1252")
+        found = [one.decode("cp1252") for one in OTHER_BYTES.findall(old)]
+        self.assertEqual(found, ["Käse", "für", "×2\u00a0é", "é", "xé", "zé"])
+        self.assertEqual(OTHER_LINE.findall(b"a\n\xe4b\nc\xe4\nd"), [b"\xe4b\n", b"c\xe4\n"])
+
+    def test_many_columns_of_prices_or_codes(self) -> None:
+        count = 250
+        prices = ["EAN;Artikel;" + ";".join(f"Preis {n}" for n in range(count))]
+        codes = [";".join(f"EAN {n}" for n in range(count))]
+        for row in range(60):
+            amounts = (f"{n % 97 + 1},{row % 100:02d} €" for n in range(count))
+            prices.append(f"{ean(row)};Tee {row};" + ";".join(amounts))
+            codes.append(";".join([ean(row)] * count))
+        for lines in (prices, codes):
+            self.ended("\n".join(lines).encode())
+
+    def test_a_budget(self) -> None:
+        budget = Budget("a.csv", 10)
+        budget.take(CELLS, 4_000_080)
+        with self.assertRaisesRegex(TooMuch, "^a.csv takes too much, more than 4,000,080 cells"):
+            budget.take(CELLS, 1)
+        budget.look()
+        with mock.patch("time.thread_time", lambda: budget.begin + budget.most(SECONDS) + 1):
+            with self.assertRaisesRegex(TooMuch, "more than 20 seconds of the processor"):
+                budget.look()
+
+
+class Inputs(unittest.TestCase):
+    """Files that are no tables."""
+
+    def setUp(self) -> None:
+        folder = tempfile.TemporaryDirectory()
+        self.addCleanup(folder.cleanup)
+        self.path = Path(folder.name, "input")
+
+    def test_a_file_with_holes(self) -> None:
+        with self.path.open("wb") as file:
+            file.truncate(1 << 40)
+        for tool, words in (("label-table", ["--code", "EAN"]), ("label-print", ROLL)):
+            done = support.run(tool, *words, str(self.path))
+            self.assertEqual(done.returncode, 1)
+            self.assertIn("has more than 512 MB", support.messages(done)[-1])
+
+    def test_a_fifo_that_nobody_writes_to(self) -> None:
+        os.mkfifo(self.path)
+        with mock.patch.object(process, "WRITER", 0.05):
+            self.assertRaisesRegex(
+                ToolError, "no program writes", process.read_file, str(self.path)
+            )
+
+    def test_numbers_of_many_digits(self) -> None:
+        for key in ("row", "left_out_count", "lines"):
+            line = f'#{{"labels":1}}\n#{{"{key}":{"9" * 4299}}}\nean13 {CODE}\n'
+            with self.assertRaisesRegex(ToolError, "not understood"):
+                read_lines(line.encode(), "a.lines")
+
+    def test_signs_that_turn_letters(self) -> None:
+        for sign in "\u202a\u202e\u2066\u2069":
+            line = f"#{json.dumps({'row': 1, 'price': f'{sign}1,20'})}\nean13 {CODE}\n"
+            with self.assertRaisesRegex(ToolError, "not understood: .price."):
+                read_lines(line.encode(), "a.lines")
+
+    def test_a_link_that_is_a_part(self) -> None:
+        """It has no TargetMode: the name of the part would be drawn as an address."""
+        after = '<hyperlinks><hyperlink ref="A2" r:id="h1"/></hyperlinks>'
+        data = xlsx(rows(["Link"], ["see"]), after=after)
+        parts = unpacked(data)
+        rels = (
+            '<Relationships xmlns="http://schemas.openxmlformats.org/package/2006/relationships">'
+            '<Relationship Id="h1" Target="https://example.org/a" Type="http://schemas.openxml'
+            'formats.org/officeDocument/2006/relationships/hyperlink"{}/></Relationships>'
+        )
+        (sheet,) = (name for name in parts if "sheets/" in name and "_rels" not in name)
+        place = f"xl/worksheets/_rels/{Path(sheet).name}.rels"
+        if "xmlns:r=" not in parts[sheet]:
+            space = "http://schemas.openxmlformats.org/officeDocument/2006/relationships"
+            parts[sheet] = parts[sheet].replace("<worksheet ", f'<worksheet xmlns:r="{space}" ', 1)
+        words = ("--code", "Link", "--symbology", "qr", "--links")
+        for mode, is_there in (' TargetMode="External"', True), ("", False):
+            done = support.run(
+                "label-table", *words, input=packed({**parts, place: rels.format(mode)})
+            )
+            self.assertEqual(b"qr https://example.org/a\n" in done.stdout, is_there, done.stderr)
+            self.assertNotIn(b"worksheets", done.stdout)
+
+    def test_what_is_saved_has_no_name_before_it_is_whole(self) -> None:
+        code = (
+            "import os, signal, sys; from pathlib import Path\n"
+            "from labeltools.common import files\n"
+            "class Ended:\n"
+            "    def read(self, _):\n"
+            "        print(os.listdir(sys.argv[1]), flush=True)\n"
+            "        os.kill(os.getpid(), signal.SIGKILL)\n"
+            "files.save(Ended(), Path(sys.argv[1], 'a.pdf'))\n"
+        )
+        command = [sys.executable, "-c", code, str(self.path.parent)]
+        done = subprocess.run(command, capture_output=True, cwd=support.OURS)
+        self.assertEqual((done.returncode, done.stdout), (-signal.SIGKILL, b"[]\n"), done.stderr)
+        self.assertEqual(os.listdir(self.path.parent), [])
+        before = os.umask(0o027)
+        try:
+            files.save(BytesIO(b"1"), self.path)
+            files.save(BytesIO(b"22"), self.path)
+        finally:
+            os.umask(before)
+        self.assertEqual(self.path.read_bytes(), b"22")
+        self.assertEqual(self.path.stat().st_mode & 0o777, 0o640)
+
+
+class Private(Desk):
+    """Files that others may not read."""
+
+    def mode(self, path: str | Path) -> int:
+        """What a file allows."""
+        return os.stat(path).st_mode & 0o777
+
+    def test_a_journal(self) -> None:
+        before = os.umask(0o022)
+        self.addCleanup(os.umask, before)
+        self.assertEqual(printed("--journal", self.path).returncode, 0)
+        self.assertEqual(self.mode(self.path), 0o600)
+        for old, new in ((0o644, 0o600), (0o664, 0o660), (0o646, 0o606), (0o666, 0o666)):
+            os.chmod(self.path, old)
+            self.assertEqual(printed("--journal", self.path).returncode, 0)
+            self.assertEqual(self.mode(self.path), new)
+
+    @unittest.skipIf(os.getuid(), "is not built: run it as root")
+    def test_a_user_who_may_only_read(self) -> None:
+        """Such a one would stop all lanes, or hide that a label is in doubt."""
+        os.chmod(self.folder, 0o755)
+        journal = Journal(self.path, "tcp://a")
+        command = [sys.executable, "-c", HOLD, self.path]
+        with subprocess.Popen(
+            command, stdin=subprocess.PIPE, stdout=subprocess.PIPE, cwd="/"
+        ) as other:
+            assert other.stdout is not None
+            self.assertEqual(other.stdout.readline(), b"Permission denied\n")
+        self.assertTrue(journal.claim(self.records[0]))
+
+    def test_what_the_window_keeps(self) -> None:
+        before = os.umask(0o022)
+        self.addCleanup(os.umask, before)
+        folder = Path(self.folder, "config", "labels")
+        with mock.patch("labeltools.window.memory.FOLDER", folder):
+            memory = Memory("files.json", str)
+            memory.keep("a", "b")
+            write_own(folder / "a.lines", b"")
+            os.chmod(folder / "files.json", 0o644)
+            memory.keep("c", "d")
+            self.assertEqual(memory.all(), {"a": "b", "c": "d"})
+        modes = [self.mode(path) for path in (folder, *sorted(folder.iterdir()))]
+        self.assertEqual(modes, [0o700, 0o600, 0o600])
+
+
+class Swinging(Outlet):
+    """A printer that has one label left, or two."""
+
+    name = "tcp://a"
+    asked = 0
+
+    def ask(self, _question: Query) -> Reply:
+        """It is asked for ever."""
+        self.asked += 1
+        if self.asked > 3000:
+            raise AssertionError("asked for ever")
+        return Reply((), 1 + self.asked % 2)
+
+
+class Printers(Desk):
+    """Printers that answer as they like, and lines that do not end."""
+
+    def status(self, left: bytes) -> bytes:
+        """What a printer of ZPL answers that has so many labels left."""
+        lines = (
+            b"030,0,0,0320,%b,0,0,0,000,0,0,0" % left,
+            b"001,0,0,0,0,2,4,0,00000000,1,000",
+            b"0000,0",
+        )
+        return b"".join(b"\x02%b\x03\r\n" % line for line in lines)
+
+    def test_a_count_of_many_digits(self) -> None:
+        self.assertEqual(read_status(self.status(b"002")), Reply([], 2))
+        for count in (10, 4300, 5000):
+            self.assertIsNone(read_status(self.status(b"9" * count)))
+
+    def test_a_count_that_goes_up_and_down(self) -> None:
+        """It is not asked for ever."""
+        outlet = Swinging()
+        one = watch.Watch(outlet, "zpl", Silence())
+        one.more = None
+        with mock.patch.multiple(watch, IDLE=0.2, LOOKS=(0.001, 0.001), LONGEST=0.3):
+            one.end()
+        self.assertTrue(one.is_stuck)
+
+    def test_a_line_without_an_end(self) -> None:
+        longest = 2 * stream.LONGEST_LINE
+        lines = b"qr A\nqr " + b"B" * 10_000_000 + b"\nqr C\n#{" + b"D" * 10_000_000
+        found = [*stream.jobs(BytesIO(lines))]
+        self.assertEqual([parts[-1][0] for parts in found], [1, 2, 3, 4])
+        self.assertLess(max(len(line) for parts in found for _, line in parts), longest)
+        words = [answer.split()[:2] for answer in self.answers(lines)]
+        wanted = [["taken", "1"], ["refused", "2"], ["taken", "3"], ["refused", "4"]]
+        self.assertEqual(words, wanted)
+
+    def test_many_remarks_before_a_line(self) -> None:
+        begin = time.process_time()
+        (parts,) = stream.jobs(BytesIO(b'#{"row":1}\n' * 60_000 + b"qr A\n"))
+        self.assertEqual([number for number, _ in parts], [1, 60_000, 60_001])
+        self.assertLess(time.process_time() - begin, 2)
+
+    def test_an_exception_that_nobody_expected(self) -> None:
+        """It is said as one message, with what went out, and what is in doubt."""
+        printer = Printer().start()
+        broken = (
+            "from labeltools.sending import network\n"
+            "before, sent = network.NetworkPrinter.push, []\n"
+            "def push(self, line, data):\n"
+            "    sent.append(data)\n"
+            "    if len(sent) == 3:\n"
+            "        [].pop()\n"
+            "    before(self, line, data)\n"
+            "network.NetworkPrinter.push = push\n"
+        )
+        done = self.begin("--print", printer.name, code=broken).done()
+        said = (
+            "report it as IndexError in line .*: it took 2 labels whole; .*line 3 may be on paper"
+        )
+        self.said(done, UNEXPECTED, said)
+        self.said(done, UNEXPECTED, "--after 2 the same command")
+        self.assertNotIn(b"Traceback", done.stderr)
+        done = self.begin("--print", printer.name, "--journal", self.path, code=broken).done()
+        self.said(done, UNEXPECTED, "line 3: may be on paper, from tcp://")
+
+    def test_one_at_the_end(self) -> None:
+        printer = Printer().start()
+        broken = (
+            "from labeltools.sending import watch\n"
+            "def end(self):\n"
+            "    raise ValueError\n"
+            "watch.Watch.end = end\n"
+        )
+        done = self.begin("--print", printer.name, code=broken).done()
+        self.said(done, UNEXPECTED, "report it as ValueError in line .*: it took 30 labels whole")
+
+    def test_one_of_a_stream(self) -> None:
+        """Each line has its answer."""
+        for place, word in (("Sender.send", "unsent"), ("outlets.StandardOutput.send", "doubtful")):
+            with mock.patch(
+                f"labeltools.sending.{'sender.' if 'Sender' in place else ''}{place}",
+                side_effect=KeyError("a"),
+            ):
+                done = printed("--stream", input=b"qr A\nqr B\n")
+            self.said(
+                done, UNEXPECTED, f"^{word} 1 this is a fault of the program: report it as KeyE"
+            )
+            self.assertEqual(len(done.stderr.splitlines()), 1)
+
+
+class Drawings(unittest.TestCase):
+    """Pages that are cheap where they are tried, and dear where they are drawn."""
+
+    def page(self, side: float) -> str:
+        folder = tempfile.TemporaryDirectory()
+        self.addCleanup(folder.cleanup)
+        path = Path(folder.name, "page.svg")
+        path.write_text(
+            f'<svg xmlns="http://www.w3.org/2000/svg" width="{side}mm" height="{side}mm" viewBox="'
+            f'0 0 {side} {side}"><rect data-place="code" x="2" y="12" width="56" height="26" fill='
+            '"none"/></svg>'
+        )
+        return str(path)
+
+    def test_dots_are_counted_before_they_are_drawn(self) -> None:
+        words = ("--design", self.page(800), "--dpi", "600", "--to", "zpl")
+
+        def limit() -> None:
+            resource.setrlimit(resource.RLIMIT_AS, (700 << 20,) * 2)
+
+        command = [str(support.TOOLS / "label-print"), *words]
+        done = subprocess.run(
+            command,
+            input=TICKETS,
+            capture_output=True,
+            env=support.environment(),
+            preexec_fn=limit,
+        )
+        self.assertEqual(done.returncode, 1)
+        self.assertIn("18897 by 18897 dots, which are too many", support.messages(done)[-1])
+
+    def test_a_large_drawing_is_tried_as_large(self) -> None:
+        tried = []
+
+        def run(command: Any, **_: Any) -> Any:
+            tried.append(command[-3:])
+            return SimpleNamespace(returncode=0)
+
+        svg_page.check_cost.cache_clear()
+        self.addCleanup(svg_page.check_cost.cache_clear)
+        with mock.patch("subprocess.run", run):
+            self.drawn("--design", self.page(100), "--dpi", "600", "--to", "zpl")
+        self.assertIn(("dots", "2362", "2362"), [tuple(one) for one in tried])
+
+    def drawn(self, *words: str) -> None:
+        """Draws a label."""
+        job = planned(print_options(words))
+        found = labels_of(job, "a", TICKETS[:10], Silence())
+        press = found.press(Silence())
+        for part in press.parts(found.prints):
+            press.document(part)
+
+    def test_pictures_of_other_kinds_are_not_opened(self) -> None:
+        file = BytesIO()
+        Image.new("1", (8, 8)).save(file, "GIF")
+        with self.assertRaisesRegex(ToolError, "a picture is broken"):
+            svg_page.pixels_of("a.svg", b64encode(file.getvalue()).decode())
+
+
+class Installed(unittest.TestCase):
+    """What is installed beside the tools."""
+
+    def test_the_service_has_few_rights(self) -> None:
+        path = support.TOP / "examples/labels-till-3.service"
+        service = entry_of("examples/labels-till-3.service")["Service"]
+        self.assertEqual(service["DynamicUser"], "yes")
+        self.assertEqual(service["NoNewPrivileges"], "yes")
+        if not shutil.which("systemd-analyze"):
+            return
+        words = ["systemd-analyze", "security", "--offline=true", str(path)]
+        done = subprocess.run(words, capture_output=True, text=True)
+        level = float(done.stdout.rpartition(": ")[2].split()[0])
+        self.assertLess(level, 3)
+
+    def test_no_folder_is_trusted_for_every_package(self) -> None:
+        page = (support.TOP / "README.md").read_text()
+        self.assertNotIn("deb [trusted=yes]", page)
+
+
+if __name__ == "__main__":
+    unittest.main()
