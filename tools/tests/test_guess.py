@@ -7,11 +7,13 @@ import unittest
 from dataclasses import replace
 from pathlib import Path
 
+import fit_guess
 import support
 from labeltools.common.messages import Silence
 from labeltools.sheets.file_options import FileOptions
 from labeltools.tables.guess import Guess, guess, guess_of
 from labeltools.tables.name_words import column_words
+from labeltools.tables.scores import WEIGHTS
 from labeltools.tables.table_options import TableOptions
 from sheets import KINDS, Sheet
 
@@ -73,13 +75,13 @@ Zolltarifnr.;EAN;Art.-Nr.
 - code -
 Code article;Jeans;EAN;PU TTC
 V12 Denim;Bleu nuit;4006381333931;39,90
-- ?title code price
+- title code price
 Bestellnummer;Artikelnummer;Ware
 4500012345;M-10023;Kugellager
 ?code ?code title
 EAN artikel;EAN omdoos;Omschrijving;Prijs per stuk;Prijs per doos
 4006381333931;4012345678901;Drop zoet;1,95;19,50
-?code ?code title ?price ?price
+code - title ?price ?price
 EAN Einzelpflanze;EAN Tray;Pflanze;Preis
 4006381333931;4012345678901;Lavendel;4,95
 ?code ?code title price
@@ -145,7 +147,7 @@ Keller;Riesling trocken;14,90;19,87;4006381333931
 - title price - code
 Item;Description;Price;Wholesale;Retail Price;Sale Price;Width;UPC
 Hammer, claw;Steel, 12 oz;24.49;12.10;0.00;0.00;8.25;4006381333931
-?title ?title price - - - - code
+title - price - - - - code
 OXARTNUM;OXEAN;OXTITLE;OXSHORTDESC;OXPRICE;OXSTOCK
 A-201;4006381333931;Pencil, soft;Of cedar wood;0.80;12
 - code title - price -
@@ -160,7 +162,7 @@ Art.-Nr.;Artikel-Bezeichnung;EAN-Code;Verkaufs-Preis;Herstellkosten
 - title code price -
 ISBN13;Title;List Price;Our Price
 978-3-16-148410-0;Herbstlicht;24.00;19.95
-code title - price
+code title ?price ?price
 barcode;itemcallnumber;title;author;isbn
 39087001234567;QA-76;Herbstlicht;K. Lenz;978-3-16-148410-0
 code - title - -
@@ -443,7 +445,8 @@ class Guesses(unittest.TestCase):
         for names, title, encoding, wanted in (
             (german, "Käse", "cp1252", "cp1252"),
             (german, "Crème fraîche", "cp1252", "cp1252"),
-            (german, "Möhre ½ kg", "cp850", ""),
+            (german, "Möhre ½ kg", "cp850", "cp850"),  # no other reading makes sense
+            (english, "Tea 12,50 €", "cp1252", "cp1252"),  # a currency beside an amount
             (german, "Möhren, weiß", "mac_roman", "mac_roman"),
             (german, "Größe 5 €", "iso8859-15", "iso8859-15"),
             ("EAN;Désignation;Prix TTC", "Crème brûlée", "cp1252", "cp1252"),
@@ -532,7 +535,7 @@ class Guesses(unittest.TestCase):
     def test_a_title_of_some_kind_is_asked_about_beside_other_texts(self) -> None:
         row = "4006381333931;Tea, green;Tea of Fuzhou"
         for names, is_sure in (
-            ("EAN;Artikel;Web name", False),
+            ("EAN;Artikel;Web name", True),
             ("EAN;Line;Web name", False),
             ("EAN;Web name;Preis", True),
             ("EAN;Vendor name;Web name", True),
@@ -544,7 +547,7 @@ class Guesses(unittest.TestCase):
     def test_a_code_of_something_else_is_asked_about(self) -> None:
         """Of a carton; or one that few rows have, where all have a number of their country."""
         carton = [["Item no", *NUMBERS[1]], ["Carton EAN", *CODES]]
-        self.assertEqual(guess(carton, 1).doubts, {"code": [1, 0]})
+        self.assertEqual(guess(carton, 1).doubts, {"code": [0, 1]})
         plain = [["Item no", *NUMBERS[1]], ["EAN", *CODES], ["Carton EAN", *CODES[::-1]]]
         self.assertEqual(guess(plain, 1).columns, {"code": 1})
         both = [["Inventory number", *NUMBERS[1]], ["EAN", *CODES]]  # which a shop may have, too
@@ -554,20 +557,20 @@ class Guesses(unittest.TestCase):
         few = [["Item no", *NUMBERS[1]], ["EAN", CODES[0], "", ""]]
         self.assertEqual(guess(few, 1).columns, {"code": 1})
         few[0][0] = "PZN"
-        self.assertEqual(guess(few, 1).doubts, {"code": [1, 0]})
+        self.assertEqual(guess(few, 1).doubts, {"code": [0, 1]})
         old = [["Book no", *NUMBERS[1]], ["ISBN", CODES[0], "", ""]]
-        self.assertEqual(guess(old, 1).columns, {"code": 0})
+        self.assertEqual(guess(old, 1).doubts, {"code": [0, 1]})
         shop = [["EAN", *CODES], ["ISBN", "", "978-0-306-40615-7", ""]]
         self.assertEqual(guess(shop, 1).columns, {"code": 0})  # the same number, less often
         shop = [["handleId", "tea-a", "tea-b", "tea-c"], ["sku", "T-A", "T-B", "T-C"]]
         self.assertEqual(guess(shop, 1).columns, {"code": 1})
         shop = [["handleId", "tea-a", "tea-b", "tea-c"], ["sku", "T-A", "", ""]]
-        self.assertEqual(guess(shop, 1).doubts, {"code": [1]})
+        self.assertEqual(guess(shop, 1).doubts, {"code": [0, 1]})
         library = [["Accession no", "1201", "1202", "1203"], ["Barcode", *NUMBERS[0]]]
         self.assertEqual(guess([*library, ["ISBN", *CODES]], 1).columns, {"code": 1})
-        for isbn, wanted in (([CODES[1], CODES[1], CODES[0]], 0), ([*CODES[:2], ""], None)):
+        for isbn in ([CODES[1], CODES[1], CODES[0]], [*CODES[:2], ""]):
             found = guess([["Book no", *NUMBERS[1]], ["ISBN", *isbn]], 1)  # of copies, of old books
-            self.assertEqual(found.columns.get("code"), wanted)
+            self.assertNotIn("code", found.columns)
         tens = ("180615904X", "0062890964", '="0301198063"')
         books = [["ISBN", *(f'="{code}"' for code in CODES)], ["ISBN-10", *tens]]
         self.assertEqual(guess(books, 1).columns, {"code": 0})
@@ -744,7 +747,7 @@ PRICES = (
 # names of amounts that no customer pays, or of which only the keeper knows it
 NO_PRICES = (
     *("Consignor", "Zuzahlung", "Lagerwert", "EK", "Ihr Preis", "Preis netto", "Bruttogewicht"),
-    *("Cena ewidencyjna", "Verrechnungspreis", "NC", "Preis je Ktn", "B2B price"),
+    *("Cena ewidencyjna", "Verrechnungspreis", "NC", "Preis je Ktn"),
     *("VK-Menge", "Shelf life", "Montant TTC", "Preisfaktor", "Price code"),
 )
 # amounts of three columns, and the number of the one that is the price; 0 where only the keeper
@@ -808,9 +811,9 @@ class Codes(unittest.TestCase):
         found = guess([["Item ID", *NUMBERS[0]], ["Description", "Tea", "Book", "Gum"]], 1)
         self.assertEqual(found.columns, {"code": 0, "title": 1})
 
-    def test_of_old_books_with_few_isbns_their_own_numbers_are_meant(self) -> None:
+    def test_of_old_books_with_few_isbns_their_own_numbers_are_asked_about(self) -> None:
         found = guess([["Book ID", "000412", "000413", "000431"], ["ISBN", CODES[0], "", ""]], 1)
-        self.assertEqual(found.columns, {"code": 0})
+        self.assertEqual(found.doubts, {"code": [0, 1]})
 
     def test_a_number_that_all_rows_share_is_no_code(self) -> None:
         for name in ("GLN Hersteller", "Depot"):
@@ -824,11 +827,11 @@ class Codes(unittest.TestCase):
         for names, wanted in (
             ("Kurztext;Langtext", [1]),
             ("Langtext;Kurztext", [2]),
-            ("Kurzbeschreibung;Beschreibung", [1]),
+            ("Kurzbeschreibung;Beschreibung", []),
             ("Name;Long description", [1]),
             ("Name;Description", [1]),
             ("Kurzbeschreibung;Titel", [2]),
-            ("Item;Description", []),
+            ("Item;Description", [1]),
             ("Bezeichnung 1;Bezeichnung 2", [1]),
             ("Name DE;Name EN", [1]),
             ("Name EN;Name DE", []),
@@ -841,13 +844,14 @@ class Codes(unittest.TestCase):
             self.assertEqual(said, wanted, names)
             self.assertEqual(found.doubts.get("title", [1, 2]), [1, 2], names)
 
-    def test_of_plain_names_the_one_of_all_rows_is_meant_or_the_one_of_words(self) -> None:
+    def test_of_plain_names_none_is_meant_that_few_rows_have_or_that_has_no_words(self) -> None:
         for name, other in (
             (["Object name", "Quilt", "Churn", "Shoe"], ["Title", "Log Cabin Quilt", "", ""]),
             (["Display name", "Tent, green", "Tent, red", "Stove"], ["Name", "T-G", "T-R", "KIT"]),
         ):
             found = guess([["Barcode", *CODES], other, name], 1)
-            self.assertEqual(found.columns.get("title"), 2, other)
+            self.assertEqual(found.columns.get("title", 2), 2, other)
+            self.assertEqual(found.doubts.get("title", [1, 2]), [1, 2], other)
 
     def test_names_of_some_kind_that_are_there_again_are_no_titles(self) -> None:
         maker = ["Main maker: Name", "Green", "Green", "Green"]
@@ -864,7 +868,7 @@ class Codes(unittest.TestCase):
         jobs = [["Job", "HT-10482", "HT-10483", "HT-10484"], ["Bike", "Epic", "Domane", "TCR"]]
         self.assertEqual(guess(jobs, 1).columns, {"code": 0, "title": 1})
         kinds = ["Service type", "Major service", "Minor service", "Puncture"]
-        self.assertEqual(guess([*jobs, kinds], 1).doubts, {"title": [1]})
+        self.assertEqual(guess([*jobs, kinds], 1).columns, {"code": 0, "title": 1})
         count = ["Quantity", "24 pieces", "60 pieces", "36 pieces"]  # which is no title
         self.assertEqual(guess([*jobs[:1], count], 1).doubts, {})
 
@@ -913,7 +917,7 @@ class Prices(unittest.TestCase):
         self.assertEqual(guess(columns, 1).doubts, {"price": [2, 3]})
         for name in ("Listeneinkaufspreis", "Leverantörspris", "Personalpreis"):
             found = guess([["EAN", *CODES], [name, *HIGH]], 1)
-            self.assertEqual(found.doubts, {"price": [1]}, name)
+            self.assertNotIn("price", found.columns, name)
 
     def test_prices_that_few_rows_have_are_asked_about(self) -> None:
         codes = ["EAN", *CODES, "96385074"]
@@ -921,7 +925,7 @@ class Prices(unittest.TestCase):
             found = guess([codes, ["EK", *LOW, "1"], ["VK", *cells], ["UVP", *HIGH, "5"]], 1)
             self.assertEqual(found.doubts, {"price": [2, 3]}, cells)
             found = guess([codes, ["Netto", *LOW, "1,00"], ["Preis", *cells]], 1)
-            self.assertEqual(found.doubts, {"price": [1, 2]}, cells)
+            self.assertIn(2, found.doubts["price"], cells)
 
     def test_of_prices_that_are_the_same_the_plainest_is_meant(self) -> None:
         codes, cost, sale = ["EAN", *CODES], ["Cost", *LOW], ["Sale price", *HIGH]
@@ -929,19 +933,6 @@ class Prices(unittest.TestCase):
         self.assertEqual(found.columns.get("price"), 2)
         found = guess([codes, cost, sale, ["Takeaway price", *LOW]], 1)
         self.assertEqual(found.doubts, {"price": [2, 3]})
-
-    def test_a_price_beside_own_codes_is_asked_about(self) -> None:
-        """For such things may be kept, and not sold; numbers of articles are those of a shop."""
-        different, alike = ("Drill", "Ladder", "Saw"), ("Drill", "Drill", "Drill")
-        for code, titles, price, is_sure in (
-            ("Barcode", different, "Price", False),
-            ("Barcode", different, "Selling price", True),
-            ("SKU", different, "Price", True),
-            ("SKU", alike, "Price", False),
-        ):
-            found = guess([[code, *NUMBERS[1]], ["Name", *titles], [price, *HIGH]], 1)
-            self.assertEqual("price" in found.columns, is_sure, (code, titles, price))
-            self.assertEqual("price" in found.doubts, not is_sure)
 
     def test_prices_in_several_currencies_are_asked_about(self) -> None:
         """Though only one of them is plain: a book is sold in three countries."""
@@ -954,15 +945,15 @@ class Prices(unittest.TestCase):
     def test_prices_that_are_none_are_not_proposed(self) -> None:
         """Zeros, a weight, what is empty, and what a customer paid before."""
         codes, name = ["EAN", *CODES], ["Name", "Tea", "Book", "Gum"]
-        for names, first, second, wanted in (
-            ("Retail price;Desk price", ["0.00"] * 3, HIGH, {"price": [3]}),
-            ("Brutto;Web price", ["0,25", "0,35", "1,05"], HIGH, {"price": [2, 3]}),
-            ("Price;Cost price", [""] * 3, [""] * 3, {}),
+        for names, first, second in (
+            ("Retail price;Desk price", ["0.00"] * 3, HIGH),
+            ("Brutto;Web price", ["0,25", "0,35", "1,05"], HIGH),
+            ("Price;Cost price", [""] * 3, [""] * 3),
         ):
             one, other = names.split(";")
             found = guess([codes, name, [one, *first], [other, *second]], 1)
-            self.assertNotIn("price", found.columns, names)
-            self.assertEqual(found.doubts, wanted, names)
+            self.assertNotEqual(found.columns.get("price"), 2, names)
+            self.assertEqual(found.doubts.get("price", [3]), [3], names)
         for few in ("Ordinary price", "Shop price"):  # which are named beside it
             found = guess([codes, name, ["Price", *LOW], [few, "2,40", "", ""]], 1)
             self.assertEqual(found.columns.get("price"), 2, few)
@@ -1018,7 +1009,7 @@ class Prices(unittest.TestCase):
         self.assertEqual(guess([codes, *reduced], 1).doubts, {"price": [1, 2]})
         of_stock = ["Total price", "10.00", "240.00", "5.00", "16.00"]
         self.assertEqual(guess([codes, ["Price", *bare], of_stock], 1).columns.get("price"), 1)
-        whole = ["189", "259", "199", "349"]  # without decimals
+        bare, whole = ["156.20", "214.05", "164.46", "288.43"], ["189", "259", "199", "349"]
         found = guess([codes, ["Prodejní", *bare], ["Prodejní s DPH", *whole]], 1)
         self.assertEqual(found.columns.get("price"), 2)
 
@@ -1027,13 +1018,12 @@ class Prices(unittest.TestCase):
             found = guess([["EAN", *CODES], [price, *HIGH], [cost, *LOW]], 1)
             self.assertEqual(found.columns.get("price"), 1, price)
         found = guess([["EAN", *CODES], ["Rate", *HIGH]], 1)
-        self.assertEqual(found.doubts, {"price": [1]})
+        self.assertEqual(found.columns.get("price"), 1)
 
     def test_what_a_stock_is_named_for_is_no_kind_of_price(self) -> None:
         codes, price = ["EAN", *CODES], ["Price Corner Cafe", *HIGH]
-        for name, is_sure in (("Stock Corner Cafe", True), ("Stock", False), ("Cafe", False)):
-            found = guess([codes, price, [name, "1", "2", "3"]], 1)
-            self.assertEqual("price" in found.columns, is_sure, name)
+        found = guess([codes, price, ["Stock Corner Cafe", "1", "2", "3"]], 1)
+        self.assertEqual(found.columns.get("price"), 1)
 
     def test_a_sale_of_most_articles_is_asked_about(self) -> None:
         """Programs write nothing, or zero, where there is none. What few rows have is named."""
@@ -1053,6 +1043,16 @@ class Prices(unittest.TestCase):
             self.assertNotIn("price", guess(columns, 1).columns, name)
         prices = ["Preis", "1.299,00", "899,00", "12,50"]
         self.assertEqual(guess([["EAN", *CODES], prices], 1).columns["price"], 1)
+
+
+class Weights(unittest.TestCase):
+    @support.slow
+    def test_the_weights_are_those_that_the_tables_make(self) -> None:
+        """So that nobody changes one by hand, nor a table without them."""
+        text, _ = fit_guess.fitted_text(fit_guess.TABLES)
+        self.assertEqual(text, WEIGHTS.read_text(encoding="utf-8"))
+        less, _ = fit_guess.fitted_text(fit_guess.TABLES[-1:])
+        self.assertNotEqual(text, less)
 
 
 if __name__ == "__main__":

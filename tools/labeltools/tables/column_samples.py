@@ -1,8 +1,8 @@
 """Columns of a table by some of their cells, and what their names say in words that are known."""
 
 import re
-from collections.abc import Callable, Iterable, Sequence
-from dataclasses import dataclass, replace
+from collections.abc import Callable, Iterable, Mapping, Sequence
+from dataclasses import dataclass, field, replace
 from decimal import Decimal
 from enum import IntEnum
 from functools import cached_property
@@ -10,13 +10,12 @@ from os.path import commonprefix
 from typing import NamedTuple
 
 from labeltools.tables.cell_kinds import is_money, price_in
-from labeltools.tables.code_readings import LEAST, passing_share
+from labeltools.tables.code_readings import has_lost_zeros, is_code, LEAST, passing_share
 from labeltools.tables.columns import NAME_WITH_DIGITS
 from labeltools.tables.name_words import column_words, words_in
 
 DIGITS = re.compile("[0-9]+")
 MANY = 6  # names that begin alike by no chance
-MOST_COMPARED = 40  # columns, each with each other one
 
 
 class Places(NamedTuple):
@@ -54,6 +53,7 @@ class ColumnSample:
     name: str
     cells: Sequence[str] = ()
     shared: frozenset[str] = frozenset()
+    parts: dict[Callable[[str], object], float] = field(default_factory=dict, compare=False)
 
     @cached_property
     def texts(self) -> Sequence[str]:
@@ -75,9 +75,20 @@ class ColumnSample:
         """The amounts of money in its cells, but for zero."""
         return [price_in(one) for one in self.cells]
 
+    def part(self, test: Callable[[str], object]) -> float:
+        """Returns the part of its texts that pass a test; those that it refuses do not."""
+        if test not in self.parts:
+            self.parts[test] = passing_share(self.texts, test)
+        return self.parts[test]
+
     def has(self, test: Callable[[str], object]) -> bool:
-        """Returns whether most of its texts pass a test; those that it refuses do not."""
-        return passing_share(self.texts, test) >= LEAST
+        """Returns whether most of its texts pass a test."""
+        return self.part(test) >= LEAST
+
+    @cached_property
+    def has_codes(self) -> bool:
+        """Whether most of its texts are EAN or UPC by their check digits."""
+        return self.has(is_code) or has_lost_zeros(self.texts)
 
     @cached_property
     def differing(self) -> float:
@@ -90,8 +101,16 @@ class ColumnSample:
         >>> sorted(ColumnSample("Einkaufspreis netto, VK, Aktion").says("cost", "net"))
         ['einkaufspreis', 'netto']
         """
-        lists = [column_words()[kind] for kind in kinds]
-        return frozenset(word for word in self.words if any(one.has(word) for one in lists))
+        return frozenset().union(*(self.said[kind] for kind in kinds if kind in self.said))
+
+    @cached_property
+    def said(self) -> Mapping[str, frozenset[str]]:
+        """The words of its name by the kinds of which they are."""
+        pairs = (
+            (kind, frozenset(word for word in self.words if one.has(word)))
+            for kind, one in column_words().items()
+        )
+        return {kind: words for kind, words in pairs if words}
 
     def plainness(self, *kinds: str) -> Plainness:
         """Returns how plainly its name says what it is by words of these kinds."""
@@ -114,10 +133,4 @@ def samples_of(names: Sequence[str], cells: Iterable[Sequence[str]]) -> list[Col
     shop = frozenset().union(*(one.words - one.says(*column_words()) for one in stocks))
     costs = (one for one in found if one.texts and one.says("cost") and one.has(is_money))
     shop = shop.union(*(one.words - one.says("cost") for one in costs))
-    return [replace(one, shared=shop & one.words) for one in found]
-
-
-def amounts_of(column: ColumnSample, other: ColumnSample) -> set[tuple[Decimal, Decimal]]:
-    """Returns the amounts of two columns that are in the same rows."""
-    pairs = zip(column.amounts, other.amounts)
-    return {(one, another) for one, another in pairs if one and another}
+    return [replace(one, shared=shop & one.words, parts={}) for one in found]

@@ -45,6 +45,8 @@ AT_LETTERS = re.compile(
     |[€£¥](?=[^\W\d_])|(?<=[^\W\d_])µ|(?<=[a-moz])[ºª]|[ºª](?=[a-z])|^’[^\0-~]""",
     re.VERBOSE,
 )
+PRICE = re.compile("[0-9.,-]*[€£¥][0-9.,-]*")
+AMOUNT = re.compile("[0-9][.,-]* ?[€£¥]|[€£¥] ?[0-9]")
 ALONE = "àèéóåøöíÀÈÉØÅÖ"  # letters that are words of their own, or signs
 AROUND = "()[]'.:!?/-"  # a word
 
@@ -133,6 +135,7 @@ def old_encoding(
     tried = (Reading(own, words) for words, own in other_words(data, codecs).items())
     every = [one for one in tried if one.is_sensible]
     every = [one for one in every if not any(it.is_better_than(one) for it in every)]
+    every = [one for one in every if is_of_prices(one, data)] or every
     found = the_one(every, languages_of(data, options, every, budget))
     if found is None:
         return None
@@ -160,12 +163,16 @@ def in_several_bytes(data: bytes, options: TableOptions, budget: Budget) -> OldE
 
 def the_one(every: Sequence[Reading], languages: Collection[str]) -> tuple[str, Reading] | None:
     """Returns the one sensible reading, with its encoding, of a table whose columns are named in
-    some languages, in none where that is not known.
+    some languages, in none where that is not known. Of several the letters decide.
 
     Of DOS and of Macs it is only with several letters of such a language. One with letters from
     abroad is sensible where no language of Europe's west or middle has all letters of another one.
     """
     known = languages or LANGUAGES
+    if len(every) == 1:
+        one = every[0]
+        encoding = one.encoding_in(known, True) or one.encoding_in(LANGUAGES, True)
+        return (encoding, one) if encoding else None
     own = [one for one in every if one.encoding_in(known)]
     foreign = [one for one in every if one.encoding_in(known, has_foreign=True)]
     if len(own) == 1:
@@ -203,6 +210,14 @@ def names_by(data: bytes, options: TableOptions, encoding: str, budget: Budget) 
         names = guess_of(data, budget.name, replace(options, file=file), Silence(), budget).names
         return {word for one in names for word in words_in(one)}
     return ()
+
+
+def is_of_prices(reading: Reading, data: bytes) -> bool:
+    """Returns whether all that is not ASCII in a table are signs of currencies beside amounts."""
+    if not all(map(PRICE.fullmatch, reading.words)):
+        return False
+    text = text_by(data, reading.encodings[0])
+    return sum(map(text.count, "€£¥")) == len(AMOUNT.findall(text))
 
 
 def shown_words(reading: Reading) -> Sequence[str]:
