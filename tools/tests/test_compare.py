@@ -705,6 +705,7 @@ class Read(unittest.TestCase):
                     self.assertEqual(is_refused(wanted, other), is_seen)
 
     def test_a_picture_that_is_another_one(self) -> None:
+        pen.bar_boxes.cache_clear()  # of boxes by another test, whose guards are short
         found = found_of(options_of("pdf"), PAIR[:1])
         comparison = found.press(Silence()).comparison
         (page,) = pages_of(documents_of(found)[0], 203, 1, [1])

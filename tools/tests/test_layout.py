@@ -10,7 +10,8 @@ from typing import Any, Sequence
 import support
 from labeltools.designs.framed import styled_text
 from labeltools.layout.area import ROLL_SMALLEST
-from labeltools.layout.letters import extent_of, FONT, Letters
+from labeltools.layout.frame import PRICE_STYLES
+from labeltools.layout.letters import extent_of, FONT, Letters, OTHER_FONT
 from labeltools.lines.symbologies import SYMBOLOGIES
 from laying import laid_out, look
 
@@ -21,6 +22,7 @@ EVERY = (
     "code128 SHELF-7",
     "qr,level=H https://example.com/7",
 )
+WIDE = OTHER_FONT  # in which nothing is larger
 LONG = "Ein langer Name, der in zwei Zeilen steht und nicht in eine einzige passt"
 FULL: dict[str, Any] = {
     "title": LONG,
@@ -125,19 +127,25 @@ class Frames(unittest.TestCase):
     """The labels of a file look alike."""
 
     def test_one_long_title_makes_no_others_small(self) -> None:
-        """It is cut: the others are a third of the price, with no empty line below them."""
+        """It is cut, or has a line more: the price is as large as without it, and titles are no
+        smaller than in wide letters.
+        """
         usual = [
             {"title": f"Bleistift, weich, {number}B", "price": "0,80 €"} for number in range(7)
         ]
         long = {"title": "Heft „Größe A5“, kariert, 32 Blatt mit Rand", "price": "1,10 €"}
-        laid = laid_out(filed(*usual, long), (63.5, 38.1), 300)
-        frame = laid.labels[0].layout.frame
-        self.assertGreaterEqual(3.1 * frame.sizes["title"], frame.sizes["price"])
-        self.assertEqual(frame.lines, 1)
-        self.assertEqual(
-            [remark.reason for remark in laid.prepared.remarks],
-            ["row 9: a text is too long, so it ends in “…”: shorten it, or choose a larger label"],
-        )
+        for font in (FONT, OTHER_FONT):
+            laid = laid_out(filed(*usual, long), (63.5, 38.1), 300, font=font)
+            alone = laid_out(filed(*usual), (63.5, 38.1), 300, font=font)
+            frame = laid.labels[0].layout.frame
+            sizes = alone.labels[0].layout.frame.sizes
+            self.assertEqual(frame.sizes["price"], sizes["price"])
+            self.assertGreaterEqual(frame.sizes["title"], 43)
+            cut = (
+                "row 9: a text is too long, so it ends in “…”: shorten it, or choose a larger label"
+            )
+            said = [remark.reason for remark in laid.prepared.remarks]
+            self.assertEqual(said, [cut] if frame.lines == 1 else [])
 
     def test_a_wide_price_among_many_equal_labels(self) -> None:
         """What nine of ten labels have counts, not what nine of ten different labels have."""
@@ -188,8 +196,11 @@ class Sizes(unittest.TestCase):
             till = laid_out(filed(FULL), size, 600).labels[0].layout
             shelf = laid_out(filed(FULL), size, 600, design="shelf").labels[0].layout
             self.assertGreaterEqual(till.boxes["bars"].height, 0.35 * 95 * till.module, size)
-            self.assertGreaterEqual(shelf.frame.sizes["price"], till.frame.sizes["price"], size)
-        self.assertGreater(shelf.frame.sizes["price"], 1.3 * till.frame.sizes["price"])
+            prices = [
+                PRICE_STYLES[one.frame.price_style] * one.frame.sizes["price"]
+                for one in (shelf, till)
+            ]
+            self.assertGreaterEqual(*prices, size)
 
     def test_modules(self) -> None:
         """No module below 80 % of an EAN, 0.249 mm of it on a roll, or 0.25 mm of others."""
@@ -283,12 +294,85 @@ class Words(unittest.TestCase):
         )
         cut = 0
         for item in laid.labels:
-            text, style = styled_text("title", item.label, item.layout, laid.pen.letters.family)
+            text, style = styled_text("title", item.label, item.layout, laid.pen.letters)
             width = item.layout.boxes["title"].width
             layout = laid.pen.fitter.laid_out(text, style, width, style.size)
             self.assertEqual(laid.pen.is_shortened(item), layout.is_ellipsized(), item.label.title)
             cut += layout.is_ellipsized()
         self.assertTrue(5 < cut < 150, cut)
+
+
+class Prices(unittest.TestCase):
+    """Prices with raised cents, and old prices beside them."""
+
+    def numbers(self, price: str, size: tuple[float, float], **fields: str) -> list[Any]:
+        """The parts of the price of a label, and its old price, as they are placed."""
+        laid = laid_out(filed({"title": "Seife", "price": price, **fields}), size, 300)
+        (item,) = laid.labels
+        look(self, laid, item)
+        box = item.layout.boxes["price"]
+        texts = laid.pen.texts(item)
+        return [one for one in texts if one.box.top == box.top and one.box.height == box.height]
+
+    def test_cents_are_raised_where_that_makes_the_price_larger(self) -> None:
+        plain = laid_out(
+            filed({"title": "Seife", "price": "12,80 €"}), (63.5, 38.1), 300, font=WIDE
+        )
+        (item,) = plain.labels
+        parts = self.numbers("12,80 €", (63.5, 38.1))
+        self.assertEqual(len(parts), 3)
+        whole, cents, euro = parts
+        self.assertGreater(whole.text.size, item.layout.frame.sizes["price"])
+        self.assertLess(cents.text.size, whole.text.size)
+        self.assertGreaterEqual(cents.text.size * 25.4 / 300 * 0.729, 2.2)  # millimetres
+        self.assertLess(whole.box.right - whole.text.size * 0.1, cents.box.left)
+        self.assertGreater(euro.style.base, cents.style.base)
+
+    def test_prices_that_have_no_cents_stay_whole(self) -> None:
+        for price in ("12 €", "1.250", "1,259 €/l", "2 für 3,00 €", "٣٫٢٠"):
+            self.assertEqual(len(self.numbers(price, (63.5, 38.1))), 1, price)
+
+    def test_raised_cents_can_be_read(self) -> None:
+        seen = set()
+        for size, design in itertools.product(SIZES, ("article", "shelf")):
+            data = support.file_of([(EVERY[0], FULL)])
+            laid = laid_out(data, size, 203, design=design, is_roll=True)
+            for item in laid.labels:
+                box = item.layout.boxes["price"]
+                texts = laid.pen.texts(item)
+                inside = [one for one in texts if one.box.top == box.top and not one.style.struck]
+                parts = [one for one in inside if one.style.is_bold and not one.style.lines]
+                seen.add(len(parts))
+                if len(parts) > 1:
+                    self.assertGreaterEqual(laid.millimetres(parts[1].text.size) * 0.729, 2.2)
+        self.assertEqual(seen, {1, 3})
+
+    def test_an_old_price_is_beside_the_price(self) -> None:
+        seen = 0
+        for size in ((60.0, 40.0), (57.0, 32.0), (105.0, 74.0), (50.0, 25.0)):
+            for design in ("article", "shelf"):
+                line = {"title": "Seife", "price": "1,80 €", "was": "2,20 €", "unit": "1 l = 2 €"}
+                laid = laid_out(filed(line), size, 300, design=design, is_roll=True)
+                (item,) = laid.labels
+                look(self, laid, item)
+                struck = [one for one in laid.pen.texts(item) if one.style.struck]
+                self.assertEqual(len(struck), 1)
+                seen += struck[0].box.top == item.layout.boxes["price"].top
+        self.assertGreater(seen, 0)
+
+    def test_nothing_is_smaller_than_in_wide_letters(self) -> None:
+        fields = [FULL, PRICED, FULL_BUT_TITLE]
+        for line, size in itertools.product(EVERY, SIZES):
+            data = support.file_of([(line, one) for one in fields])
+            laid = laid_out(data, size, 300, is_roll=True)
+            wide = laid_out(data, size, 300, is_roll=True, font=WIDE)
+            self.assertEqual(len(laid.labels), len(wide.labels), (line, size))
+            for one, other in zip(laid.labels, wide.labels):
+                self.assertGreaterEqual(one.layout.module, other.layout.module)
+                bars, before = one.layout.boxes["bars"], other.layout.boxes["bars"]
+                self.assertGreaterEqual(bars.height, before.height)
+                for kind, least in other.layout.frame.sizes.items():
+                    self.assertGreaterEqual(one.layout.frame.sizes[kind], least, (line, size))
 
 
 class Measures(unittest.TestCase):

@@ -593,6 +593,25 @@ class WindowTest(Keeper):
         roll = ("--paper", "60x40", "--to", "zpl", "--dpi", "203")
         self.assertEqual(self.saved("labels.zpl"), self.by_commands(*roll))
 
+    def test_a_file_behind_a_label_printer_is_pdf(self) -> None:
+        """The language of a printer is not that of a file, which is opened by other programs."""
+        self.open()
+        self.change(roll=True, to="zpl", dpi="203")
+        self.remade(lambda: self.window.of_printers.choose(printers.FILE))
+        chosen = self.window.choices()
+        self.assertEqual((chosen["to"], chosen["dpi"], chosen["roll"]), ("pdf", "600", True))
+        self.assertTrue(self.saved("labels.pdf").startswith(b"%PDF-"))
+
+    def test_the_designs_that_come_with_it_are_a_folder_of_the_dialog(self) -> None:
+        folders = self.window.design_opener.list_shortcut_folders()
+        self.assertEqual([Path(one).name for one in folders], ["designs"])
+        self.assertIn("rack-100x50.svg", os.listdir(folders[0]))
+
+    def test_a_letter_among_digits_is_no_text_for_a_price(self) -> None:
+        self.open(TEA.format("4,5O"))
+        self.assertIn("has the letter O among its digits", self.rows()[0][2])
+        self.assertEqual([*self.answers()], [])
+
     def test_prints_the_file_that_the_command_prints(self) -> None:
         """A printer that takes PDF gets the file as it is."""
         scheduler.add("pdf", "pdf")

@@ -169,7 +169,7 @@ def add_size_options(group: Any) -> None:
     module = "the width of the narrowest bar, or of a square of QR (what fits best)"
     value(group, "--module", "MM", reads("38.1", 0.0001), module)
     value(group, "--note", "TEXT", str, "a line of text for all labels, such as a date")
-    value(group, "--font", "NAME", str, "the font of titles, texts and prices (DejaVu Sans)")
+    value(group, "--font", "NAME", str, "the font of titles, texts and prices (Liberation Sans)")
 
 
 def add_choice_options(group: Any) -> None:

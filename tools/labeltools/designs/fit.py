@@ -68,9 +68,10 @@ class Room:
         self.sign = cache(self.new_sign)
         self.largest = cache(self.new_largest)
         self.text = cache(self.new_text)
-        signs = [self.sign(line) for line in {one for text in counts for one in text.split("\n")}]
+        lines = {(line, self.of(text)) for text in counts for line in text.split("\n")}
+        signs = [self.sign(*line) for line in lines]
         if max(sign.bottom - sign.top for sign in signs) < LOW:
-            signs.append(self.sign(LETTER))
+            signs.append(self.sign(LETTER, letters))
         self.top = min(sign.top for sign in signs)
         self.bottom = max(sign.bottom for sign in signs)
         least = math.ceil((place.least or LEAST_TEXT) / dot)
@@ -91,12 +92,16 @@ class Room:
         wished = int(self.place.size / self.dot)
         return min(size, wished) if wished else size
 
-    def new_sign(self, line: str) -> Sign:
-        """Returns what a line takes, also where letters change beside others."""
+    def of(self, text: str) -> Letters:
+        """Returns the letters in which a text is."""
+        return self.letters.of(text, self.place.part == "price" and self.place.is_bold)
+
+    def new_sign(self, line: str, letters: Letters) -> Sign:
+        """Returns what a line takes in letters, also where they change beside others."""
         is_bold = self.place.is_bold
         if not line.strip():
             return BLANK
-        return self.letters.line(line, is_bold) or self.letters.whole_sign(line, is_bold)
+        return letters.line(line, is_bold) or letters.whole_sign(line, is_bold)
 
     def with_lines(self, text: str) -> str:
         """Returns a text whose line ends are spaces where there is no room for so many lines."""
@@ -106,7 +111,7 @@ class Room:
         """Returns the largest letters in which a text is whole, or else the least ones."""
         text = self.with_lines(text)
         sizes = sizes_between(self.least, self.largest(text.count("\n") + 1))
-        width = math.inf if "\n" in text else extent_of(self.sign(text)).width
+        width = math.inf if "\n" in text else extent_of(self.sign(text, self.of(text))).width
         if width <= self.wide / sizes[0] / HINTING:  # most texts fit so
             return Fit(sizes[0], text)
         whole = self.lines_of(text, sizes[0]) if self.most_lines > 1 else None
@@ -125,11 +130,12 @@ class Room:
         fit.
         """
         room = self.wide / size / HINTING
-        if "\n" not in text and extent_of(self.sign(text)).width <= room:
+        letters = self.of(text)
+        if "\n" not in text and extent_of(self.sign(text, letters)).width <= room:
             return text
         found = []
         for paragraph in text.split("\n"):
-            lines = self.wrapped(paragraph, room - SIDE)
+            lines = self.wrapped(paragraph, letters, room - SIDE)
             if not lines:
                 return None
             found.append(LINE_END.join(lines))
@@ -138,23 +144,23 @@ class Room:
         is_fitting = lines_there <= self.most_lines and size <= self.largest(lines_there)
         return whole if is_fitting else None
 
-    def wrapped(self, paragraph: str, room: float) -> list[str]:
+    def wrapped(self, paragraph: str, letters: Letters, room: float) -> list[str]:
         """Returns the lines of a paragraph; none where a part of it is too wide. A price is one
         part.
         """
         is_price = self.place.part in PRICES
         lines = [""]
         used = 0.0
-        for part in [paragraph] if is_price else self.letters.parts(paragraph):
+        for part in [paragraph] if is_price else letters.parts(paragraph):
             bare = part.rstrip(" ")
-            wide = self.sign(bare).advance
+            wide = self.sign(bare, letters).advance
             if wide > room:
                 return []
             if used and used + wide > room:
                 lines.append("")
                 used = 0.0
             lines[-1] += part
-            used += wide + self.letters.spaces[self.place.is_bold] * (len(part) - len(bare))
+            used += wide + letters.spaces[self.place.is_bold] * (len(part) - len(bare))
         return [line.rstrip(" ") for line in lines]
 
     def new_text(self, text: str) -> PlacedText:
@@ -175,7 +181,7 @@ class Room:
         base = round((self.high - tall) * place.down - self.top * size)
         struck = len(text.encode()) if place.part == "was" else 0
         most = lines if lines > 1 or fit.is_cut else 0
-        how = (self.letters.family, place.is_bold, size, most, place.across, 0.0, struck, base)
+        how = (self.of(text).family, place.is_bold, size, most, place.across, 0.0, struck, base)
         return PlacedText(place, written, self.box, Style(*how))
 
     def is_parted_number(self, word: str) -> bool:
@@ -183,7 +189,7 @@ class Room:
         lines it would be two numbers.
         """
         room = self.wide / self.least / HINTING - SIDE
-        return bool(NUMBER.fullmatch(word)) and self.sign(word).advance > room
+        return bool(NUMBER.fullmatch(word)) and self.sign(word, self.of(word)).advance > room
 
 
 def count_of(text: str) -> int:

@@ -29,7 +29,7 @@ from labeltools.paper.stock import size_text
 
 FIELDS = ("title", "price", "unit", "was", "code")  # of each label
 KEPT = 16  # columns of labels
-NO_FRAME = Frame("own", {}, {}, 0, 0, 0, 0, 0, 0, True, 0.0)
+NO_FRAME = Frame("own", {}, {}, 0, 0, 0, 0, 0, 0, True, 0.0, 0.0, "price", 0.0)
 
 
 @dataclass(frozen=True, slots=True)

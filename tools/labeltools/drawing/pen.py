@@ -15,9 +15,9 @@ from labeltools.designs.svg_design import is_light
 from labeltools.layout.fitting import Fitted, Fitter, MIDDLE, Placed, Style
 from labeltools.layout.glyphs import LINE_END
 from labeltools.layout.layout import LaidOut, Page
-from labeltools.layout.letters import DIGITS_FONT, Letters
+from labeltools.layout.letters import DATA_FONT, Letters, usual_digits_font
 from labeltools.layout.medium import Medium
-from labeltools.layout.pango import font_options, PangoCairo
+from labeltools.layout.pango import asked_size, font_options, PangoCairo
 from labeltools.lines.engine import bytes_a_row, LABELS_FAILED, Modules
 from labeltools.lines.symbologies import Span, SYMBOLOGIES, Symbology
 from labeltools.paper.box import Box
@@ -28,10 +28,12 @@ INSET = 0.01  # of a dot: what touches a dot paints it
 SHOWN = {code: 0x2400 + code for code in range(32)} | {127: 0x2421}  # control characters
 UPRIGHT = (1, 0, 0, 1)  # of a matrix that neither turns nor scales
 REVERSED = bytes(int(f"{byte:08b}"[::-1], 2) for byte in range(256))
-# modules: how much longer guards are, where digits begin below bars, their size
+# modules: how much longer guards are, where digits begin below bars, the size of data there, the
+# height of digits
 GUARD = 5
 DIGITS_TOP = 1
 DIGITS_SIZE = 10.4
+DIGITS_HIGH = 7.7
 LARGE = 1000  # dots: the size in which digits are measured
 DIGITS = "0123456789"
 EDGE = 4.0  # dots: white around letters on a tint, of which letters cover half
@@ -56,7 +58,9 @@ class Pen:
         self.options = font_options(medium.is_dots)
         self.fitter = Fitter(letters, medium.is_dots)
         # Cairo keeps a face as it was first used: a name of its own for each medium
-        self.digits_face = cairo.ToyFontFace(DIGITS_FONT + " " * medium.is_dots)
+        self.digits_face = cairo.ToyFontFace(
+            usual_digits_font(medium.is_dots) + " " * medium.is_dots
+        )
         large = self.digits_font(font_options(False), LARGE)
         extents = large.text_extents("0")
         self.digit_width = extents.x_advance / LARGE
@@ -214,7 +218,7 @@ class Pen:
         canvas.set_font_options(self.options)
         for (face, size), glyphs in runs.items():
             canvas.set_font_face(face)
-            canvas.set_font_size(size)
+            canvas.set_font_size(asked_size(face.get_family(), size))
             if face.get_family().strip() in self.medium.outlines:
                 canvas.glyph_path(glyphs)
                 canvas.fill()
@@ -255,11 +259,11 @@ class Pen:
         module = symbol.module
         if not symbol.symbology.is_number:
             size = round(DIGITS_SIZE * module)
-            style = Style(DIGITS_FONT, False, size, 0, MIDDLE, 0.3, 0)
+            style = Style(DATA_FONT, False, size, 0, MIDDLE, 0.3, 0)
             text = self.fitter.found(data.translate(SHOWN), style, box.width, box.height)
             self.show(canvas, text, style, (left, top), runs)
             return
-        base = top + round((DIGITS_TOP + DIGITS_SIZE * self.digit_height) * module)
+        base = top + round((DIGITS_TOP + DIGITS_HIGH) * module)
         for first, last, size, start in self.digit_places(symbol.symbology.name, module):
             glyphs, wide = self.digits_of_size(size)
             places = accumulate(repeat(wide), initial=left + start)
@@ -279,7 +283,8 @@ class Pen:
         places = []
         for first, last, left, right in SYMBOLOGIES[symbology].places:
             width = (last - first) * self.digit_width
-            size = round(min(DIGITS_SIZE, (right - left - 0.5) / width) * module)
+            most = DIGITS_HIGH / self.digit_height
+            size = round(min(most, (right - left - 0.5) / width) * module)
             start = round((left + right) * module - width * size) // 2
             places.append((first, last, size, start))
         return places

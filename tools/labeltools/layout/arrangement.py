@@ -33,11 +33,14 @@ class TitlePart(NamedTuple):
 
 
 class PartSize(NamedTuple):
-    """Letters of a part of a label: their size, their lines, the height of all."""
+    """Letters of a part of a label: their size, their lines, the height of all; how prices are
+    written.
+    """
 
     size: int
     lines: int
     height: int
+    style: str = "price"
 
 
 def rest_below(demand: JointNeeds, head: TitlePart) -> int:
@@ -83,9 +86,10 @@ class Arrangement:
             boxes["details"] = Box(inset, below, rooms.words, details)
         if is_foot:
             foot = Box(area.width - rooms.beside - inset, low, rooms.beside, code)
-            boxes["details"] = foot._replace(top=area.height - details, height=details)
+            boxes["details"] = foot._replace(height=details)
             if self.head.is_foot_text:
-                boxes["text"] = foot._replace(height=self.head.text_height)
+                high = self.head.text_height
+                boxes["text"] = foot._replace(top=area.height - high, height=high)
         return boxes
 
     def spread(self, spare: int, low: int, has_numbers: bool) -> tuple[int, int]:

@@ -6,10 +6,11 @@ import math
 from typing import NamedTuple
 
 from labeltools.layout.arrangement import Arrangement, PartSize, rest_below, STACKED, TitlePart
-from labeltools.layout.frame import Frame, HINTING, LEAST_TEXT, LINE
+from labeltools.layout.frame import Frame, HINTING, LEAST_TEXT, LINE, PRICE_STYLES
 from labeltools.layout.joint_needs import JointNeeds, Level, module_in, Rooms
 
 DETAILS_PART = 1.15  # letters of details as a part of those of texts
+LARGEST_DETAILS = 1.6  # the same where there is room
 TEXT_OF_TITLE = 0.6  # texts below titles without a price, as a part of these
 LEAST_PRICE = 2.1  # millimetres: the smallest letters of prices
 SLACK = 0.2  # white at the sides of a text beside a code, in letters
@@ -44,6 +45,7 @@ class Attempt(NamedTuple):
         price = self.price(rooms, head, details, low)
         if price is None or details.size < self.demand.area.dots(LEAST_TEXT):
             return None
+        details = self.larger_details(rooms, head, details, price, low)
         made = Arrangement(self.kind, self.demand, rooms, head, details, price, low)
         return self.framed(made)
 
@@ -94,6 +96,28 @@ class Attempt(NamedTuple):
             size = min(size, math.floor(rooms.price / max(was, unit)))
         return PartSize(size, lines, math.ceil(lines * LINE * size))
 
+    def larger_details(
+        self, rooms: Rooms, head: TitlePart, details: PartSize, price: PartSize, low: int
+    ) -> PartSize:
+        """Returns old price and unit price larger, where nothing else takes the room."""
+        demand = self.demand
+        was, unit = demand.details
+        if not details.lines or len(demand.prices) == 1:  # a first frame, of the least sizes
+            return details
+        if self.kind == "foot":
+            room = low - head.text_height * head.is_foot_text
+        else:
+            room = rest_below(demand, head) - price.height
+        if self.kind == "below":
+            room -= max(rooms.most, low) + demand.gap
+        wide = was + unit + 2 if details.lines == 1 and was and unit else max(was, unit)
+        high = math.floor(room / (details.lines * LINE))
+        most = round(LARGEST_DETAILS * demand.text_size)
+        size = min(math.floor(rooms.price / wide), high, most)
+        if size <= details.size:
+            return details
+        return PartSize(size, details.lines, math.ceil(details.lines * LINE * size))
+
     def price(self, rooms: Rooms, head: TitlePart, details: PartSize, low: int) -> PartSize | None:
         """Returns the price, as large as the room allows; None where it and the code do not fit."""
         demand = self.demand
@@ -109,10 +133,10 @@ class Attempt(NamedTuple):
         if self.kind != "foot":
             high -= details.height
         wide = rooms.words if is_stacked else rooms.price
-        size = demand.price_in(wide, high)
+        style, size = demand.styled_price_in(wide, high)
         if size < max(self.level.price * self.title, area.dots(LEAST_PRICE)):
             return None
-        return PartSize(size, 1, math.ceil(HINTING * size * demand.price_height))
+        return PartSize(size, 1, math.ceil(HINTING * size * demand.price_height), style)
 
     def framed(self, made: Arrangement) -> Frame:
         """Returns the frame of what is arranged. A narrower module and cut titles have to be worth
@@ -120,7 +144,9 @@ class Attempt(NamedTuple):
         """
         demand, boxes, rooms, head = self.demand, made.boxes(), made.rooms, made.head
         bars = min(rooms.bars, boxes["code"].height - rooms.digits) if demand.bars else 0
-        score = demand.score(self.kind, self.title, made.price.size, boxes["code"].height)
+        price = made.price.size * PRICE_STYLES[made.price.style]
+        is_sure = head.is_whole and head.whole == 1.0 and head.lines <= 1
+        score = demand.score(self.kind, self.title, price, boxes["code"].height)
         return Frame(
             kind=self.kind,
             boxes=boxes,
@@ -137,5 +163,8 @@ class Attempt(NamedTuple):
             text_lines=demand.lines,
             details_lines=made.details.lines,
             is_whole=head.is_whole,
+            room_of_titles=math.inf if is_sure else head.lines * rooms.words / self.title,
+            title_line=rooms.words / self.title,
+            price_style=made.price.style,
             score=score * self.module * head.whole**2 * (1.0 if head.is_whole else 0.5),
         )

@@ -10,7 +10,7 @@ import cairo
 from labeltools.layout.frame import LINE
 from labeltools.layout.glyphs import BY_PAIRS, GlyphRow, Glyphs, LINE_END
 from labeltools.layout.letters import Letters
-from labeltools.layout.pango import font_options, new_layout, Pango, pango_context, UNIT
+from labeltools.layout.pango import asked_size, font_options, new_layout, Pango, pango_context, UNIT
 from labeltools.paper.box import Box
 
 NOT_LATIN = re.compile("[^\0-\u024f]")  # letters that may leave their line
@@ -194,7 +194,8 @@ class Fitter:
         weight = cairo.FONT_WEIGHT_BOLD if is_bold else cairo.FONT_WEIGHT_NORMAL
         # Cairo keeps a face as it was first used: in dots these have a name that no other one has
         face = cairo.ToyFontFace(family + "  " * self.is_dots, cairo.FONT_SLANT_NORMAL, weight)
-        scale = cairo.Matrix(size, 0, 0, size)
+        asked = asked_size(family, size)
+        scale = cairo.Matrix(asked, 0, 0, asked)
         font = cairo.ScaledFont(face, scale, cairo.Matrix(), font_options(self.is_dots))
         style = Style(family, is_bold, size, int(has_lines), LEFT, 0.0, 0)
         return Glyphs(face, font, self.new_blank(style, -1, size))

@@ -19,6 +19,10 @@ MOST_OF = 0.9
 LEAST_SHARE = 0.75
 
 
+# how prices are written, and what their size is worth so: a field of Need each
+PRICE_STYLES = {"price": 1.0, "raised": 0.94, "narrow": 0.92, "narrow_raised": 0.87}
+
+
 class Extent(NamedTuple):
     """The width and height of the ink of a text, in sizes of its letters."""
 
@@ -29,8 +33,10 @@ class Extent(NamedTuple):
 class Need(NamedTuple):
     """What decides where the parts of a label are: the symbology, width and height of its code in
     modules (bars without a height of their own have 1); the widths of the lines of its title, the
-    lines of its text and the width of the widest, the width and height of the ink of its price, the
-    widths of its old price and its unit price; 0 for what is not there.
+    lines of its text and the width of the widest, the width and height of the ink of its price, its
+    width with raised cents, in narrow letters, and in these with raised cents, the widths of its
+    old price and its unit price; 0 for what is not there. `plain` is the need in wide letters, in
+    which a first frame is found, where these are narrower.
     """
 
     symbology: str
@@ -41,8 +47,12 @@ class Need(NamedTuple):
     text: float
     price: float
     price_height: float
+    raised: float
+    narrow: float
+    narrow_raised: float
     was: float
     unit: float
+    plain: "Need | None" = None
 
     @property
     def code(self) -> tuple[str, int, int]:
@@ -67,7 +77,8 @@ class Frame:
 
     `sizes` are those of letters; `module` is that of bars, `bars` their height, `digits` the height
     below them; `lines`, `text_lines` and `details_lines` are the most of each; `is_whole` is
-    whether most titles are.
+    whether most titles are, and `room_of_titles` the width of all lines of a title, in letters of
+    its size, or infinite where each has one line and is whole; `title_line` that of one line; `price_style` is one of `PRICE_STYLES`.
     """
 
     kind: str
@@ -80,7 +91,23 @@ class Frame:
     text_lines: int
     details_lines: int
     is_whole: bool
+    room_of_titles: float
+    title_line: float
+    price_style: str
     score: float
+
+
+def styles_from(style: str) -> list[str]:
+    """Returns the styles in which a price is tried where most have one of them: narrower ones are
+    for prices that are wider than most.
+
+    >>> styles_from("raised")
+    ['raised', 'narrow_raised']
+    """
+    styles = [*PRICE_STYLES]
+    if style == "price":
+        return ["price", "narrow"]
+    return [one for one in styles[styles.index(style) :] if one.endswith("raised") or one == style]
 
 
 def common_value(values: Mapping[float, int]) -> float:

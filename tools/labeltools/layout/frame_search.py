@@ -6,12 +6,14 @@ the label, which is the root of its area. What is demanded goes down in four lev
 that has a frame counts. Lengths are in dots, those of texts in sizes of their letters.
 """
 
+from collections import Counter
 from itertools import product
 from typing import Mapping, Sequence
 
 from labeltools.layout.area import Area
 from labeltools.layout.arrangement import ARRANGEMENTS
 from labeltools.layout.attempt import Attempt
+from labeltools.layout.code_boxes import is_no_less
 from labeltools.layout.frame import Frame, Need
 from labeltools.layout.joint_needs import JointNeeds, Level, LOWEST_PART, module_in
 
@@ -30,8 +32,23 @@ WHOLE_TITLES = 2  # levels on which whole titles are looked for before titles ar
 
 
 def frame_of(area: Area, needs: Mapping[Need, int]) -> Frame | None:
-    """Returns the frame of labels, or None where no one frame serves all of them."""
-    demand = JointNeeds(area, needs)
+    """Returns the frame of labels, or None where no one frame serves all of them.
+
+    It is found in wide letters first. Narrower ones and raised cents are taken where that makes
+    anything larger, and nothing smaller.
+    """
+    plain: Counter[Need] = Counter()
+    for need, labels in needs.items():
+        plain[need.plain or need] += labels
+    found = searched(JointNeeds(area, plain, ("price",)))
+    if found is None or all(need.plain is None for need in needs):
+        return found
+    return searched(JointNeeds(area, needs), found) or found
+
+
+def searched(demand: JointNeeds, least: Frame | None = None) -> Frame | None:
+    """Returns the frame of labels in which nothing is smaller than in another one."""
+    area = demand.area
     fits = (module_in(area, need, area.width, area.width) for need in demand.bars)
     if not all(fits) or min(area.width, area.height) < 1:
         return None
@@ -39,7 +56,7 @@ def frame_of(area: Area, needs: Mapping[Need, int]) -> Frame | None:
     for number, wishes in product(range(len(LEVELS)), rounds_of(demand)):
         if cut is not None and number >= WHOLE_TITLES:
             break
-        best = best_frame(demand, LEVELS[number], wishes)
+        best = best_frame(demand, LEVELS[number], wishes, least)
         if best is not None and best.is_whole:
             return best
         cut = cut or best
@@ -60,12 +77,15 @@ def rounds_of(demand: JointNeeds) -> list[list[int]]:
     return [[one] for one in wishes] if is_for_tills else [wishes]
 
 
-def best_frame(demand: JointNeeds, level: Level, wishes: Sequence[int]) -> Frame | None:
+def best_frame(
+    demand: JointNeeds, level: Level, wishes: Sequence[int], least_frame: Frame | None
+) -> Frame | None:
     """Returns the best frame on a level, of all arrangements, sizes of titles and modules: those
     that cannot be better than one that is found are not tried.
     """
     best = None
     area = demand.area
+    needs = demand.deciding
     parts = TITLES_WITH_PRICE if demand.price else TITLES_ALONE
     least = area.dots(LEAST_TITLE)
     rooms = {at: demand.rooms(level, *at) for at in product(ARRANGEMENTS, wishes)}
@@ -78,6 +98,8 @@ def best_frame(demand: JointNeeds, level: Level, wishes: Sequence[int]) -> Frame
         is_smallest = title == titles[-1]
         attempt = Attempt(demand, level, kind, title, is_smallest, is_sparing, module)
         frame = attempt.frame(rooms[kind, module])
+        if frame and least_frame and not is_no_less(frame, least_frame, area, needs):
+            continue
         if frame and (best is None or frame.score > best.score):
             best = frame
     return best

@@ -14,7 +14,7 @@ import cairo
 from labeltools.layout.pango import UNIT
 from labeltools.paper.box import Box
 
-BY_PAIRS = "dejavu "  # how the names of these fonts begin
+BY_PAIRS = ("dejavu ", "liberation sans")  # how the names of these fonts begin
 # letters that stand one behind another: Latin, Greek, Cyrillic; punctuation; currencies
 SIMPLE = ((0x20, 0x2FF), (0x370, 0x482), (0x48A, 0x52F), (0x2010, 0x2027), (0x20A0, 0x20CF))
 OTHERS = re.compile("[^" + "".join(f"{chr(one)}-{chr(other)}" for one, other in SIMPLE) + "]")

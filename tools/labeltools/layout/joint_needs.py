@@ -5,9 +5,11 @@ dots, those of texts in sizes of their letters.
 import math
 from collections import Counter
 from dataclasses import dataclass, field
-from typing import Callable, Mapping, NamedTuple
+from functools import cached_property
+from typing import Callable, Mapping, NamedTuple, Sequence
 
 from labeltools.layout.area import Area, LARGEST_QR, MODULE
+from labeltools.layout.price import LEAST_RAISED
 from labeltools.layout.frame import (
     common_value,
     DIGITS_ROOM,
@@ -16,13 +18,15 @@ from labeltools.layout.frame import (
     limit_of_most,
     LOWEST,
     Need,
+    PRICE_STYLES,
 )
 
 # as parts of a label's size: letters of texts, and white between two parts
 TEXT_PART = 1 / 18
 GAP_PART = 1 / 36
 LEAST_GAP = 0.6  # millimetres
-PRICE_OF_TITLE = 3.0  # a larger price, in titles, is worth no more
+PRICE_OF_TITLE = 3.0  # a larger price, in titles, is worth no more in a first frame
+LARGEST_PRICE_OF_TITLE = 6.0  # and in another one, in which titles are no smaller
 HIGHEST_PRICE = 0.45  # of the height of a label: the ink of its price
 FULL_LINE = 0.97  # of a line: a title of one line takes no more
 WRAPPED = 1.2  # by how much words leave lines of a title empty
@@ -62,10 +66,13 @@ class Rooms(NamedTuple):
 
 @dataclass
 class JointNeeds:
-    """What some labels need together; each need is given with how many labels have it."""
+    """What some labels need together; each need is given with how many labels have it, and how
+    their prices may be written.
+    """
 
     area: Area
     needs: Mapping[Need, int]
+    styles: Sequence[str] = tuple(PRICE_STYLES)
     lines_found: dict[tuple[int, int], Counter[float]] = field(default_factory=dict)
 
     def __post_init__(self) -> None:
@@ -83,12 +90,30 @@ class JointNeeds:
                 self.titles[need.title] += labels
         self.lines = max(need.lines for need in self.needs)
         self.price = common_value(count(self.needs, "price", lambda need: need.price > 0))
+        self.prices = {
+            style: common_value(count(self.needs, style, lambda need: need.price > 0))
+            for style in self.styles
+        }
+        self.least_raised = area.dots(LEAST_RAISED)
         self.price_height = max(need.price_height for need in self.needs)
         self.text = common_value(count(self.needs, "text", lambda need: True))
         self.details = (
             max(need.was for need in self.needs),
             max(need.unit for need in self.needs),
         )
+
+    @cached_property
+    def deciding(self) -> list[Need]:
+        """The needs in which something may be smaller than in another frame: one of each code, and
+        those whose prices are wider than most.
+        """
+        codes = {need.code: need for need in self.needs}
+        wide = [
+            need
+            for need in self.needs
+            if any(getattr(need, style) > width for style, width in self.prices.items())
+        ]
+        return [*codes.values(), *wide]
 
     @property
     def has_words(self) -> bool:
@@ -185,18 +210,38 @@ class JointNeeds:
         return int(max(self.squares, default=0) * most)
 
     def price_in(self, wide: int, high: int) -> int:
-        """Returns the size of the letters of the price in a room; 0 if there is no price."""
+        """Returns the size of the letters of the price in a room, which is largest; 0 if there is
+        no price.
+        """
+        return self.styled_price_in(wide, high)[1]
+
+    def styled_price_in(self, wide: int, high: int) -> tuple[str, int]:
+        """Returns how the price is written in a room, and the size of its letters: with raised
+        cents, where they are large enough, and narrow only where that makes it larger.
+        """
         if not self.price:
-            return 0
+            return "price", 0
         high = min(high, int(HIGHEST_PRICE * self.area.height))
-        return math.floor(min(wide / self.price, high / self.price_height) / HINTING)
+        high_size = high / self.price_height
+        sizes = {
+            style: math.floor(min(wide / width, high_size) / HINTING)
+            for style, width in self.prices.items()
+        }
+        allowed = {
+            style: size
+            for style, size in sizes.items()
+            if size >= self.least_raised or not style.endswith("raised")
+        }
+        style = max(allowed, key=lambda one: allowed[one] * PRICE_STYLES[one])
+        return style, allowed[style]
 
     def score(self, kind: str, title: int, price: int, code: int) -> float:
         """Returns what an arrangement is worth by the letters of titles and of the price, and
         without a price by the height of its code.
         """
         if self.price:
-            return min(price, PRICE_OF_TITLE * title) * math.sqrt(title)
+            most = PRICE_OF_TITLE if len(self.prices) == 1 else LARGEST_PRICE_OF_TITLE
+            return min(price, most * title) * math.sqrt(title)
         return title + 0.1 * code + self.text_size * (kind == "below")
 
 

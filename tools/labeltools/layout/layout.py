@@ -13,10 +13,11 @@ from typing import Iterator, Mapping, Sequence
 from labeltools.common.messages import Origin, Talk
 from labeltools.common.text import joined, Remedy, Text
 from labeltools.layout.area import Area
-from labeltools.layout.frame import Frame, HINTING, Need
+from labeltools.layout.code_boxes import code_boxes
+from labeltools.layout.frame import Frame, HINTING, Need, PRICE_STYLES, styles_from
 from labeltools.layout.frame_search import frame_of
-from labeltools.layout.joint_needs import module_in
 from labeltools.layout.letters import Letters
+from labeltools.layout.price import price_widths
 from labeltools.lines.engine import Modules
 from labeltools.lines.file import LineRecord
 from labeltools.lines.symbologies import SYMBOLOGIES, Symbology
@@ -34,7 +35,7 @@ ROUNDED = 8
 ROUNDED_PRICE = 32
 MOST_HEIGHT = 150  # millimetres: the highest label that a message proposes
 ASKED = 256  # labels between two calls of `go_on`
-NUMBERS = [name for name in Need._fields if name not in ("symbology", "title")]
+NUMBERS = [name for name in Need._fields if name not in ("symbology", "title", "plain")]
 
 
 @dataclass(frozen=True, slots=True)
@@ -160,21 +161,25 @@ def lay_out(labels: Sequence[PrintLabel], area: Area, letters: Letters, talk: Ta
 def need_of(label: PrintLabel, letters: Letters) -> Need:
     """Returns what a label needs."""
     whole = label.record.label
-    price = letters.extent(whole.price, True)
+    price = letters.of(whole.price).extent(whole.price, True)
+    prices = price_widths(whole.price, letters)
+    of_title, of_text = letters.of(label.title), letters.of(label.text)
     text = label.text.split("\n") if label.text else []
     return Need(
         label.record.symbology,
         label.modules.width,
         label.modules.height,
         tuple(
-            rounded(letters.extent(line, True).width) for line in label.title.split("\n") if line
+            rounded(of_title.extent(line, True).width) for line in label.title.split("\n") if line
         ),
         len(text),
-        rounded(max((letters.extent(line, False).width for line in text), default=0.0)),
+        rounded(max((of_text.extent(line, False).width for line in text), default=0.0)),
         rounded(price.width, ROUNDED_PRICE),
         rounded(price.height, ROUNDED_PRICE),
-        rounded(letters.extent(whole.was, False).width),
-        rounded(letters.extent(whole.unit, False).width),
+        *(rounded(width, ROUNDED_PRICE) for width in prices[1:]),
+        rounded(letters.of(whole.was + whole.unit).extent(whole.was, False).width),
+        rounded(letters.of(whole.was + whole.unit).extent(whole.unit, False).width),
+        need_of(label, letters.others) if letters.others is not letters else None,
     )
 
 
@@ -262,7 +267,9 @@ def alone(need: Need) -> Need:
     """Returns a need that fits by itself where this one does: on the last level a title has one
     line, however long it is.
     """
-    return need._replace(title=(1.0,) if need.title else (), price=rounded(need.price))
+    widths = {style: rounded(getattr(need, style)) for style in PRICE_STYLES}
+    plain = alone(need.plain) if need.plain else None
+    return need._replace(title=(1.0,) if need.title else (), plain=plain, **widths)
 
 
 def layout_in(frame: Frame, need: Need, area: Area) -> Layout | None:
@@ -284,28 +291,9 @@ def layout_in(frame: Frame, need: Need, area: Area) -> Layout | None:
             boxes[kind] = box
     size = frame.sizes["price"]
     price = boxes.get("price")
-    is_small = price is not None and HINTING * size * need.price > price.width + size / 4
+    wide = min(getattr(need, style) for style in styles_from(frame.price_style))
+    is_small = price is not None and HINTING * size * wide > price.width + size / 4
     return Layout(frame, need.kind, module, boxes, is_small)
-
-
-def code_boxes(frame: Frame, need: Need, area: Area) -> dict[str, Box] | None:
-    """Returns the places of a code and of what is below its bars; None where it does not fit."""
-    code = frame.boxes["code"]
-    module = module_in(area, need, frame.module, code.width)
-    if not need.is_bars:
-        module = area.qr_module(need.kind, need.width, min(code.width, code.height))
-    wide = need.width * module
-    left = code.left + ((code.width - wide) // 2 if frame.kind == "below" else 0)
-    if not need.is_bars:
-        top = code.top + (code.height - wide) // 2
-        return {"bars": Box(left, top, wide, wide)} if module else None
-    high = need.height * module if need.height > 1 else frame.bars - frame.bars % max(1, module)
-    if not module or not 0 < high <= code.height - frame.digits:
-        return None
-    low = code.bottom - frame.digits
-    if frame.kind != "foot":
-        low -= (code.height - max(frame.bars, high) - frame.digits) // 2
-    return {"bars": Box(left, low - high, wide, high), "digits": Box(left, low, wide, frame.digits)}
 
 
 def reason(needs: Sequence[Need], area: Area) -> Text:
@@ -349,7 +337,11 @@ def reason(needs: Sequence[Need], area: Area) -> Text:
 def largest_of(needs: Sequence[Need]) -> Need:
     """Returns a need that fits only where each of these does."""
     most = {name: max(getattr(need, name) for need in needs) for name in NUMBERS}
-    return needs[0]._replace(title=max((need.title for need in needs), key=sum), **most)
+    plains = [need.plain for need in needs if need.plain]
+    plain = largest_of(plains) if plains else None
+    return needs[0]._replace(
+        title=max((need.title for need in needs), key=sum), plain=plain, **most
+    )
 
 
 def smallest_for(need: Need, area: Area, width: int) -> Size | None:

@@ -17,8 +17,11 @@ MEASURED = 200  # dots: the size of letters in which they are measured
 SCALE = MEASURED * UNIT
 MOST_NAMED = 9  # letters that a message names
 SPACED = re.compile("[^ ]+ *| +")
-FONT = "DejaVu Sans"  # of titles, texts and prices
-DIGITS_FONT = "DejaVu Sans Mono"  # of what is below bars
+FONT = "Liberation Sans"  # of titles and texts
+PRICE_FONT = "Liberation Sans Narrow"  # of prices beside FONT
+OTHER_FONT = "DejaVu Sans"  # of texts with letters of other scripts, and of all where FONT is not
+DATA_FONT = "DejaVu Sans Mono"  # of what is below the bars of Code 128
+DIGITS_FONT = "OCR B"  # of digits below bars in dots; Cairo cannot embed it into a PDF
 FONTS_OF_LETTERS = "apt-get install fonts-noto-core fonts-noto-cjk"
 FONTS_OF_SIGNS = "apt-get install fonts-symbola"
 
@@ -66,21 +69,48 @@ def font_for(family: str) -> str:
     return str(found.describe().get_family() or "") if found else ""
 
 
+def is_there(family: str) -> bool:
+    """Returns whether there is a font."""
+    return font_for(family).lower() == family.lower()
+
+
+def usual_digits_font(is_dots: bool) -> str:
+    """Returns the font of digits below bars, in dots or in a drawing."""
+    return DIGITS_FONT if is_dots and is_there(DIGITS_FONT) else DATA_FONT
+
+
+def fonts_of(family: str) -> tuple[str, str, str]:
+    """Returns the fonts of texts, of prices and of other scripts for a wanted font: only the usual
+    one has others beside it.
+
+    >>> fonts_of("DejaVu Serif")
+    ('DejaVu Serif', 'DejaVu Serif', 'DejaVu Serif')
+    """
+    if family != FONT:
+        return family, family, family
+    if not is_there(FONT):
+        return OTHER_FONT, OTHER_FONT, OTHER_FONT
+    return FONT, PRICE_FONT if is_there(PRICE_FONT) else FONT, OTHER_FONT
+
+
 def require_fonts(*families: str) -> None:
     """Raises `ToolError` where a font is not there."""
     for family in families:
-        if font_for(family).lower() != family.lower():
+        if not is_there(family):
             hint = Text("fc-list : family lists what there is")
             usual = Text("apt-get install fonts-dejavu-core installs the usual ones")
             raise ToolError(Text("there is no font {}", family), Text("{}, {}", hint, usual))
 
 
 class Letters:
-    """Measures texts in a font."""
+    """Measures texts in a font, with the letters of prices and of other scripts beside it."""
 
-    def __init__(self, family: str) -> None:
-        require_fonts(family, DIGITS_FONT)
+    def __init__(self, wanted: str) -> None:
+        family, prices, others = fonts_of(wanted)
+        require_fonts(family, others, DATA_FONT)
         self.family = family
+        self.prices = self if prices == family else Letters(prices)
+        self.others = self if others == family else Letters(others)
         self.extent = lru_cache(KEPT)(self.new_extent)
         self.is_missing = cache(self.is_in_no_font)
         how = pango_context(False), family
@@ -90,6 +120,19 @@ class Letters:
         self.wrapped = new_layout(*how, False, MEASURED)
         self.wrapped.set_width(1)  # so that each part of a line is a line
         self.spaces = [self.sign(" ", is_bold).advance for is_bold in (False, True)]
+
+    @property
+    def families(self) -> frozenset[str]:
+        """The fonts in which texts are."""
+        return frozenset({self.family, self.prices.family, self.others.family})
+
+    def of(self, text: str, is_price: bool = False) -> "Letters":
+        """Returns the letters in which a text is: all of it in those of other scripts, where it has
+        any of these.
+        """
+        if self.others is not self and not text.isascii() and OTHERS.search(text.replace("\n", "")):
+            return self.others
+        return self.prices if is_price else self
 
     def new_extent(self, text: str, is_bold: bool) -> Extent:
         """Returns the extent of a line of text; zeros for one without ink."""

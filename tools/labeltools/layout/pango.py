@@ -16,6 +16,14 @@ def gi_library(name: str, version: str) -> Any:
 Pango = gi_library("Pango", "1.0")
 PangoCairo = gi_library("PangoCairo", "1.0")
 UNIT: int = Pango.SCALE
+# how much larger the letters of a font are asked for, so that its capitals are as high as those of
+# DejaVu Sans: sizes of letters mean the same in both
+LARGER = {"Liberation Sans": 729 / 688, "Liberation Sans Narrow": 729 / 688}
+
+
+def asked_size(family: str, size: int) -> int:
+    """Returns the size in which the letters of a font are asked for."""
+    return round(size * LARGER.get(family.strip(), 1.0))
 
 
 def font_options(is_dots: bool) -> cairo.FontOptions:
@@ -39,6 +47,6 @@ def new_layout(context: Any, family: str, is_bold: bool, size: int) -> Any:
     """Returns what lays texts out in letters of a size in dots."""
     layout = Pango.Layout.new(context)
     font = Pango.FontDescription(f"{family}, {'Bold' * is_bold}")
-    font.set_absolute_size(size * UNIT)
+    font.set_absolute_size(asked_size(family, size) * UNIT)
     layout.set_font_description(font)
     return layout

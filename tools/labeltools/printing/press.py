@@ -19,7 +19,7 @@ from labeltools.drawing.pdf import drawn_file, Paper
 from labeltools.drawing.pen import Pen
 from labeltools.drawing.zpl import zpl
 from labeltools.layout.layout import LaidOut, LaidOutFile, Page, print_label, PrintLabel
-from labeltools.layout.letters import DIGITS_FONT, Letters
+from labeltools.layout.letters import DATA_FONT, Letters
 from labeltools.layout.medium import Medium
 from labeltools.lines.file import drawn_lines, LineRecord, LinesFile
 from labeltools.lines.reasons import hint_of
@@ -316,8 +316,8 @@ def pens_of(job: Job, letters: Letters) -> list[Pen]:
     medium = Medium(job.plan.dpi, not job.form.is_drawn, job.form == SVG)
     outlines = (
         frozenset[str](),
-        frozenset({DIGITS_FONT}),
-        frozenset({DIGITS_FONT, job.options.font}),
+        frozenset({DATA_FONT}),
+        frozenset({DATA_FONT, *letters.families}),
     )
     wanted = outlines if job.form == PDF else outlines[:1]
     media = (replace(medium, outlines=shapes) for shapes in wanted)

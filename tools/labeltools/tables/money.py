@@ -25,6 +25,7 @@ NO_PRICE = Text("if it is a code, choose another column")
 OTHER_WORDS = Text("has words that are not part of a price")
 ANY_TEXT = Remedy("price-text", says=Text("Prices may be any text"))
 OTHER_WORDS_HINT = Text("give {} if it is right", ANY_TEXT).in_window(NOTHING)
+LETTER_O = re.compile(r"[0-9][.,]?[Oo](?![^\W\d_])|(?<![^\W\d_])[Oo][.,]?[0-9]")  # 4,5O
 FORMAT_HINT = Text("give {}", Remedy("price-as")).in_window(Text("choose how prices are printed"))
 SEPARATORS = Text("has a number whose separators are not understood")
 SEPARATORS_HINT = Text("write it as 1234,50 or 1234.50")
@@ -243,6 +244,8 @@ def plain_price(text: str) -> str:
     if not re.search("[0-9]", bare):
         has_word = re.search(r"[^\W\d_]{2}", bare) is not None
         raise NotMoney(Text("has no number"), OTHER_WORDS_HINT if has_word else NOTHING)
+    if LETTER_O.search(bare):
+        raise NotMoney(Text("has the letter O among its digits"), Text("write a zero"))
     if re.search("[%‰٪]", bare):
         raise NotMoney(Text("is a percentage"), Text("write the price itself"))
     return bare

@@ -134,7 +134,9 @@ class Printers:
         self.show_button()
         self.window.questions.clear()
         printer = self.chosen
-        if printer is None or printer.is_lost:
+        if key == FILE and self.window.choices()["to"] in LANGUAGES:
+            self.decide("pdf", DRAWING_DPI, self.window.choices()["roll"])
+        elif printer is None or printer.is_lost:
             self.window.make()
         elif not printer.form:
             self.ask_language(printer)

@@ -68,6 +68,8 @@ CHOSEN = ("symbology", "price-as", "header-row", "dpi", "to", "first")
 UNCHOSEN = {"symbology": AUTO}  # what a control has that says nothing; others have an empty text
 HEADERS = {"no-header": ("header-row", "0"), "header": ("header-row", "1")}
 A_FILE = "file"  # the choice of a design in a file
+SHARE = Path(__file__).resolve().parents[3]  # of a checkout, or PREFIX/share
+DESIGNS = (SHARE / "designs", SHARE / "doc/labels/designs")  # designs to start from
 MOST_NOTES = 2000
 MOST_HELPS = 3  # buttons above the notes
 LOW = 700  # pixels of a window in which the list of notes is closed at first
@@ -135,6 +137,8 @@ class Window(Gtk.ApplicationWindow):
         for one in (*self.of_label.get_children(), *self.of_paper.get_children()):
             if isinstance(one, Caption):
                 self.names_width.add_widget(one)
+        for folder in filter(Path.is_dir, DESIGNS):
+            self.design_opener.add_shortcut_folder(str(folder))
         self.roll.connect("toggled", self.fit_paper)
         self.fit_paper()
         self.connect_after("key-press-event", self.on_key)
