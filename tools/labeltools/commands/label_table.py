@@ -313,7 +313,7 @@ def check(parser: Parser, arguments: argparse.Namespace) -> None:
 def refuse_together(is_wrong: object, what: Text, given: Sequence[Remedy]) -> None:
     """Raises `BadArguments` where arguments do not go together: one of those given may go."""
     if is_wrong:
-        raise BadArguments(what, Text("leave out {}", either(given)).in_window(NOTHING))
+        raise BadArguments(what, Text("leave out {}", either(given)))
 
 
 def proposed(words: Sequence[str], arguments: argparse.Namespace) -> Text:
@@ -386,7 +386,7 @@ def say_of_others(guess: Guess) -> None:
                 write_message(TOOL, Text("{} is {}; others: {}", name, found, others))
             elif kind == "price":
                 hint = Text("give {} and its column if they have one, as {}", PRICED, others)
-                write_message(TOOL, sentence(NO_PRICE, hint.in_window(NOTHING)))
+                write_message(TOOL, sentence(NO_PRICE, hint))
 
 
 def words_for(guess: Guess, places: Sequence[int]) -> str:

@@ -121,8 +121,8 @@ def either(remedies: Iterable[Remedy]) -> Text:
 
 
 def give(*remedies: Remedy) -> Text:
-    """Returns what to do where one of some remedies helps. A window says nothing beside them."""
-    return Text("give {}", either(remedies)).in_window(NOTHING)
+    """Returns what to do where one of some remedies helps."""
+    return Text("give {}", either(remedies))
 
 
 def remedies_of(text: object) -> Iterator[Remedy]:
@@ -135,8 +135,8 @@ def remedies_of(text: object) -> Iterator[Remedy]:
 
 
 def windowed(text: Text) -> Text:
-    """Returns a text as a window says it, without the options of a command; signs between texts go
-    with those that are nothing there.
+    """Returns a text as a window says it. Of a remedy there is a button, so words around one say
+    nothing unless the text has others for a window; signs between texts go with those.
 
     >>> hint = Text("enter it, or {}", give(Remedy("hidden"))).in_window(Text("enter it"))
     >>> windowed(joined("; ", (give(Remedy("hidden")), hint)))
@@ -145,11 +145,13 @@ def windowed(text: Text) -> Text:
     if text.instead is not None:
         return windowed(text.instead)
     fields = [windowed(one) if isinstance(one, Text) else one for one in text.fields]
-    if fields == [*text.fields]:
+    if fields == [*text.fields] and not any(isinstance(one, Remedy) for one in fields):
         return text
     between = text.template.split("{}")
     if len(fields) > 1 and not any(map(str.isalnum, "".join(between))):
         return joined(between[1], (one for one in fields if one != ""))
+    if any(isinstance(one, Remedy) or new == "" != one for one, new in zip(text.fields, fields)):
+        return NOTHING
     template = text.many if text.many and fields[0] != 1 else text.template
     return Text.made(template.format(*fields), text.template, text.many, tuple(fields))
 

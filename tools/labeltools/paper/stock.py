@@ -11,7 +11,7 @@ from typing import Iterator
 from xml.etree.ElementTree import Element, parse
 
 from labeltools.common.messages import BAD_ARGUMENTS, ToolError
-from labeltools.common.text import NOTHING, Remedy, Text
+from labeltools.common.text import Remedy, Text
 
 Size = tuple[float, float]
 PartName = tuple[str, str]  # the maker and the name of a part
@@ -78,7 +78,7 @@ def grid_sheet(grid: Grid) -> Sheet:
             "a page of {} by {} cells: the maximum is {:,}", grid.columns, grid.rows, MOST_CELLS
         )
         hint = Text("give fewer {} and {}", Remedy("columns"), Remedy("rows"))
-        raise ToolError(message, hint.in_window(NOTHING), BAD_ARGUMENTS)
+        raise ToolError(message, hint, BAD_ARGUMENTS)
     across = grid.cell[0] + grid.gap[0]
     down = grid.cell[1] + grid.gap[1]
     middle = (

@@ -193,7 +193,7 @@ class Queue:
                 self.name,
                 job.form.name,
             )
-            hint = Text("for an office printer give {}", Remedy("to", "pdf")).in_window(NOTHING)
+            hint = Text("for an office printer give {}", Remedy("to", "pdf"))
             raise ToolError(what, joined("; ", (hint, self.past_driver())), BAD_ARGUMENTS)
 
     def past_driver(self) -> Text:
@@ -219,7 +219,7 @@ class Queue:
         found = " or ".join(map(str, sorted(known)))
         what = Text("the queue {} prints at {} dpi, and the labels have {}", self.name, found, dpi)
         ways = [Remedy("dpi", str(one), Text("{} dpi", one)) for one in sorted(known)]
-        hint = Text("leave out {}, or give {}", Remedy("dpi"), either(ways)).in_window(NOTHING)
+        hint = Text("leave out {}, or give {}", Remedy("dpi"), either(ways))
         return ToolError(what, hint, BAD_ARGUMENTS)
 
     def doubt(self, job: Job) -> Text:

@@ -11,7 +11,7 @@ from typing import NamedTuple
 
 from labeltools.checking.compare import turned
 from labeltools.common.messages import BAD_ARGUMENTS, ToolError
-from labeltools.common.text import counted, give, joined, NOTHING, Remedy, Text
+from labeltools.common.text import counted, give, joined, Remedy, Text
 from labeltools.designs.svg_layout import SvgLayout
 from labeltools.layout.layout import LaidOut
 from labeltools.paper.box import Box
@@ -46,7 +46,7 @@ KEEP_AWAY = Text("Keep labels away from the edge")
 SHEETS = Text(
     "for labels on sheets give {}, or {} with {} and {}",
     *map(Remedy, ("stock", "cell", "columns", "rows")),
-).in_window(NOTHING)
+)
 HUNDREDTHS = 100.0
 
 
@@ -133,7 +133,7 @@ class Papers:
         """Returns that a page is smaller than what a driver says that a printer takes."""
         what = Text("{} says that it takes no paper below {}", printer, size_text(self.least))
         given = Text("if it takes {} all the same give {}", size_text(page), AS_GIVEN)
-        return Unsaid(what, joined("; ", (given.in_window(NOTHING), SHEETS)), BAD_ARGUMENTS)
+        return Unsaid(what, joined("; ", (given, SHEETS)), BAD_ARGUMENTS)
 
 
 def is_near(one: Size, other: Size) -> bool:
@@ -258,7 +258,7 @@ def cut_error(printer: str, count: int, edges: str, is_general: bool) -> ToolErr
     may = counted("{} label may be cut", "{} labels may be cut", count)
     where = Text("{} does not say how near to the edge it prints", printer)
     edge = Remedy("edge", edges, KEEP_AWAY)
-    hint = Text("give {} if it prints up to the edge, or {}", AS_GIVEN, edge).in_window(NOTHING)
+    hint = Text("give {} if it prints up to the edge, or {}", AS_GIVEN, edge)
     return Unsaid(Text("{}: {}", where, may), hint, BAD_ARGUMENTS)
 
 

@@ -218,7 +218,7 @@ class Sender:
         after = Remedy("after", str(self.done), Text("Go on with label {}", self.done + 1))
         if self.outlet.name == OUTPUT and self.outlet.is_kept:
             return Text("with {} and >> the same command begins with it", after)
-        return Text("with {} the same command begins with it", after).in_window(NOTHING)
+        return Text("with {} the same command begins with it", after)
 
     def may_be_missing(self) -> Text:
         """Returns what to do about labels that a printer took, and may have thrown away when it

@@ -10,7 +10,7 @@ from typing import NamedTuple
 
 from labeltools.common.column_names import name_of, row_with_names
 from labeltools.common.messages import BAD_ARGUMENTS, named, quoted, RowError, ToolError
-from labeltools.common.text import NOTHING, Remedy, Text
+from labeltools.common.text import Remedy, Text
 from labeltools.sheets.encoding import decoded
 from labeltools.sheets.file_options import CsvOptions
 from labeltools.sheets.rows import Row
@@ -185,7 +185,7 @@ def delimiter_of(text: str, begin: int, given: str | None, options: CsvOptions) 
         if is_cut and given != ONE_COLUMN and not fits[given].is_cut:
             what = Text("row 1 has {} between cells, and not {}", named(best), named(given))
             remedy = Remedy("delimiter", says=Text("Find what is between cells"), is_less=True)
-            hint = Text("leave out {}", remedy).in_window(NOTHING)
+            hint = Text("leave out {}", remedy)
             raise ToolError(what, hint, BAD_ARGUMENTS)
         return given
     if not is_cut and (later := delimiter_of_names(text, begin, options)):
@@ -210,7 +210,7 @@ def refuse_delimiter(text: str, begin: int, marks: Sequence[str]) -> None:
                     "give {} if it is between cells, {} if it is data",
                     Remedy("delimiter", "tab" if mark == "\t" else mark, BETWEEN),
                     Remedy("delimiter", "none", Text("It is data")),
-                ).in_window(NOTHING)
+                )
                 raise ToolError(Text("row {} has {}", row.number, named(mark)), hint, BAD_ARGUMENTS)
 
 

@@ -10,7 +10,7 @@ from contextlib import suppress
 from itertools import islice
 
 from labeltools.common.messages import BAD_ARGUMENTS, quoted, ToolError
-from labeltools.common.text import give, joined, NOTHING, Remedy, Text
+from labeltools.common.text import give, joined, Remedy, Text
 
 # the marks in front of a text; that of UTF-32 before the one of UTF-16, which is its beginning
 UNICODE = ("utf-8", "utf-32-le", "utf-32-be", "utf-16-le", "utf-16-be")
@@ -88,7 +88,7 @@ def refuse_other(known: str, codec: str, encoding: str | None, name: str) -> Non
         remedy = Remedy("encoding", encoding or "", says, is_less=True)
         raise ToolError(
             Text("{} is {}", name, known.upper()),
-            Text("leave out {}", remedy).in_window(NOTHING),
+            Text("leave out {}", remedy),
             BAD_ARGUMENTS,
         )
 

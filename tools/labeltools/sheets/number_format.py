@@ -16,14 +16,14 @@ from pathlib import Path
 from typing import NamedTuple, Sequence
 
 from labeltools.common.messages import quoted, RowError
-from labeltools.common.text import NOTHING, Remedy, Text
+from labeltools.common.text import Remedy, Text
 from labeltools.common.word_lists import lists_of
 from labeltools.sheets.cells import AS_TEXT
 
 LONGEST_FORMAT = 255  # letters, as spreadsheets have it
 DATE_HINT = Text(
     "give {}, or another format", Remedy("date-as", "dd.mm.yyyy", Text("As 31.12.2026"))
-).in_window(NOTHING)
+)
 # formats that a file names by their number alone, in so far as they do not depend on the language
 BUILT_IN = {
     "0": "General",

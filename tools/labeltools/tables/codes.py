@@ -6,7 +6,7 @@ from functools import cached_property
 from typing import NamedTuple, Sequence
 
 from labeltools.common.messages import named, quoted, RowError
-from labeltools.common.text import counted, give, joined, NOTHING, Remedy, Text
+from labeltools.common.text import counted, give, joined, Remedy, Text
 from labeltools.lines.symbologies import (
     check_digit,
     CODE128,
@@ -53,9 +53,7 @@ AROUND_DATA = re.compile("|".join(pattern for pattern, _, _ in AROUND), re.DOTAL
 # what GS1's texts in brackets begin with: an SSCC, or a GTIN
 IN_BRACKETS = re.compile(r"\((?:00\)(?=[0-9]{18})|0[12]\)(?=[0-9]{14}))([0-9]+).*", re.DOTALL)
 WITHOUT_DIGIT = Remedy("without-check-digit", says=Text("The codes have no check digit"))
-NO_CHECK_DIGITS = Text("if the column has no check digits, {}", give(WITHOUT_DIGIT)).in_window(
-    NOTHING
-)
+NO_CHECK_DIGITS = Text("if the column has no check digits, {}", give(WITHOUT_DIGIT))
 
 
 def kind_remedy(name: str) -> Remedy:
@@ -67,15 +65,13 @@ def kind_remedy(name: str) -> Remedy:
 
 OTHER_CODES = Text(
     "a code that is not an EAN or UPC needs {} (bars) or {:value}", *map(kind_remedy, FREE)
-).in_window(NOTHING)
+)
 HAS_DIGIT = replace(WITHOUT_DIGIT, says=Text("The codes have a check digit"), is_less=True)
-ONLY_WITHOUT = Text("give {} only if no number has one", HAS_DIGIT).in_window(NOTHING)
+ONLY_WITHOUT = Text("give {} only if no number has one", HAS_DIGIT)
 FILL_ZEROS = Remedy("fill-zeros", says=Text("Put lost zeros back in front"))
 NO_ZEROS = replace(FILL_ZEROS, says=Text("Put no zeros in front"), is_less=True)
-LOST_ZEROS = Text("give {} if leading zeros are lost", FILL_ZEROS).in_window(NOTHING)
-AUTO_OR_LOST_ZEROS = Text(
-    "give {}, or {} if leading zeros are lost", kind_remedy(AUTO), FILL_ZEROS
-).in_window(NOTHING)
+LOST_ZEROS = Text("give {} if leading zeros are lost", FILL_ZEROS)
+AUTO_OR_LOST_ZEROS = Text("give {}, or {} if leading zeros are lost", kind_remedy(AUTO), FILL_ZEROS)
 NOT_SHORT = 7  # digits: shorter numbers are no EAN or UPC that has lost some
 
 
@@ -225,10 +221,10 @@ def symbology_of(digits: str, rules: CodeRules) -> str:
     count = len(digits) + missing
     is_short = rules.fill_zeros and count == 7 and is_right(digits)
     if digits[0] == "0" and count == 8 or is_short:
-        hint = Text("for an EAN-8 {}", give(kind_remedy(EAN8.name))).in_window(NOTHING)
+        hint = Text("for an EAN-8 {}", give(kind_remedy(EAN8.name)))
         raise RowError(Text("{} may be a UPC-E, which labels does not draw", digits), hint)
     if missing and count in NUMBERS and is_right(digits):
-        hint = Text("if not, {}", give(kind_remedy(NUMBERS[count].name))).in_window(NOTHING)
+        hint = Text("if not, {}", give(kind_remedy(NUMBERS[count].name)))
         raise RowError(Text("{} may have its check digit", digits), hint)
     name = NUMBERS[count].name if count in NUMBERS else ""
     if rules.fill_zeros and EAN13.digits - MOST_ZEROS <= count <= EAN13.digits:

@@ -9,7 +9,7 @@ from typing import Iterable, Sequence
 
 from labeltools.common.column_names import name_of, NUMBER, row_with_names
 from labeltools.common.messages import BAD_ARGUMENTS, quoted, RowError, ToolError
-from labeltools.common.text import give, NOTHING, Remedy, Text
+from labeltools.common.text import give, Remedy, Text
 from labeltools.lines.file import MOST_COPIES
 from labeltools.sheets.cells import (
     CellKind,
@@ -139,7 +139,7 @@ def columns_of(head: Head, rows: Iterable[Row], options: TableOptions) -> Column
         later = row_with_names(texts, asked.asked) if options.file.has_header is not False else 0
         if later:
             remedy = Remedy("header-row", str(later), Text("The names are in row {}", later))
-            hint = Text("the names are in row {}: {}", later, give(remedy)).in_window(NOTHING)
+            hint = Text("the names are in row {}: {}", later, give(remedy))
             raise ToolError(error.what, hint, BAD_ARGUMENTS) from None
         raise
 
@@ -216,7 +216,7 @@ def check_code(column: Column, head: Head, options: TableOptions) -> None:
             "give {} if that is a code, {} if it is a name",
             Remedy("no-header", says=Text("It is a code")),
             Remedy("header", says=Text("It is a name")),
-        ).in_window(NOTHING)
+        )
         raise ToolError(what, hint, BAD_ARGUMENTS)
 
 

@@ -7,7 +7,7 @@ from typing import Iterator, NamedTuple, Sequence
 
 from labeltools.common.column_names import is_repeated, name_of
 from labeltools.common.messages import quoted, RowError
-from labeltools.common.text import NOTHING, Remedy, Text
+from labeltools.common.text import Remedy, Text
 from labeltools.lines.file import Label
 from labeltools.lines.symbologies import SYMBOLOGIES
 from labeltools.sheets.rows import Row
@@ -179,7 +179,7 @@ class DraftReader:
         if link != text:
             said = Text("the code of row {} is a text that leads to an address", row.number)
             remedy = Remedy("links", says=Text("Draw the address"))
-            hint = Text("give {} to draw the address", remedy).in_window(NOTHING)
+            hint = Text("give {} to draw the address", remedy)
             self.once.see("link", said, hint)
         return text
 
@@ -255,7 +255,7 @@ class DraftReader:
         is_known = currency_of(plain_signs(found), self.options.prices.currency_name) is not None
         if found and not is_known:
             said = Text("row {} has the currency {}, which is not known", row.number, quoted(found))
-            hint = Text("if it is right, give {}", currency_remedy(found)).in_window(NOTHING)
+            hint = Text("if it is right, give {}", currency_remedy(found))
             self.once.see("currency", said, hint)
         return found
 

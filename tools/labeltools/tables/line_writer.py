@@ -6,7 +6,7 @@ from dataclasses import dataclass, field
 from typing import Mapping
 
 from labeltools.common.messages import Origin, quoted, RowError, Talk, ToolError
-from labeltools.common.text import NOTHING, Remedy, Text
+from labeltools.common.text import Remedy, Text
 from labeltools.lines.file import first_remark, Label, label_lines, last_remark, LinesFile
 from labeltools.tables.codes import Code
 from labeltools.tables.drafts import Draft, HAS_DIGIT, Price
@@ -83,7 +83,7 @@ class LineWriter:
             said = Text("row {} has {}, as programs write prices", row, price.text)
             pattern = f"0{money.point}00 ¤" if money.currency else f"0{money.point}00"
             remedy = Remedy("price-as", pattern, Text("Print two decimals"))
-            hint = Text("give {} for two decimals", remedy).in_window(NOTHING)
+            hint = Text("give {} for two decimals", remedy)
             self.once.see(("decimals", price.column), said, hint)
 
     def finish(self) -> bytes:

@@ -24,7 +24,7 @@ MOST_DECIMALS = 6  # of a price that is printed as it stands
 NO_PRICE = Text("if it is a code, choose another column")
 OTHER_WORDS = Text("has words that are not part of a price")
 ANY_TEXT = Remedy("price-text", says=Text("Prices may be any text"))
-OTHER_WORDS_HINT = Text("give {} if it is right", ANY_TEXT).in_window(NOTHING)
+OTHER_WORDS_HINT = Text("give {} if it is right", ANY_TEXT)
 LETTER_O = re.compile(r"[0-9][.,]?[Oo](?![^\W\d_])|(?<![^\W\d_])[Oo][.,]?[0-9]")  # 4,5O
 FORMAT_HINT = Text("give {}", Remedy("price-as")).in_window(Text("choose how prices are printed"))
 SEPARATORS = Text("has a number whose separators are not understood")
@@ -347,7 +347,7 @@ def check_letters(before: str, amount: Amount, own: str) -> None:
     if not re.search(r"[A-Za-z]\Z", before) or name == own:
         return
     if amount.is_bare and name.isalpha() or currency_of(name) is None:
-        hint = Text("if this is a currency, give {}", currency_remedy(name)).in_window(NOTHING)
+        hint = Text("if this is a currency, give {}", currency_remedy(name))
         raise NotMoney(Text("has letters before its digits, as a code has"), hint)
 
 

@@ -154,7 +154,7 @@ def table_rows(
         if getattr(options if option == "links" else options.file, option):
             what = Text("{} is CSV", name) if is_csv else Text("{} is not CSV", name)
             remedy = Remedy(option.replace("_", "-"), "", SO, is_less=True)
-            raise ToolError(what, Text("leave out {}", remedy).in_window(NOTHING), BAD_ARGUMENTS)
+            raise ToolError(what, Text("leave out {}", remedy), BAD_ARGUMENTS)
     if is_csv:
         how = CsvOptions(options.file, options.columns.asked, options.codes.is_free)
         return csv_table(data, name, how).rows()
@@ -271,7 +271,7 @@ class TableRun:
                 "{} hidden row is not printed", "{} hidden rows are not printed", self.hidden
             )
             remedy = Remedy("hidden", says=Text("Print hidden rows too"))
-            self.talk.say(text, Text("give {} to print them", remedy).in_window(NOTHING))
+            self.talk.say(text, Text("give {} to print them", remedy))
         if self.writer.unchanged:
             text = counted(
                 "{} row has not changed, and is not printed",
@@ -330,7 +330,7 @@ class TableRun:
                 Remedy("decimal", sign, Text("{}", look))
                 for sign, look in zip(("comma", "point"), looks)
             ]
-            self.talk.say(text, Text("else {}", give(*remedies)).in_window(NOTHING))
+            self.talk.say(text, Text("else {}", give(*remedies)))
         if formatter.first_date and not formatter.date_as:
             text = Text("dates are printed as {}: is that right?", quoted(formatter.first_date))
-            self.talk.say(text, Text("else {}", DATE_HINT).in_window(NOTHING))
+            self.talk.say(text, Text("else {}", DATE_HINT))
