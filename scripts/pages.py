@@ -38,7 +38,7 @@ import sources
 README = "README.md"
 DESIGNS = "designs/README.md"
 PRINTING = ("docs/PRINTING.md", "docs/SHEETS.md", "docs/ROLLS.md")
-RUN = (README, "docs/INPUT.md", *PRINTING, "docs/TICKETS.md", "docs/RECIPES.md", DESIGNS)
+RUN = (README, "docs/INSTALL.md", "docs/INPUT.md", *PRINTING, "docs/TICKETS.md", "docs/RECIPES.md", DESIGNS)
 QUOTED = {"rust", "python", "c"}
 COMMANDS = {"sh", "sh kit", "console"}
 LANGUAGES = {"text", *COMMANDS, *QUOTED}
