@@ -84,6 +84,8 @@ class Commands:
         return "" if is_good else f"status {ran.returncode} of:\n{self.text}it printed:\n{printed}"
 
 
+STATUSES = re.compile(r"<!-- statuses: ([\d ]+) -->\s*\Z")
+
 # What makes the pictures, the page whose commands run before it, and what it prints.
 PICTURED = pages.DESIGNS
 DRAWN = Commands(
@@ -99,10 +101,17 @@ def commands_of(page: str) -> Iterator[Commands]:
         if block.language == "sh":
             yield Commands(block.code, after.code if after and after.is_next and after.language == "text" else "")
         elif block.language == "console":
-            yield session_of(block.code.splitlines(keepends=True))
+            yield session_of(block.code.splitlines(keepends=True), statuses=statuses_above(block.above))
 
 
-def session_of(lines: Iterable[str], may_fail: bool = False) -> Commands:
+def statuses_above(text: str) -> list[str]:
+    """The statuses of a session's commands in a comment right above it, `<!-- statuses: 0 1 -->`, which no reader sees;
+    without one each command ends with status 0."""
+    found = STATUSES.search(text)
+    return found[1].split() if found else []
+
+
+def session_of(lines: Iterable[str], may_fail: bool = False, statuses: Sequence[str] = ()) -> Commands:
     """The commands of a session, which begins with a prompt, and what one `sh` prints of them. After each command it
     prints a mark with the status of that command, or an empty mark where any status will do."""
     typed: list[tuple[str, str]] = []
@@ -113,9 +122,12 @@ def session_of(lines: Iterable[str], may_fail: bool = False) -> Commands:
             typed[-1] = (typed[-1][0] + line.removeprefix(CONTINUED), typed[-1][1])
         else:
             typed[-1] = (typed[-1][0], typed[-1][1] + line)
-    asked, wanted = ("", "") if may_fail else ('"$?"', "0")
+    asked = "" if may_fail else '"$?"'
+    wanted = [""] * len(typed) if may_fail else statuses or ["0"] * len(typed)
+    if len(wanted) != len(typed):
+        wanted = ["as many statuses as commands"] * len(typed)
     text = [f"{with_file(command, printed)}printf '\\001%s\\001' {asked}\n" for command, printed in typed]
-    return Commands("".join(text), "".join(f"{printed}\1{wanted}\1" for _, printed in typed))
+    return Commands("".join(text), "".join(f"{printed}\1{status}\1" for (_, printed), status in zip(typed, wanted)))
 
 
 def with_file(command: str, printed: str) -> str:
