@@ -11,7 +11,10 @@
 - Each crate has a page of at most 40 lines. Each line of a block of Rust in it, but for imports and comments, is a
   line of the function page_of_NAME in crates/tests/src/pages.rt, in the same order, white space apart; of the pages in
   CALLERS it is one of the function that calls them.
-- A number of a page that a step of the gate counts is the one in scripts/counts.txt.
+- A number of a page that a step of the gate counts is the one in scripts/counts.txt, and a number of files or lines is
+  that of the files. With --write the right numbers are put into the pages.
+- Each contract that README names for a crate is declared in this crate.
+- No sentence speaks of how the project was made, with the words of OF_THE_MAKING.
 - No line is a mark of a merge that somebody has to settle. None, not even that of a table, has more than LONGEST_LINE
   bytes: Debian's lintian takes longer ones for the work of a program.
 
@@ -38,22 +41,25 @@ import sources
 README = "README.md"
 DESIGNS = "designs/README.md"
 PRINTING = ("docs/PRINTING.md", "docs/SHEETS.md", "docs/ROLLS.md")
-RUN = (README, "docs/INSTALL.md", "docs/INPUT.md", *PRINTING, "docs/TICKETS.md", "docs/RECIPES.md", DESIGNS)
+RUN = (
+    *(README, "docs/INSTALL.md", "docs/TABLE.md", "docs/LINES.md", *PRINTING, "docs/TICKETS.md", "docs/RECIPES.md"),
+    DESIGNS,
+)
 QUOTED = {"rust", "python", "c"}
 COMMANDS = {"sh", "sh kit", "console"}
 LANGUAGES = {"text", *COMMANDS, *QUOTED}
 # What a command of a session is behind.
 PROMPT = "$ "
-# The pages of the proof: what a run promises, whether contracts are strong enough, and what is only tested.
+# The pages of the proof: its entry, what a run promises, and whether contracts are strong enough.
+PROOF = "docs/PROOF.md"
 PROMISES = "docs/PROOF-RUN.md"
-STRENGTH = "docs/PROOF-STRENGTH.md"
-TESTED = "docs/PROOF-TESTS.md"
+EVIDENCE = "docs/EVIDENCE.md"
 QUOTING = ("docs/LIBRARY.md", PROMISES)
 # The pages that name the code, and the files that have its words.
 NAMING = (
     *(f"docs/{name}.md" for name in ("ARCHITECTURE", "DEFINITIONS", "LIBRARY", "SPECIFICATION")),
-    *(f"docs/PROOF{name}.md" for name in ("", "-READING", "-CRATES", "-DAMAGE", "-LIBRARY")),
-    *(PROMISES, STRENGTH, TESTED),
+    *(f"docs/PROOF{name}.md" for name in ("", "-READING", "-DAMAGE", "-LIBRARY")),
+    *(PROMISES, EVIDENCE),
 )
 CODE = (
     *("crates/*/src/**/*.rt", "crates/*/specs/*.antt", "crates/*/proofs/**/*.antt"),
@@ -75,19 +81,60 @@ CALLERS = {
     "capi": ("labels_proved_draw", "crates/labels_c/src/lib.rt"),
 }
 NOT_CHECKED = "Not checked:"
-# What pages say, with the step whose line in scripts/counts.txt has the number, and how it is found there.
+# The folders and endings of the files whose lines PROOF counts, and how a comment in them begins.
+COUNTED_LINES = {
+    "code": ("src", ".rt", "//"),
+    "definitions": ("specs", ".antt", "--"),
+    "proofs": ("proofs", ".antt", "--"),
+}
+WRONG_BODIES = "wrong bodies"
+# What pages say: the page, the sentence with the number, what counts it (a step of scripts/counts.txt or one of
+# `counted_here`), and how the number is found there.
 IN_PAGES = (
-    (TESTED, r"read\s+all\s+([\d,]+)\s+labels\s+back", "compare_symbols.py", r"(\d+) read back"),
-    (TESTED, r"drew\s+the\s+same\s+([\d,]+)\s+symbols", "compare_symbols.py", r"(\d+) of \1 as zint"),
-    (TESTED, r"of\s+([\d,]+)\s+simulated\s+out-of-memory", "refuse_each_growth.py", r"^(\d+) growths"),
-    (TESTED, r"read\s+all\s+([\d,]+)\s+symbols\s+of\s+five", "read_foreign.py", r"(\d+) read as asked"),
-    (STRENGTH, r"operator\s+of\s+([\d,]+)\s+believed\s+definitions", "believed_rows.py", r"of (\d+) definitions"),
-    (STRENGTH, r"one\s+at\s+a\s+time:\s+([\d,]+)\s+changes", "believed_rows.py", r"^(\d+) changes"),
-    (STRENGTH, r"contract\s+rests\s+on,\s+([\d,]+)", "believed_rows.py", r"(\d+) of \d+ behind the program"),
-    (STRENGTH, r"([\d,]+)\s+definitions\s+that\s+the", "believed_rows.py", r"of (\d+) behind the program"),
-    (STRENGTH, r"library's\s+[\d,]+,\s+([\d,]+)", "believed_rows.py", r"(\d+) of \d+ behind the library"),
-    (STRENGTH, r"of\s+the\s+library's\s+([\d,]+),", "believed_rows.py", r"of (\d+) behind the library"),
+    (PROOF, r"about\s+([\d,]+)\s+lines\s+of\s+code", "code", r"(\d+)"),
+    (PROOF, r"about\s+([\d,]+)\s+lines\s+of\s+definitions", "definitions", r"(\d+)"),
+    (PROOF, r"on\s+([\d,]+)\s+lines\s+of\s+proof", "proofs", r"(\d+)"),
+    (PROOF, r"back\s+all\s+([\d,]+)\s+labels", "compare_symbols.py", r"(\d+) read back"),
+    (PROOF, r"In\s+([\d,]+)\s+definitions", "believed_rows.py", r"of (\d+) definitions"),
+    (PROOF, r"([\d,]+)\s+changes\s+were\s+refused", "believed_rows.py", r"^(\d+) changes"),
+    (PROOF, r"other\s+([\d,]+)\s+mean\s+the\s+same", "believed_rows.py", r"(\d+) mean the same"),
+    (EVIDENCE, r"([\d,]+)\s+wrong\s+functions", WRONG_BODIES, r"(\d+)"),
+    (EVIDENCE, r"([\d,]+)\s+changes\*\*\s+of", "believed_rows.py", r"^(\d+) changes"),
+    (EVIDENCE, r"in\s+([\d,]+)\s+definitions", "believed_rows.py", r"of (\d+) definitions"),
+    (EVIDENCE, r"([\d,]+)\s+worked\s+values", "unused.py", r"^(\d+) worked"),
+    (EVIDENCE, r"([\d,]+)\s+labels\*\*\s+are", "compare_symbols.py", r"(\d+) read back"),
+    (EVIDENCE, r"([\d,]+)\s+of\s+them\s+are\s+drawn", "compare_symbols.py", r"(\d+) of \1 as zint"),
+    (EVIDENCE, r"([\d,]+)\s+symbols\*\*\s+of", "read_foreign.py", r"(\d+) read as asked"),
+    (EVIDENCE, r"([\d,]+)\s+requests\s+for\s+memory", "refuse_each_growth.py", r"^(\d+) growths"),
+    (EVIDENCE, r"([\d,]+)\s+tests\*\*\s+of", "run_tests.py tools/tests", r"^(\d+) passed"),
+    (EVIDENCE, r"tools,\s+([\d,]+)\s+of", "run_tests.py lib/tests", r"^(\d+) passed"),
+    (EVIDENCE, r"([\d,]+)\s+of\s+our\s+own\s+scripts", "run_tests.py scripts/tests", r"^(\d+) passed"),
+    (EVIDENCE, r"([\d,]+)\s+groups\s+of\s+commands", "run_recipes.py", r"^(\d+) of"),
+    (EVIDENCE, r"operator\s+of\s+([\d,]+)\s+such\s+definitions", "believed_rows.py", r"of (\d+) definitions"),
+    (EVIDENCE, r"([\d,]+)\s+changes\s+were\s+refused", "believed_rows.py", r"^(\d+) changes"),
+    (EVIDENCE, r"([\d,]+)\s+other\s+changes\s+mean", "believed_rows.py", r"(\d+) mean the same"),
+    (EVIDENCE, r"contract\s+rests\s+on,\s+([\d,]+)", "believed_rows.py", r"(\d+) of \d+ behind the program"),
+    (EVIDENCE, r"([\d,]+)\s+definitions\s+that\s+the", "believed_rows.py", r"of (\d+) behind the program"),
+    (EVIDENCE, r"library's\s+[\d,]+,\s+([\d,]+)", "believed_rows.py", r"(\d+) of \d+ behind the library"),
+    (EVIDENCE, r"of\s+the\s+library's\s+([\d,]+),", "believed_rows.py", r"of (\d+) behind the library"),
+    (EVIDENCE, r"read\s+all\s+([\d,]+)\s+labels\s+back", "compare_symbols.py", r"(\d+) read back"),
+    (EVIDENCE, r"same\s+([\d,]+)\s+symbols", "compare_symbols.py", r"(\d+) of \1 as zint"),
+    (EVIDENCE, r"read\s+all\s+([\d,]+)\s+symbols\s+of\s+five", "read_foreign.py", r"(\d+) read as asked"),
+    (EVIDENCE, r"([\d,]+)\s+more\s+were\s+given", "read_foreign.py", r"(\d+) damaged"),
+    (EVIDENCE, r"gives\s+([\d,]+)\s+damaged\s+labels", "scan_damaged.py", r"^(\d+) damaged"),
+    (EVIDENCE, r"([\d,]+)\s+of\s+them\s+were\s+misread", "scan_damaged.py", r"(\d+) misread"),
+    (EVIDENCE, r"([\d,]+)\s+bar\s+codes\s+with\s+wrong", "scan_damaged.py", r"of (\d+) guessed"),
 )
+# What a sentence about the product does not have: who made it, when, on which machine, what was tried on the way.
+OF_THE_MAKING = re.compile(
+    r"\b(?:language models?|[Hh]elpers?|[Rr]eviewers?|[Ii]ssue \d+|[Cc]ommit [\da-f]{7,}|20\d\d-\d\d-\d\d"
+    r"|[Ww]e (?:once|tried|ran|wanted|measured again|had decided)|At first|[Oo]nce by hand"
+    r"|on (?:a|another) (?:slower|faster|older|busier) (?:machine|host))\b"
+)
+# A row of README's table of the crates, and the names of crates and contracts in it.
+OF_CRATES = re.compile(r"^\| \[\w+\]\(crates/.*$", re.MULTILINE)
+CRATE = re.compile(r"\(crates/(\w+)/README\.md\)")
+CONTRACT = re.compile(r"`(?:\w+::)?(\w+)`")
 MARKDOWN = MarkdownIt().enable("table")
 
 
@@ -261,19 +308,84 @@ def faults_of_example(name: str, page: str, blocks: Iterable[Block]) -> Iterator
         yield 1, "no example"
 
 
+def lines_of_code(folder: str, ending: str, comment: str) -> int:
+    """How many lines the files in this folder of each crate have, without comments and blank lines."""
+    paths = [path for path in sources.files_below("crates", ending) if f"/{folder}/" in path]
+    lines = [line.strip() for path in paths for line in sources.read(path).split("\n")]
+    return len([line for line in lines if line and not line.startswith(comment)])
+
+
+def counted_here() -> dict[str, str]:
+    """What this script counts itself: wrong bodies, and lines of the crates in thousands."""
+    lines = {name: str(round(lines_of_code(*files), -3)) for name, files in COUNTED_LINES.items()}
+    return {**lines, WRONG_BODIES: str(len(glob.glob("crates/*/wrong-bodies/*")))}
+
+
+def right_numbers() -> list[tuple[str, str, str, str]]:
+    """For each row of IN_PAGES its page, its sentence, the right number (or "" if it was not found), and the line that
+    has it."""
+    lines = sources.read(gate.COUNTS).splitlines()
+    kept = {**dict(line.split(": ", 1) for line in lines if not line.startswith("#")), **counted_here()}
+    found = [
+        (page, sentence, re.search(place, kept.get(step, "")), kept.get(step, ""))
+        for page, sentence, step, place in IN_PAGES
+    ]
+    return [(page, sentence, f"{int(right[1]):,}" if right else "", line) for page, sentence, right, line in found]
+
+
 def faults_of_counts(pages: Mapping[str, str]) -> Iterator[str]:
-    """The numbers of pages that are not those that the gate compares, or that a page lacks."""
-    kept = dict(line.split(": ", 1) for line in sources.read(gate.COUNTS).splitlines() if not line.startswith("#"))
-    for page, sentence, step, place in IN_PAGES:
-        right, said = re.search(place, kept.get(step, "")), re.search(sentence, pages[page])
-        if not right or not said or said[1] != f"{int(right[1]):,}":
-            found = " ".join(said[0].split()) if said else f"no {sentence}"
-            yield f"{page}: {found}, and scripts/counts.txt has {kept.get(step)}"
+    """The numbers of pages that are not those that are counted, or that a page lacks."""
+    for page, sentence, right, line in right_numbers():
+        said = [*re.finditer(sentence, pages[page])]
+        wrong = [" ".join(found[0].split()) for found in said if found[1] != right]
+        if wrong or not said:
+            yield f"{page}: {wrong[0] if wrong else f'no {sentence}'}, and counted is {line or 'nothing'}"
+
+
+def write_counts(pages: Mapping[str, str]) -> None:
+    """Puts the right numbers into the pages."""
+    texts = dict(pages)
+    for page, sentence, right, _ in right_numbers():
+        for found in reversed([*re.finditer(sentence, texts[page])] if right else []):
+            texts[page] = texts[page][: found.start(1)] + right + texts[page][found.end(1) :]
+    for page, text in texts.items():
+        if text != pages[page]:
+            sources.write(page, text)
+
+
+def faults_of_contracts(text: str) -> Iterator[tuple[int, str]]:
+    """The contracts in README's table of the crates that none of the crates of their row declares."""
+    for row in OF_CRATES.finditer(text):
+        paths = [
+            path
+            for crate in CRATE.findall(row[0])
+            for path in glob.glob(f"crates/{crate}/src/**/*.rt", recursive=True)
+        ]
+        declared = {name for path in paths for name in re.findall(r"\b(?:fn|trait) (\w+)", sources.read(path))}
+        for name in CONTRACT.findall(row[0].split(" | ")[-1]):
+            if name not in declared:
+                yield text.count("\n", 0, row.start()) + 1, f"no crate of this row declares {name}"
+
+
+def faults_of_making(text: str) -> Iterator[tuple[int, str]]:
+    """The sentences of a page that speak of how the project was made. The headings of versions have their dates."""
+    tokens = parsed(text)
+    for before, token in zip(tokens, tokens[1:]):
+        found = (
+            OF_THE_MAKING.search(token.content) if before.type != "heading_open" and token.type == "inline" else None
+        )
+        if found:
+            start, _ = token.map or (0, 0)
+            yield start + 1, f"this speaks of the making: {found[0]}"
 
 
 def main() -> int:
-    sources.parser_of(__doc__).parse_args()
+    parser = sources.parser_of(__doc__)
+    parser.add_argument("--write", action="store_true", help="put the right numbers into the pages")
+    wants_numbers = parser.parse_args().write
     os.chdir(sources.TOP)
+    if wants_numbers:
+        write_counts(texts())
     pages = texts()
     faults, known = [*faults_of_counts(pages)], words_of_code()
     count = links = 0
@@ -285,8 +397,10 @@ def main() -> int:
         for line, words in long_paragraphs(text):
             print(f"{page}:{line}: a paragraph of {words} words is long")
         found = [*faults_of_blocks(page, blocks)]
-        found += [*faults_of_lines(text)]
+        found += [*faults_of_lines(text), *faults_of_making(text)]
         found += [(line, fault) for line, link in links_of(text) if (fault := fault_of_link(page, link))]
+        if page == README:
+            found += faults_of_contracts(text)
         if page in NAMING:
             found += faults_of_names(text, known)
         if page.startswith("crates/"):
