@@ -3,9 +3,9 @@
 
 - Each block of code is closed, and its language is one that a script reads: text, one of those below, and sh, sh kit
   and console on the pages alone that run_recipes.py runs.
-- Code is quoted as it is: each block of a program's language in docs/LIBRARY.md and docs/PROOF-RUN.md, and each block
-  of text that begins with a clause (`ensures`), is in a file crates/*.rt or lib/* that the page names before it, line
-  by line, but for the spaces in front. A block below a line `Not checked:` is left out.
+- Code is quoted as it is: each block of a program's language in docs/LIBRARY.md and docs/PROOF.md, and each block of
+  text that begins with a definition (`pub`), is in a file of crates/ or lib/ that the page names before it, line by
+  line, but for the spaces in front. A block below a line `Not checked:` is left out.
 - Each link from one file of the repository to another leads to a file and a heading.
 - Each name between backticks in the pages of NAMING, such as `Filter::feed`, is of words that the code has.
 - Each crate has a page of at most 40 lines. Each line of a block of Rust in it, but for imports and comments, is a
@@ -54,7 +54,7 @@ PROMPT = "$ "
 PROOF = "docs/PROOF.md"
 PROMISES = "docs/PROOF-RUN.md"
 EVIDENCE = "docs/EVIDENCE.md"
-QUOTING = ("docs/LIBRARY.md", PROMISES)
+QUOTING = ("docs/LIBRARY.md", PROOF)
 # The pages that name the code, and the files that have its words.
 NAMING = (
     *(f"docs/{name}.md" for name in ("ARCHITECTURE", "DEFINITIONS", "LIBRARY", "SPECIFICATION")),
@@ -70,7 +70,7 @@ OF_MERGES = re.compile(r"(?:<<<<<<<|>>>>>>>|\|\|\|\|\|\|\|) .*")
 WITHOUT_EXAMPLE = {"labels", "labels_c", "examples", "tests"}
 LONGEST = 40
 LONGEST_LINE = 500
-FILE = re.compile(r"\b(?:crates/[\w/]+\.rt|lib/[\w/]+\.\w+)\b")
+FILE = re.compile(r"\b(?:crates/[\w/]+\.(?:rt|antt)|lib/[\w/]+\.\w+)\b")
 # A name of the code: words that are joined by colons or points, as in `Filter::feed`, `answer.length`.
 NAME = re.compile(r"[^\W\d]\w*(?:(?:::|\.)[^\W\d]\w*)*(?:\(\))?")
 # The functions that have the lines of the pages' examples, by their names, and in which files they are.
@@ -183,7 +183,7 @@ def blocks_of(text: str) -> Iterator[Block]:
 def faults_of_blocks(page: str, blocks: Iterable[Block]) -> Iterator[tuple[int, str]]:
     """What is wrong with the blocks of a page, each with the number of its line."""
     for block in blocks:
-        is_quoted = block.language in QUOTED or block.code.lstrip().startswith("ensures")
+        is_quoted = block.language in QUOTED or block.code.startswith("pub ")
         if not block.is_closed:
             yield block.line, "this block is not closed"
         elif block.language not in LANGUAGES:
