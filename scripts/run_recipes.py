@@ -6,8 +6,8 @@ The pages are those of RUN in pages.py, and the examples of the man pages. A blo
 none, they print nothing. A block ```console is a session: each command is behind a prompt `$ `, its other lines behind
 `> `, and what it prints is below it; `$ cat FILE` of a file that is not there makes the file. A block ```sh, and each
 command of a session, has to end with status 0. If a command of a session does not, a comment right above the session,
-which no reader sees, has the status of each command: `<!-- statuses: 0 1 -->`. The blocks of a page run in their order,
-each by its own `sh`, at the top of a new copy of the repository's files, with `labels` and the tools on the path, and
+which no reader sees, has the status of each: `<!-- statuses: 0 1 -->`. The blocks of a page run in their order, each
+by its own `sh`, at the top of a new copy of the repository's files, with `labels` and the tools on the path, and
 with a home of their own. A block ```sh kit calls the kit, which proves for minutes: it does not run.
 
 In a man page an example with prompts is a session, too: there each command may end with any status. An example without
