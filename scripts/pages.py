@@ -87,13 +87,16 @@ COUNTED_LINES = {
     "definitions": ("specs", ".antt", "--"),
     "proofs": ("proofs", ".antt", "--"),
 }
-WRONG_BODIES = "wrong bodies"
+WRONG_BODIES, BELIEVED = "wrong bodies", "believed lines"
+# The row of PROOF's table that believed.py writes, whose last number is how much a sceptic has to read.
+OF_SHOWS = re.compile(r"the clause `shows` of `program` \|.* ([\d,]+) \|\n")
 # What pages say: the page, the sentence with the number, what counts it (a step of scripts/counts.txt or one of
 # `counted_here`), and how the number is found there.
 IN_PAGES = (
     (PROOF, r"about\s+([\d,]+)\s+lines\s+of\s+code", "code", r"(\d+)"),
     (PROOF, r"about\s+([\d,]+)\s+lines\s+of\s+definitions", "definitions", r"(\d+)"),
     (PROOF, r"on\s+([\d,]+)\s+lines\s+of\s+proof", "proofs", r"(\d+)"),
+    (PROOF, r"\[([\d,]+)\s+lines\]", BELIEVED, r"(\d+)"),
     (PROOF, r"back\s+all\s+([\d,]+)\s+labels", "compare_symbols.py", r"(\d+) read back"),
     (PROOF, r"In\s+([\d,]+)\s+definitions", "believed_rows.py", r"of (\d+) definitions"),
     (PROOF, r"([\d,]+)\s+changes\s+were\s+refused", "believed_rows.py", r"^(\d+) changes"),
@@ -311,9 +314,11 @@ def lines_of_code(folder: str, ending: str, comment: str) -> int:
 
 
 def counted_here() -> dict[str, str]:
-    """What this script counts itself: wrong bodies, and lines of the crates in thousands."""
+    """What this script counts itself: wrong bodies, lines of the crates in thousands, and those to be believed."""
     lines = {name: str(round(lines_of_code(*files), -3)) for name, files in COUNTED_LINES.items()}
-    return {**lines, WRONG_BODIES: str(len(glob.glob("crates/*/wrong-bodies/*")))}
+    believed = OF_SHOWS.search(sources.read(PROOF))
+    bodies = len(glob.glob("crates/*/wrong-bodies/*"))
+    return {**lines, WRONG_BODIES: str(bodies), BELIEVED: believed[1].replace(",", "") if believed else ""}
 
 
 def right_numbers() -> list[tuple[str, str, str, str]]:
