@@ -149,6 +149,17 @@ class Block:
     is_next: bool
 
 
+@dataclass(frozen=True)
+class Number:
+    """A number on a page: the page, the sentence that has it, the right number ("" if it is not counted), and the line
+    that counts it."""
+
+    page: str
+    sentence: str
+    right: str
+    line: str
+
+
 def texts() -> dict[str, str]:
     """The text of each page, by its path."""
     crates = [f"crates/{name}/README.md" for name in sources.crates_of(sources.TOP)]
@@ -321,33 +332,36 @@ def counted_here() -> dict[str, str]:
     return {**lines, WRONG_BODIES: str(bodies), BELIEVED: believed[1].replace(",", "") if believed else ""}
 
 
-def right_numbers() -> list[tuple[str, str, str, str]]:
-    """For each row of IN_PAGES its page, its sentence, the right number (or "" if it was not found), and the line that
-    has it."""
+def right_numbers() -> list[Number]:
+    """The numbers of IN_PAGES."""
     lines = sources.read(gate.COUNTS).splitlines()
     kept = {**dict(line.split(": ", 1) for line in lines if not line.startswith("#")), **counted_here()}
-    found = [
-        (page, sentence, re.search(place, kept.get(step, "")), kept.get(step, ""))
-        for page, sentence, step, place in IN_PAGES
-    ]
-    return [(page, sentence, f"{int(right[1]):,}" if right else "", line) for page, sentence, right, line in found]
+    numbers: list[Number] = []
+    for page, sentence, step, place in IN_PAGES:
+        line = kept.get(step, "")
+        found = re.search(place, line)
+        numbers.append(Number(page, sentence, f"{int(found[1]):,}" if found else "", line))
+    return numbers
 
 
 def faults_of_counts(pages: Mapping[str, str]) -> Iterator[str]:
     """The numbers of pages that are not those that are counted, or that a page lacks."""
-    for page, sentence, right, line in right_numbers():
-        said = [*re.finditer(sentence, pages[page])]
-        wrong = [" ".join(found[0].split()) for found in said if found[1] != right]
+    for number in right_numbers():
+        said = [*re.finditer(number.sentence, pages[number.page])]
+        wrong = [" ".join(found[0].split()) for found in said if found[1] != number.right]
         if wrong or not said:
-            yield f"{page}: {wrong[0] if wrong else f'no {sentence}'}, and counted is {line or 'nothing'}"
+            what = wrong[0] if wrong else f"no {number.sentence}"
+            yield f"{number.page}: {what}, and counted is {number.line or 'nothing'}"
 
 
 def write_counts(pages: Mapping[str, str]) -> None:
     """Puts the right numbers into the pages."""
     texts = dict(pages)
-    for page, sentence, right, _ in right_numbers():
-        for found in reversed([*re.finditer(sentence, texts[page])] if right else []):
-            texts[page] = texts[page][: found.start(1)] + right + texts[page][found.end(1) :]
+    for number in right_numbers():
+        text = texts[number.page]
+        for found in reversed([*re.finditer(number.sentence, text)] if number.right else []):
+            text = text[: found.start(1)] + number.right + text[found.end(1) :]
+        texts[number.page] = text
     for page, text in texts.items():
         if text != pages[page]:
             sources.write(page, text)
@@ -356,12 +370,9 @@ def write_counts(pages: Mapping[str, str]) -> None:
 def faults_of_contracts(text: str) -> Iterator[tuple[int, str]]:
     """The contracts in README's table of the crates that none of the crates of their row declares."""
     for row in OF_CRATES.finditer(text):
-        paths = [
-            path
-            for crate in CRATE.findall(row[0])
-            for path in glob.glob(f"crates/{crate}/src/**/*.rt", recursive=True)
-        ]
-        declared = {name for path in paths for name in re.findall(r"\b(?:fn|trait) (\w+)", sources.read(path))}
+        folders = [f"crates/{crate}/src" for crate in CRATE.findall(row[0])]
+        code = "".join(sources.read(path) for folder in folders for path in sources.files_below(folder, ".rt"))
+        declared = set(re.findall(r"\b(?:fn|trait) (\w+)", code))
         for name in CONTRACT.findall(row[0].split(" | ")[-1]):
             if name not in declared:
                 yield text.count("\n", 0, row.start()) + 1, f"no crate of this row declares {name}"
@@ -371,9 +382,8 @@ def faults_of_making(text: str) -> Iterator[tuple[int, str]]:
     """The sentences of a page that speak of how the project was made. The headings of versions have their dates."""
     tokens = parsed(text)
     for before, token in zip(tokens, tokens[1:]):
-        found = (
-            OF_THE_MAKING.search(token.content) if before.type != "heading_open" and token.type == "inline" else None
-        )
+        is_prose = token.type == "inline" and before.type != "heading_open"
+        found = OF_THE_MAKING.search(token.content) if is_prose else None
         if found:
             start, _ = token.map or (0, 0)
             yield start + 1, f"this speaks of the making: {found[0]}"
