@@ -527,7 +527,7 @@ class Installed(unittest.TestCase):
         self.assertLess(level, 3)
 
     def test_no_folder_is_trusted_for_every_package(self) -> None:
-        page = (support.TOP / "README.md").read_text()
+        page = (support.TOP / "docs/INSTALL.md").read_text()
         self.assertNotIn("deb [trusted=yes]", page)
 
 
