@@ -28,18 +28,10 @@ from labeltools.common.messages import ToolError
 from labeltools.lines.symbologies import SYMBOLOGIES
 from labeltools.printing.job import planned, PrintOptions
 from labeltools.sending import ipp
-from labeltools.sending.cups import (
-    ABORTED,
-    dots_of,
-    dpi_of,
-    lp_line,
-    media_of,
-    Queue,
-    queue_of,
-    queues,
-    SentJob,
-    UnknownJob,
-)
+from labeltools.sending.cups import queues
+from labeltools.sending.driver import dots_of, dpi_of
+from labeltools.sending.job import ABORTED, SentJob, UnknownJob
+from labeltools.sending.queue import lp_line, media_of, Queue, queue_of
 from laying import laid_out, look
 from printers import Printer
 from scheduler import raster_of, Scheduler
@@ -549,7 +541,7 @@ class Queues(unittest.TestCase):
         self.assertRegex(said, goes_on)
         self.assertEqual(run.returncode, -signal.SIGINT)
         self.assertIn(b"now printing", found())
-        with mock.patch("labeltools.sending.cups.IDLE", 0.5):
+        with mock.patch("labeltools.sending.job.IDLE", 0.5):
             done = self.printed(*words)
         self.assertRegex(done.stderr.decode(), "it waits in the queue")
         self.assertEqual(done.returncode, 1)

@@ -36,7 +36,7 @@ from labeltools.printing.job import planned
 from labeltools.printing.press import labels_of
 from labeltools.sending import stream, watch
 from labeltools.sending.answers import Query, read_status, Reply
-from labeltools.sending.cups import trouble_of
+from labeltools.sending.job import trouble_of
 from labeltools.sending.journal import Journal
 from labeltools.sending.outlets import Outlet
 from labeltools.sheets.encoding import OTHER_BYTES, OTHER_LINE, OTHER_WORD

@@ -29,11 +29,12 @@ from labeltools.paper.stock import forget, list_stock
 from labeltools.printing.job import DRAWING_DPI, form_of, Job, planned, PrintOptions, refuse
 from labeltools.printing.press import check_count, labels_of, Prepared
 from labeltools.printing.selection import ranges_in, selection_of
-from labeltools.sending.cups import lp_line, Queue, queue_of, SentJob, UnknownJob
+from labeltools.sending.job import SentJob, UnknownJob
 from labeltools.sending.journal import Journal
 from labeltools.sending.network import address_of
 from labeltools.sending.outlets import Files, Outlet, OUTPUT, StandardOutput
 from labeltools.sending.papers import AS_GIVEN
+from labeltools.sending.queue import lp_line, Queue, queue_of
 from labeltools.sending.sender import direct_outlet, labels_text, print_on, Sender
 
 TOOL = "label-print"

@@ -1,27 +1,20 @@
-"""The papers of a printer, as the file of its driver (PPD) or IPP says them, and where labels would
-be cut on them. Lengths are in millimetres.
+"""The papers of a printer, as the file of its driver (PPD) or IPP says them. Lengths are in
+millimetres.
 """
 
 import math
 import re
-from collections.abc import Iterable, Iterator, Mapping, Sequence
+from collections.abc import Iterable, Mapping, Sequence
 from dataclasses import dataclass
-from itertools import cycle, islice
 from typing import NamedTuple
 
-from labeltools.checking.compare import turned
 from labeltools.common.messages import BAD_ARGUMENTS, ToolError
-from labeltools.common.text import counted, give, joined, Remedy, Text
-from labeltools.designs.svg_layout import SvgLayout
-from labeltools.layout.layout import LaidOut
-from labeltools.paper.box import Box
-from labeltools.paper.plan import Dots, Edges, MILLIMETRES, POINTS
+from labeltools.common.text import joined, Remedy, Text
+from labeltools.paper.plan import Edges, MILLIMETRES, POINTS
 from labeltools.paper.stock import Size, size_text
-from labeltools.printing.press import Prepared
 
 POINT = MILLIMETRES / POINTS
 NEAR = 0.5  # by which a page may differ from a paper: drivers round to points
-HIDDEN = 0.2  # of a label that may be on the white edge, for the same reason
 NO_EDGES: Edges = (0.0, 0.0, 0.0, 0.0)
 OFFICE = ((210.0, 297.0), (215.9, 279.4))  # A4 and Letter
 NARROW = 20.0  # narrower papers only label printers have
@@ -42,7 +35,6 @@ PWG = re.compile(r"(custom_min|custom_max|.*)_([0-9.]+)x([0-9.]+)(mm|in)", re.AS
 UNITS = {"mm": 1.0, "in": MILLIMETRES}
 SIDES = ("left", "top", "right", "bottom")
 AS_GIVEN = Remedy("paper-as-given", says=Text("Print on this paper"))
-KEEP_AWAY = Text("Keep labels away from the edge")
 SHEETS = Text(
     "for labels on sheets give {}, or {} with {} and {}",
     *map(Remedy, ("stock", "cell", "columns", "rows")),
@@ -217,55 +209,3 @@ def at_least_none(white: Edges) -> Edges:
     """Returns edges of which none is beyond the paper."""
     left, top, right, bottom = (max(0.0, side) for side in white)
     return left, top, right, bottom
-
-
-def check_edges(printer: str, paper: PrinterPaper, found: Prepared) -> None:
-    """Raises `ToolError` where codes or letters are on the edges of a paper on which a printer
-    prints nothing; `Unsaid` where these are general ones.
-    """
-    if paper.is_general and found.job.options.is_paper_as_given:
-        return
-    plan, area = found.job.plan, found.laid_out.area
-    left, top = (round((side - HIDDEN) / plan.dot) for side in paper.white[:2])
-    right = plan.page[0] - round((paper.white[2] - HIDDEN) / plan.dot)
-    bottom = plan.page[1] - round((paper.white[3] - HIDDEN) / plan.dot)
-
-    def is_cut(box: Box, place: Dots) -> bool:
-        on_page = turned(box, (area.width, area.height), 1) if area.is_turned else box
-        across, down = place[0] + on_page.left, place[1] + on_page.top
-        is_in = left <= across and top <= down and across + on_page.width <= right
-        return not (is_in and down + on_page.height <= bottom)
-
-    whole = Box(0, 0, area.width, area.height)
-    near = {place for place in plan.places if is_cut(whole, place)}
-    places = cycle(plan.places)
-    used = zip(found.prints, islice(places, found.job.options.first - 1, None)) if near else ()
-    cut = sum(
-        place in near and any(is_cut(box, place) for box in boxes_of(item)) for item, place in used
-    )
-    if cut:
-        edges = ",".join(f"{math.ceil(10 * side) / 10:g}" for side in paper.white)
-        raise cut_error(printer, cut, edges, paper.is_general)
-
-
-def cut_error(printer: str, count: int, edges: str, is_general: bool) -> ToolError:
-    """Returns that a printer would cut labels at its edges, or may if it does not say its own."""
-    if not is_general:
-        cut = counted("{} label would be cut", "{} labels would be cut", count)
-        where = Text("{} prints nothing on the edge of this paper", printer)
-        hint = give(Remedy("edge", edges, KEEP_AWAY))
-        return ToolError(Text("{}: {}", where, cut), hint, BAD_ARGUMENTS)
-    may = counted("{} label may be cut", "{} labels may be cut", count)
-    where = Text("{} does not say how near to the edge it prints", printer)
-    edge = Remedy("edge", edges, KEEP_AWAY)
-    hint = Text("give {} if it prints up to the edge, or {}", AS_GIVEN, edge)
-    return Unsaid(Text("{}: {}", where, may), hint, BAD_ARGUMENTS)
-
-
-def boxes_of(item: LaidOut) -> Iterator[Box]:
-    """Yields where a label has codes and letters, in its area."""
-    if isinstance(item.layout, SvgLayout):
-        yield from (symbol.box for symbol in item.layout.symbols)
-        yield from (box for _, _, box, _ in item.layout.texts)
-    else:
-        yield from item.layout.boxes.values()

@@ -15,7 +15,8 @@ from labeltools.layout.layout import LaidOut
 from labeltools.lines.file import LineRecord
 from labeltools.printing.press import Batch, Prepared, Press
 from labeltools.printing.selection import FILE
-from labeltools.sending.cups import NOTHING_CHOSEN, print_by, Queue, SentJob
+from labeltools.sending.edges import check_edges
+from labeltools.sending.job import print_by, SentJob
 from labeltools.sending.journal import Entry, Journal, SENDING
 from labeltools.sending.network import NetworkPrinter, SCHEME
 from labeltools.sending.outlets import (
@@ -27,7 +28,7 @@ from labeltools.sending.outlets import (
     OUTPUT,
     Untaken,
 )
-from labeltools.sending.papers import check_edges
+from labeltools.sending.queue import NOTHING_CHOSEN, Queue
 from labeltools.sending.watch import Watch
 
 

@@ -21,7 +21,7 @@ from labeltools.common.text import counted, NOTHING, Remedy, Text
 from labeltools.lines.file import first_remark, label_lines, last_remark, LineRecord, read_lines
 from labeltools.printing.job import planned
 from labeltools.printing.press import labels_of, Prepared
-from labeltools.sending.cups import job_of, SentJob
+from labeltools.sending.job import job_of, SentJob
 from labeltools.tables.columns import column_word
 from labeltools.tables.guess import guess_of
 from labeltools.tables.money import NotMoney, parse
