@@ -3,7 +3,7 @@ options leave pages as they are.
 """
 
 import re
-from collections.abc import Container, Mapping
+from collections.abc import Container, Iterator, Mapping, Sequence
 from math import gcd
 from typing import Any
 
@@ -17,11 +17,32 @@ UNKNOWN = 0, 0
 SECTIONS = range(6)  # of that code
 SETS_DOTS = re.compile(r'^\*(\w+)\s+[^:\n]+:\s*"[^"]*HWResolution', re.MULTILINE)  # an option
 RESOLUTION = "Resolution"  # the option of drivers
-CHANGES = re.compile(
-    r"(EF|JCL|KD03)?Duplex|(Lex)?Mirror(Print)?|NupPages|NUp|(KC)?Booklet|(FX)?Layout|"
-    r"(Stp)?Orientation|Landscape|Rotate|Copies|StpiShrinkOutput"
+PAPER = ("PageSize", "PageRegion")
+INSTALLED = "InstallableOptions"  # the group of what a printer is made of
+# What the keeper of a queue decides, and what is not on a page: its way through the printer, who
+# may print, how dark and fine it is, and its colours. Found in the name of an option or its text.
+KEPT = re.compile(
+    r"slot|tray|source|feed|\bbins?\b|outputbin|media|\bcut|cutter|eject|tear|peel|rewind|ribbon|"
+    r"thermal|sensor|tracking|print ?mode|"
+    r"user|account|manage?ment|password|department|billing|access|\bpin\b|\bid\b|digit|job ?type|"
+    r"hold|secure|"
+    r"quality|resolution|densit|dark|speed|rate\b|toner|\binks?\b|econo|smooth|halftone|dither|"
+    r"screen|contrast|bright|gamma|satur|sharp|"
+    r"colou?r|gr[ae]y|black|cmyk|rgb|profile|render|trap|intent",
+    re.IGNORECASE,
 )
-NO_CHANGE = ("None", "False", "Off", "No", "1", "1up", "1Up", "1UP", "Portrait", "Crop")
+NOT_KEPT = re.compile(r"mark|overlay|stamp|separat|banner|cover|duplex|mirror|image", re.IGNORECASE)
+# the choices of any other option that do nothing: the first of these that it has
+NEUTRAL = (
+    re.compile(r"(none|off|false|no|not? ?used|disabled?|without)[a-z]?", re.IGNORECASE),
+    re.compile(r"no(t|n)?[A-Z_ ].*|.*(None|Off|False)", re.ASCII),
+    re.compile(r"0(mm|pt|deg|dpi|%)?|1|1-?up|100%?|portrait|single.*|crop", re.IGNORECASE),
+    re.compile(
+        r"((use)?pri?nt?(er)?_?(s|def|set)|normal|default|standard|auto|prompt).*|"
+        r".*(normal|default|standard)",
+        re.IGNORECASE,
+    ),
+)
 
 
 def resolutions_of(driver: Any) -> Mapping[int, str]:
@@ -35,23 +56,61 @@ def resolutions_of(driver: Any) -> Mapping[int, str]:
     return words
 
 
-def plain_of(driver: Any, set_dots: Container[str]) -> Mapping[str, str]:
-    """Returns the options of a driver that change where labels are, each with its choice that does
+def options_of(driver: Any) -> Iterator[Any]:
+    """Yields the options of a driver, but for those of what a printer is made of."""
+    for group in driver.optionGroups:
+        if group.name != INSTALLED:
+            yield from group.options
+            for part in group.subgroups:
+                yield from part.options
+
+
+def neutral_options(driver: Any, set_dots: Container[str]) -> Mapping[str, str]:
+    """Returns the options of a driver that could change a page, each with its choice that does
     nothing, and those that set its dots, each as it is marked: the quality of a job, which a queue
     may have by another name, would change them.
     """
-    options = [option for group in driver.optionGroups for option in group.options]
     found = {}
-    for option in options:
-        choices = {choice["choice"]: choice["marked"] for choice in option.choices}
-        if CHANGES.fullmatch(option.keyword):
-            plain = [choice for choice in NO_CHANGE if choice in choices]
-        else:
-            is_set = option.keyword in set_dots
-            plain = [choice for choice, is_marked in choices.items() if is_set and is_marked]
-        if plain:
-            found[option.keyword] = plain[0]
+    for option in options_of(driver):
+        marked = [choice["choice"] for choice in option.choices if choice.get("marked")]
+        names = [choice["choice"] for choice in option.choices]
+        if option.keyword in PAPER or option.keyword == RESOLUTION:
+            continue
+        if option.keyword in set_dots:
+            found.update({option.keyword: name for name in marked})
+        elif len(names) > 1 and not is_kept(option):
+            found.update({option.keyword: name for name in neutral_of(names)})
     return found
+
+
+def is_kept(option: Any) -> bool:
+    """Returns whether an option stays as a queue has it."""
+    told = f"{spaced(option.keyword)} {option.keyword} {option.text}"
+    return KEPT.search(told) is not None and NOT_KEPT.search(told) is None
+
+
+def spaced(name: str) -> str:
+    """Returns a name of a driver with spaces between its words.
+
+    >>> spaced("JCLPrintMode")
+    'JCL Print Mode'
+    """
+    return re.sub(r"(?<=[a-z])(?=[A-Z])|(?<=[A-Z])(?=[A-Z][a-z])", " ", name)
+
+
+def neutral_of(names: Sequence[str]) -> Sequence[str]:
+    """Returns the choice of an option that does nothing, if one of them says so.
+
+    >>> neutral_of(["On", "Off"]), neutral_of(["PrinterS", "TrueM", "FalseM"])
+    (['Off'], ['FalseM'])
+    >>> neutral_of(["0mm", "3mm"]), neutral_of(["KeepLeft", "KeepRight"])
+    (['0mm'], [])
+    """
+    for pattern in NEUTRAL:
+        found = [name for name in names if pattern.fullmatch(name)]
+        if found:
+            return found[:1]
+    return []
 
 
 def dpi_of(sides: tuple[int, int]) -> int:
@@ -98,7 +157,9 @@ def resolution_of(driver: Any) -> str:
     Those of foomatic all say 600dpi there, whatever they print.
     """
     option = driver.findOption(RESOLUTION)
-    marked = [choice["choice"] for choice in option.choices if choice["marked"]] if option else []
+    marked = (
+        [choice["choice"] for choice in option.choices if choice.get("marked")] if option else []
+    )
     default = driver.findAttr("DefaultResolution")
     if marked or driver.findAttr("FoomaticIDs") or not default:
         return "".join(marked)

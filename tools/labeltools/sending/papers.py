@@ -29,6 +29,11 @@ SIDE = re.compile(
 )
 MARGINS = re.compile(r"^\*HWMargins:" + NUMBER * 4, re.MULTILINE)
 FOOMATIC = re.compile(r"^\*cupsFilter2?:.*\bfoomatic-rip\b", re.MULTILINE)
+# the bytes of a row of dots that a driver of ptouch sends, and the dots an inch
+HEAD_BYTES = re.compile(r"\bBytesPerLine=(\d+) ")
+HEAD_DPI = re.compile(r"-r(\d+)")
+BITS = 8
+SLACK = 1.5  # by which a paper may be wider than the head: labels are white there
 GENERAL = (18.0, 36.0, 18.0, 36.0)  # points: foomatic writes these edges where nobody told any
 # a name of PWG 5101.1, such as na_letter_8.5x11in; custom_min_ and custom_max_ have the ends
 PWG = re.compile(r"(custom_min|custom_max|.*)_([0-9.]+)x([0-9.]+)(mm|in)", re.ASCII)
@@ -62,7 +67,7 @@ class PrinterPaper(NamedTuple):
 @dataclass(frozen=True)
 class Papers:
     """The papers that a printer has by name; the least and the largest sides of others, where it
-    takes such, and the edges of these.
+    takes such, and the edges of these; how wide its head is, as far as its driver says that.
     """
 
     known: Sequence[PrinterPaper] = ()
@@ -70,6 +75,7 @@ class Papers:
     most: Size = (0.0, 0.0)
     white: Edges = NO_EDGES
     is_general: bool = False
+    head: float = math.inf
 
     @property
     def is_office(self) -> bool:
@@ -80,16 +86,37 @@ class Papers:
 
     def find(self, page: Size) -> PrinterPaper | None:
         """Returns the paper of a page, whose name is empty if it has none; None where there is no
-        such paper. Drivers that take any size take none that is wider than all that they name.
+        such paper.
         """
+        if self.is_too_wide(page):
+            return None
         for paper in self.known:
             if is_near(paper.size, page):
-                return paper
-        widest = max((side for paper in self.known for side in paper.size), default=math.inf)
-        ends = zip(self.least, page, (min(self.most[0], widest), self.most[1]))
+                return self.within_head(paper)
+        ends = zip(self.least, page, self.most)
         if all(least - NEAR <= side <= most + NEAR for least, side, most in ends):
-            return PrinterPaper("", page, self.white, self.is_general)
+            return self.within_head(PrinterPaper("", page, self.white, self.is_general))
         return None
+
+    @property
+    def widest(self) -> float:
+        """How wide a paper may be: across the head, whatever its length. Drivers that take any size
+        name the widest, and print no wider one.
+        """
+        named = max((paper.size[0] for paper in self.known), default=math.inf)
+        return self.head if self.head + SLACK < named else named
+
+    def is_too_wide(self, page: Size) -> bool:
+        """Returns whether a page is wider than what is printed across."""
+        return page[0] > self.widest + NEAR
+
+    def within_head(self, paper: PrinterPaper) -> PrinterPaper:
+        """Returns a paper, with what is beside the head as its edges: drivers leave that out on one
+        side, and do not say on which.
+        """
+        beside = paper.size[0] - self.head
+        left, top, right, bottom = paper.white
+        return paper._replace(white=(max(left, beside), top, max(right, beside), bottom))
 
     def paper(self, printer: str, page: Size, is_given: bool = False) -> PrinterPaper:
         """Returns the paper of a page; raises `ToolError` where a printer has none. One of which
@@ -102,9 +129,14 @@ class Papers:
         if found is not None:
             return found
         what = Text("{} has no paper of {}", printer, size_text(page))
+        hint = Text("take narrower labels, or another printer")
+        if self.is_too_wide(page):
+            sizes = self.widest, page[0]
+            what = Text("{} prints {:.4g} mm across, and this is {:g} mm wide", printer, *sizes)
         other = (page[1], page[0])
         if self.find(other):
             hint = Text("it has {}: give the sides in this order", size_text(other))
+        if self.find(other) or self.is_too_wide(page):
             raise ToolError(what, hint, BAD_ARGUMENTS)
         if self.is_below(page):
             if is_given:
@@ -157,12 +189,24 @@ def papers_of_driver(text: str) -> Papers:
         known.append(PrinterPaper(found[1], (width, height), white, is_general))
     sides = {found[1]: in_millimetres(found.groups()[1:]) for found in SIDE.finditer(text)}
     if not CUSTOM.search(text) or len(sides) < len(("Width", "Height")):
-        return Papers(known)
+        return Papers(known, head=head_of(text))
     ends = tuple(zip(sides["Width"], sides["Height"]))
     margins = MARGINS.search(text)
     left, bottom, right, top = in_millimetres(margins.groups()) if margins else NO_EDGES
     white = (left, top, right, bottom)
-    return Papers(known, ends[0], ends[1], white, has_general and are_general(white))
+    is_general = has_general and are_general(white)
+    return Papers(known, ends[0], ends[1], white, is_general, head_of(text))
+
+
+def head_of(text: str) -> float:
+    """Returns how wide the head of a label printer is, by the file of its driver; infinite if that
+    does not say it.
+
+    >>> round(head_of('X=180dpi: " -r180x180" .. Y=16: " BytesPerLine=16 "'), 2)
+    18.06
+    """
+    size, dots = HEAD_BYTES.search(text), HEAD_DPI.search(text)
+    return BITS * int(size[1]) / int(dots[1]) * MILLIMETRES if size and dots else math.inf
 
 
 def papers_of_ipp(attributes: Mapping[str, object]) -> Papers:

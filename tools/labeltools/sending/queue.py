@@ -19,7 +19,8 @@ from labeltools.sending.driver import (
     common_dots,
     dots_of,
     dpi_of,
-    plain_of,
+    neutral_options,
+    PAPER,
     RESOLUTION,
     resolutions_of,
     SETS_DOTS,
@@ -61,10 +62,8 @@ PLAIN = {
     "fit-to-page": "false",
     "fitplot": "false",
     "print-scaling": "none",
+    "pdftops-renderer": "hybrid",  # others turn labels that are wider than high
 }
-# options of drivers that the labels decide: their paper, and what turns, doubles or moves a page,
-# with the choices of it that do nothing
-PAPER = ("PageSize", "PageRegion")
 ADD_QUEUE = Text("add it in the settings of printers")
 NO_QUEUE = Text(
     "add it in the settings of printers; for one on USB give {}, for one in the network {}",
@@ -225,7 +224,7 @@ def queue_of(name: str, chosen: Mapping[str, str] = NOTHING_CHOSEN) -> Queue:
     for option, value in chosen.items():
         driver.markOption(option, value)
     own = dots_of(driver)
-    plain = plain_of(driver, {*SETS_DOTS.findall(text)})
+    plain = neutral_options(driver, {*SETS_DOTS.findall(text)})
     words = resolutions_of(driver)
     dpi = dpi_of(own)
     device = connection().getPrinterAttributes(name).get("device-uri", "")
@@ -243,7 +242,10 @@ def job_options(job: Job, queue: Queue, chosen: Mapping[str, str]) -> Mapping[st
     others = {
         name: value for name, value in chosen.items() if name not in (*PAPER, *PLAIN, *queue.plain)
     }
-    return {**plain, **({} if own is RAW else queue.plain), **others, **own}
+    if own is RAW:
+        return {**plain, **others, **own}
+    dots = job.plan.dpi if RESOLUTION in own else queue.dpi or job.plan.dpi
+    return {**plain, **queue.plain, **others, "printer-resolution": f"{dots}dpi", **own}
 
 
 def direct_ways(device: str) -> tuple[str, Sequence[str]]:
