@@ -212,11 +212,11 @@ class Bombs(unittest.TestCase):
 
     def test_a_budget(self) -> None:
         budget = Budget("a.csv", 10)
-        budget.take(CELLS, 4_000_080)
-        with self.assertRaisesRegex(TooMuch, "^a.csv takes too much, more than 4,000,080 cells"):
+        budget.take(CELLS, 4_000_020)
+        with self.assertRaisesRegex(TooMuch, "^a.csv takes too much, more than 4,000,020 cells"):
             budget.take(CELLS, 1)
         budget.look()
-        with mock.patch("time.thread_time", lambda: budget.begin + budget.most(SECONDS) + 1):
+        with mock.patch("time.thread_time", lambda: budget.begin + SECONDS.most(10) + 1):
             with self.assertRaisesRegex(TooMuch, "more than 20 seconds of the processor"):
                 budget.look()
 
@@ -235,7 +235,7 @@ class Inputs(unittest.TestCase):
         for tool, words in (("label-table", ["--code", "EAN"]), ("label-print", ROLL)):
             done = support.run(tool, *words, str(self.path))
             self.assertEqual(done.returncode, 1)
-            self.assertIn("has more than 512 MB", support.messages(done)[-1])
+            self.assertIn("takes too much, more than 512 MB", support.messages(done)[-1])
 
     def test_a_fifo_that_nobody_writes_to(self) -> None:
         os.mkfifo(self.path)

@@ -7,11 +7,10 @@ import shlex
 import sys
 from contextlib import suppress
 from dataclasses import fields, replace
-from pathlib import Path
 from typing import Any, Callable, Sequence, TypeVar
 
 from labeltools.common.arguments import flag, Parser, value, words_of, wrong_argument
-from labeltools.common.budget import Budget
+from labeltools.common.budget import Budget, TABLE
 from labeltools.common.messages import (
     BadArguments,
     Origin,
@@ -21,7 +20,7 @@ from labeltools.common.messages import (
     ToolError,
     write_message,
 )
-from labeltools.common.process import CommandTalk, read_input, standard_output
+from labeltools.common.process import CommandTalk, read_file, read_input, standard_output
 from labeltools.common.report import listed
 from labeltools.common.text import either, joined, NOTHING, remedies_of, Remedy, Text
 from labeltools.lines.file import LinesFile, read_lines
@@ -322,7 +321,7 @@ def proposed(words: Sequence[str], arguments: argparse.Namespace) -> Text:
     """
     if arguments.table in (None, "-"):
         return NOTHING
-    name, data = read_input(arguments.table)
+    name, data = read_input(arguments.table, TABLE)
     options = TableOptions(file=made(FileOptions, arguments))
     budget = Budget(name, len(data))
     old = None if arguments.encoding else old_encoding(data, name, options, budget)
@@ -439,7 +438,7 @@ def older_lines(path: str) -> LinesFile:
     """Returns the lines of an older file; one that is empty has none. Raises `ToolError` for a file
     that is not of label-table, such as an older table.
     """
-    lines = read_lines(Path(path).read_bytes(), path)
+    lines = read_lines(read_file(path), path)
     if any(record.symbology not in SYMBOLOGIES for record in lines.records):
         hint = Text("give the file that label-table made of a table")
         raise ToolError(Text("{} has lines that are not of label-table", path), hint)
@@ -452,7 +451,7 @@ def run() -> int:
     arguments = understood(sys.argv[1:])
     output = standard_output()
     options = table_options(arguments)
-    name, data = read_input(arguments.table)
+    name, data = read_input(arguments.table, TABLE)
     talk = TableTalk()
     lines = lines_of_table(data, name, options, talk)
     talk.finish()

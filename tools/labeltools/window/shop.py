@@ -14,6 +14,7 @@ from typing import Any
 
 from labeltools.commands import label_print as print_command, label_table as table_command
 from labeltools.common.arguments import words_of
+from labeltools.common.budget import TABLE
 from labeltools.common.messages import Cancelled, Origin, Talk, ToolError
 from labeltools.common.process import read_input
 from labeltools.common.report import LeftOut
@@ -109,7 +110,7 @@ class Table:
         """Reads a table by further words of label-table, None for those that are kept; its names
         are in the row `header` (0: in none) where that is known. Raises `ToolError` and `OSError`.
         """
-        _, self.data = read_input(str(path))
+        _, self.data = read_input(str(path), TABLE)
         self.path = path
         before = FILES.all().get(path.name, "") if text is None else ""
         try:
