@@ -3,7 +3,6 @@
 import argparse
 import gc
 import re
-import shlex
 import sys
 from contextlib import suppress
 from dataclasses import fields, replace
@@ -22,7 +21,16 @@ from labeltools.common.messages import (
 )
 from labeltools.common.process import CommandTalk, read_file, read_input, standard_output
 from labeltools.common.report import listed
-from labeltools.common.text import either, joined, NOTHING, remedies_of, Remedy, Text
+from labeltools.common.text import (
+    either,
+    joined,
+    NOTHING,
+    remedies_of,
+    Remedy,
+    shell_line,
+    shell_word,
+    Text,
+)
 from labeltools.lines.file import LinesFile, read_lines
 from labeltools.lines.symbologies import EAN13, SYMBOLOGIES
 from labeltools.sheets.file_options import FileOptions
@@ -390,7 +398,7 @@ def say_of_others(guess: Guess) -> None:
 
 def words_for(guess: Guess, places: Sequence[int]) -> str:
     """Returns the columns at some places as a command has them, the first ones of many."""
-    words = [shlex.quote(column_word(guess.names, at)) for at in places]
+    words = [shell_word(column_word(guess.names, at)) for at in places]
     return ", ".join(words[:MOST_NAMED] + [".."] * (len(words) > MOST_NAMED))
 
 
@@ -416,7 +424,7 @@ def command_for(
         is_asked = guess.header > 1 or column_word(guess.names, code).isdecimal()
         options["header-row"] = guess.header if is_asked else 0
         options["no-header"] = not guess.header
-    return shlex.join([TOOL, *words_of(options), *words])
+    return shell_line([TOOL, *words_of(options), *words])
 
 
 def more_options(guess: Guess, arguments: argparse.Namespace) -> dict[str, str]:

@@ -4,7 +4,6 @@ on which paper, a job that it prints dot for dot, and what becomes of that.
 
 import os
 import re
-import shlex
 import time
 from collections.abc import Callable, Container, Iterator, Mapping, Sequence, Sized
 from contextlib import contextmanager
@@ -17,7 +16,7 @@ from typing import Any, IO
 from urllib.parse import unquote, urlsplit
 
 from labeltools.common.messages import BAD_ARGUMENTS, ToolError
-from labeltools.common.text import either, joined, NOTHING, Remedy, Text
+from labeltools.common.text import either, joined, NOTHING, Remedy, shell_line, shell_word, Text
 from labeltools.drawing.forms import PDF
 from labeltools.paper.stock import Size
 from labeltools.printing.job import DRAWING_DPI, Job
@@ -200,7 +199,7 @@ class Queue:
         """Returns how a label printer takes labels whose queue has the driver of another one."""
         device, ways = direct_ways(self.device)
         labels = f"{self.name}-labels"
-        line = shlex.join(["lpadmin", "-p", labels, "-E", "-v", device, "-m", "raw"])
+        line = shell_line(["lpadmin", "-p", labels, "-E", "-v", device, "-m", "raw"])
         to = Remedy("print", labels)
         return Text(
             "for a label printer give {}, or make a queue without a driver and give {}: {}",
@@ -323,7 +322,7 @@ class SentJob:
             return JobState(NOTHING, said, True, True)
         found = trouble_of(self.queue, printer)
         if state == HELD and found is None:
-            line = shlex.join(["lp", "-i", f"{self.queue}-{self.number}", "-H", "resume"])
+            line = shell_line(["lp", "-i", f"{self.queue}-{self.number}", "-H", "resume"])
             found = Trouble(Text("job {} is held: {}", self.number, said), lets_go_on(line))
         trouble = Text("{}: {}", self.queue, found.what) if found else NOTHING
         is_stopped = printer["printer-state"] == PRINTER_STOPPED
@@ -364,12 +363,12 @@ def trouble_of(queue: str, printer: Mapping[str, Any]) -> Trouble | None:
     """Returns what keeps a queue from printing, by its attributes in CUPS; None if nothing does."""
     reasons = printer.get("printer-state-reasons", ())
     if any(reason.startswith("paused") for reason in reasons):
-        return Trouble(Text("it is paused"), lets_go_on(shlex.join(["cupsenable", queue])))
+        return Trouble(Text("it is paused"), lets_go_on(shell_line(["cupsenable", queue])))
     for name, trouble in REASONS.items():
         if any(reason.startswith(name) for reason in reasons):
             return trouble
     if printer.get("printer-state") == PRINTER_STOPPED:
-        return Trouble(Text("it has stopped"), lets_go_on(shlex.join(["cupsenable", queue])))
+        return Trouble(Text("it has stopped"), lets_go_on(shell_line(["cupsenable", queue])))
     return None
 
 
@@ -519,7 +518,7 @@ def lp_line(job: Job, name: str) -> str:
     dpi = job.plan.dpi
     options = Queue(name, 0, {dpi: f"{dpi}dpi"}).options(job)
     words = ["raw"] if options is RAW else [f"{name}={value}" for name, value in options.items()]
-    given = [shlex.join(["lp", "-d", name]), *map(shlex.quote, words)]
+    given = [shell_line(["lp", "-d", name]), *map(shell_word, words)]
     return " -o ".join(given) + f" FILE.{job.form.name}"
 
 

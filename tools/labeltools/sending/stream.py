@@ -283,7 +283,7 @@ class Stream:
         numbers, lines_read = zip(*parts)
         budget = Budget(Text("line {}", numbers[-1]), LONGEST_LINE, SINGLE_LINE)
         try:
-            for line in lines_read:
+            for line in lines_read[:-1]:  # a long one of data is refused for that
                 budget.allow(LINE_OF_STREAM, len(line))
             lines = drawn_lines(
                 b"".join(lines_read), self.name, self.options.is_escaped, Silence(), numbers
