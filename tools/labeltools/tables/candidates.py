@@ -10,6 +10,7 @@ from labeltools.tables.amounts import (
     is_always_below,
     is_never_above,
     is_paid_beside,
+    is_reduced,
     is_taxed,
 )
 from labeltools.tables.cell_kinds import (
@@ -244,7 +245,7 @@ def price_candidates(columns: Samples) -> tuple[Sequence[int], int | None]:
     pairs = [
         (at, it)
         for at, it in pairs_of({**priced, **taxes})
-        if at in priced and is_taxed(columns[at], columns[it])
+        if at in priced and is_surely_taxed(columns[at], columns[it])
     ]
     bare = {at for at, _ in pairs}
     whole = {it for _, it in pairs} - bare
@@ -265,6 +266,18 @@ def price_candidates(columns: Samples) -> tuple[Sequence[int], int | None]:
         or any(is_always_below(cost, columns[paid[0]]) for cost in costs)
     )
     return paid, paid[0] if is_proved else None
+
+
+def is_surely_taxed(column: ColumnSample, whole: ColumnSample) -> bool:
+    """Returns whether amounts prove that a column is another one with a tax. They prove nothing
+    where names say that it is advised or usual, or that the other one is what customers pay; nor
+    where it may be a price before a discount, unless its name says that it has the tax.
+    """
+    if whole.says("advised", "regular"):
+        return False
+    if column.says("sold", "taxed") and not whole.says("sold", "taxed"):
+        return False
+    return is_taxed(column, whole) and (bool(whole.says("taxed")) or not is_reduced(column, whole))
 
 
 def is_price_asked(columns: Samples, chosen: int) -> bool:
