@@ -50,6 +50,7 @@ Filter application/vnd.cups-raster 100 -
 ColorModel "Gray" k chunky 0
 *MediaSize A4
 """
+PAPER = "*MediaSize A4\n"
 HEADER = 1796  # bytes of a page of CUPS raster before its rows
 
 
@@ -114,7 +115,19 @@ KINDS = {
     "vendor": own("StpOrientation", "Portrait", "Landscape")
     + own("NupPages", "1up", "2up")
     + own("FXLayout", "Off", "4up")
+    + own("QQWatermark", "Off", "On")
+    + own("QQShift", "None", "Small")
+    + own("QQFrame", "PrinterDefault", "Double")
+    + own("QQDarkness", "Default", "High")
     + option("Resolution", _300dpi="300 300"),
+    # a tape of 24 mm, of any length
+    "tape": "HWMargins 0 0 0 0\nVariablePaperSize Yes\nMinSize 36 36\nMaxSize 2000 2000\n"
+    + '#media "Tape24/24 mm" 68 284\n*MediaSize Tape24\n'
+    + option("Resolution", _180dpi="180 180"),
+    # a printer that takes PostScript
+    "postscript": "Filter application/vnd.cups-postscript 0 -\nHWMargins 0 0 0 0\n"
+    + "VariablePaperSize Yes\nMinSize 36 36\nMaxSize 612 1008\n"
+    + option("Resolution", _600dpi="600 600"),
     # one with two trays
     "trays": option("Resolution", _600dpi="600 600")
     + "\n"
@@ -178,7 +191,8 @@ class Scheduler:
         source = Path(SAMPLES)
         if driver in KINDS:
             source = self.folder / f"{driver}.drv"
-            source.write_text(DRIVER.format(name=driver) + KINDS[driver] + "\n")
+            head = DRIVER if "MediaSize" not in KINDS[driver] else DRIVER.replace(PAPER, "")
+            source.write_text(head.format(name=driver) + KINDS[driver] + "\n")
         ppdc = ["ppdc", "-d", str(self.folder), str(source)]
         subprocess.run(ppdc, check=True, capture_output=True)
         words += ["-P", f"{self.folder}/{driver}.ppd"]

@@ -28,18 +28,11 @@ from labeltools.common.messages import ToolError
 from labeltools.lines.symbologies import SYMBOLOGIES
 from labeltools.printing.job import planned, PrintOptions
 from labeltools.sending import ipp
-from labeltools.sending.cups import (
-    ABORTED,
-    dots_of,
-    dpi_of,
-    lp_line,
-    media_of,
-    Queue,
-    queue_of,
-    queues,
-    SentJob,
-    UnknownJob,
-)
+from labeltools.sending.cups import queues
+from labeltools.sending.driver import dots_of, dpi_of
+from labeltools.sending.job import ABORTED, SentJob, UnknownJob
+from labeltools.sending.papers import Papers, papers_of_driver
+from labeltools.sending.queue import lp_line, media_of, Queue, queue_of
 from laying import laid_out, look
 from printers import Printer
 from scheduler import raster_of, Scheduler
@@ -136,6 +129,58 @@ class Drivers(unittest.TestCase):
             ([told(360, 600)], 0),
         ):
             self.assertEqual(dpi_of(dots_of(Driver(*code))), dots, code)
+
+
+# label printers by the files of their drivers in Debian's packages printer-driver-ptouch and
+# printer-driver-dymo: the widest paper that these name, in points, the bytes of a row and the dots
+# an inch, if they say them; how wide labels may be in millimetres, and what is too wide
+HEADS = (
+    ("PT-1960", 51, 12, 180, 13, 18),
+    ("PT-1500PC", 68, 14, 180, 15, 18),
+    ("PT-1950VP", 51, 14, 180, 15, 18),
+    ("PT-2300", 68, 16, 180, 18, 24),
+    ("PT-P700", 68, 16, 180, 18, 24),
+    ("PT-3600", 102, 48, 360, 27, 36),
+    ("PT-9200DX", 102, 48, 360, 27, 36),
+    ("PT-P900W", 102, 70, 360, 36, 40),
+    ("QL-500", 176, 90, 300, 62, 66),
+    ("QL-820NWB", 176, 90, 300, 62, 66),
+    ("LabelManager 450", 68, 0, 180, 24, 25),
+    ("LabelWriter 450", 175.44, 0, 300, 61, 63),
+    ("LabelWriter 4XL", 307.68, 0, 300, 108, 110),
+)
+
+
+class Heads(unittest.TestCase):
+    def papers(self, width: float, size: int, dpi: int) -> Papers:
+        """The papers of a driver that takes paper of any size, and names some of 100 mm."""
+        lines = [f'*PaperDimension {wide}: "{wide} 284"' for wide in (34, width)]
+        lines.append('*CustomPageSize True: "pop"')
+        lines += [
+            f"*ParamCustomPageSize {side}: 1 points 16 100000" for side in ("Width", "Height")
+        ]
+        if size:
+            lines.append(f'*FoomaticRIPOptionSetting Resolution={dpi}dpi: " -r{dpi}x{dpi}"')
+            lines.append(f'*FoomaticRIPOptionSetting BytesPerLine={size}: " BytesPerLine={size} "')
+        return papers_of_driver("\n".join([*lines, ""]))
+
+    def test_labels_that_are_wider_than_the_head(self) -> None:
+        """Whatever their length, and however long the papers are that a driver names."""
+        for name, width, size, dpi, narrow, wide in HEADS:
+            papers = self.papers(width, size, dpi)
+            for length in (25.0, 100.2, 400.0):
+                with self.subTest(printer=name, length=length):
+                    self.assertAlmostEqual(papers.paper(name, (narrow, length)).size[0], narrow, 0)
+                    with self.assertRaisesRegex(
+                        ToolError, f"mm across, and this is {wide} mm wide"
+                    ):
+                        papers.paper(name, (wide, length))
+
+    def test_what_is_beside_the_head_is_white(self) -> None:
+        """A paper of 62 mm is printed on 60.96 of them: on which side is not known."""
+        paper = self.papers(176, 90, 300).paper("QL-500", (62.0, 100.0))
+        for side in (paper.white[0], paper.white[2]):
+            self.assertAlmostEqual(side, paper.size[0] - 60.96, 2)
 
 
 class Symbologies(unittest.TestCase):
@@ -378,20 +423,57 @@ class Queues(unittest.TestCase):
         label_printer.wait(5)
         self.assertEqual(b"".join(label_printer.labels), plain)
 
+    def jobs_of(self, kind: str, *changes: str) -> tuple[bytes, bytes]:
+        """What arrives at a queue of a kind of driver, and at one with other defaults."""
+        found = []
+        for name, options in ((f"{kind}-as-it-is", ()), (f"{kind}-changed", changes)):
+            self.add(name, kind)
+            if options:
+                self.scheduler.change(name, *options)
+            done = self.printed(*self.SHEET, "--print", name)
+            self.assertEqual(done.returncode, 0, done.stderr)
+            found.append(self.scheduler.printed(name))
+            self.doCleanups()
+        return found[0], found[1]
+
     def test_words_of_vendors_and_qualities_touch_no_label(self) -> None:
-        """Those that a driver knows are said for each job; the quality leaves the dots."""
+        """Each option is asked for at what it has for nothing, whatever it is called; the quality
+        leaves the dots.
+        """
+        turned = ("StpOrientation=Landscape", "NupPages=2up", "FXLayout=4up")
+        added = ("QQWatermark=On", "QQShift=Small", "QQFrame=Double")
         for kind, changes in (
-            ("vendor", ("StpOrientation=Landscape", "NupPages=2up", "FXLayout=4up")),
+            ("vendor", (*turned, *added)),
             ("quality", ("print-quality-default=3",)),
+            ("postscript", ("pdftops-renderer-default=pdftocairo",)),
         ):
-            found = []
-            for name, options in ((f"{kind}-as-it-is", ()), (f"{kind}-changed", changes)):
-                self.add(name, kind)
-                if options:
-                    self.scheduler.change(name, *options)
-                self.assertEqual(self.printed(*self.SHEET, "--print", name).returncode, 0)
-                found.append(self.scheduler.printed(name))
-            self.assertEqual(*found)
+            with self.subTest(kind=kind):
+                before, after = map(without_comments, self.jobs_of(kind, *changes))
+                self.assertEqual(before, after)
+
+    def test_how_dark_a_queue_prints_stays(self) -> None:
+        before, after = self.jobs_of("vendor", "QQDarkness=High")
+        self.assertNotEqual(before, after)
+        self.assertTrue(numpy.array_equal(raster_of(before)[1], raster_of(after)[1]))
+
+    def test_the_resolution_of_a_queue_without_a_driver(self) -> None:
+        """That is asked for, whatever the queue has for jobs that do not say it."""
+        self.scheduler.add_driverless("other-dots")
+        self.addCleanup(self.scheduler.remove, "other-dots")
+        self.scheduler.change("other-dots", "printer-resolution-default=300dpi")
+        done = self.printed(*self.SHEET, "--print", "other-dots")
+        self.assertIn(b"at 600 dpi", done.stderr)
+        self.assertEqual(raster_of(self.scheduler.printed("other-dots"))[0], (600, 600))
+
+    def test_a_driver_whose_default_is_none_of_its_choices(self) -> None:
+        self.add("outside", "plain")
+        path = self.scheduler.folder / "ServerRoot/ppd/outside.ppd"
+        text = path.read_text()
+        self.assertIn("*DefaultResolution: 300dpi", text)
+        path.write_text(text.replace("*DefaultResolution: 300dpi", "*DefaultResolution: 450dpi"))
+        done = self.printed(*self.SHEET, "--print", "outside")
+        self.assertEqual(done.returncode, 0, done.stderr)
+        self.assertEqual(raster_of(self.scheduler.printed("outside"))[0], (600, 600))
 
     def test_paper_that_a_driver_does_not_know(self) -> None:
         """It is asked for: a general edge, a size below the least, and the dots of a roll."""
@@ -450,6 +532,7 @@ class Queues(unittest.TestCase):
 
     def test_paper_that_a_printer_has_not(self) -> None:
         self.add("any-size", "edged")
+        self.add("tape", "tape")
         turned = ("--paper", "88.9x35.63")
         grid = ("--cell", "50x30", "--columns", "2", "--rows", "2", "--page", "105x62")
         for queue, words, said in (
@@ -459,9 +542,10 @@ class Queues(unittest.TestCase):
                 "no paper of 60 by 40 mm: the nearest that it has is 209.9 by 297",
             ),
             ("plain", grid, "for labels on sheets give --stock, or --cell with --columns"),
-            ("file-dymo", self.SHEET, "file-dymo has no paper of 210 by 297 mm: the nearest"),
+            ("file-dymo", self.SHEET, "prints 57.15 mm across, and this is 210 mm wide: take"),
             ("file-dymo", turned, "it has 35.63 by 88.9 mm: give the sides in this order"),
-            ("any-size", ("--paper", "300x300"), "no paper of 300 by 300 mm: the nearest"),
+            ("any-size", ("--paper", "300x300"), "prints 209.9 mm across, and this is 300 mm"),
+            ("tape", self.ROLL, "tape prints 23.99 mm across, and this is 60 mm wide"),
             ("any-size", self.ROLL, "5 labels would be cut; give --edge 4.3,4.3,4.3,4.3"),
             (
                 "plain",
@@ -549,7 +633,7 @@ class Queues(unittest.TestCase):
         self.assertRegex(said, goes_on)
         self.assertEqual(run.returncode, -signal.SIGINT)
         self.assertIn(b"now printing", found())
-        with mock.patch("labeltools.sending.cups.IDLE", 0.5):
+        with mock.patch("labeltools.sending.job.IDLE", 0.5):
             done = self.printed(*words)
         self.assertRegex(done.stderr.decode(), "it waits in the queue")
         self.assertEqual(done.returncode, 1)
@@ -566,6 +650,11 @@ class Queues(unittest.TestCase):
             done = support.run("label-print", *words, input=FIVE, PYTHONPATH=path)
         self.assertEqual(done.returncode, 1)
         self.assertIn(b"apt-get install python3-cups", done.stderr)
+
+
+def without_comments(job: bytes) -> bytes:
+    """A job without the comments of PostScript, which have its time."""
+    return re.sub(rb"(?m)^%%.*\n", b"", job) if job.startswith(b"%!PS") else job
 
 
 def larger(bars: Bars, across: int, down: int) -> Bars:

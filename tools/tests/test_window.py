@@ -33,7 +33,8 @@ from labeltools.common.text import NOTHING, Text
 from labeltools.drawing.forms import FORMS
 from labeltools.printing.job import planned
 from labeltools.sending import cups as sending_cups, printers as sending
-from labeltools.sending.cups import JobState, Queue, SentJob
+from labeltools.sending.job import JobState, SentJob
+from labeltools.sending.queue import Queue
 from labeltools.tables.codes import NAMES
 from printers import Printer, READY, STATUS
 from scheduler import raster_of, Scheduler, WITH_TEST

@@ -200,7 +200,7 @@ def draw_number(canvas: Any, text: str, x: float, y: float) -> None:
 
 def made_up(address: str) -> Iterator[Any]:
     """Yields printers that nobody has, and one of the tests."""
-    from labeltools.sending.cups import REASONS
+    from labeltools.sending.job import REASONS
     from labeltools.sending.printers import NETWORK, NOT_TRIED, Printer, QUEUE, READY, USB
     from labeltools.common.text import Text
 
@@ -296,7 +296,7 @@ def show_printers(camera: Camera) -> None:
 def show_events(camera: Camera) -> None:
     """Pictures of what happens to labels."""
     from labeltools.common.text import Text
-    from labeltools.sending.cups import JobState, REASONS, SentJob, trouble_of
+    from labeltools.sending.job import JobState, REASONS, SentJob, trouble_of
     from labeltools.window.ways import event_of
 
     window = camera.window
@@ -337,7 +337,7 @@ def show_events(camera: Camera) -> None:
 def waiting_for(job: Any, trouble: Any) -> Any:
     """The state of a job whose queue is in trouble."""
     from labeltools.common.text import Text
-    from labeltools.sending.cups import JobState
+    from labeltools.sending.job import JobState
 
     what = Text("{}: {}", job.queue, trouble.what)
     return JobState(what, "", False, is_waiting=True, cure=trouble.cure)
@@ -365,7 +365,7 @@ def draw(options: argparse.Namespace) -> None:
     zebra = TestPrinter(within=17).start()  # which breaks off once
     shown = [*made_up(zebra.name)], "laser"
     found = mock.patch("labeltools.window.printers.found_printers", return_value=shown)
-    from labeltools.sending.cups import Queue
+    from labeltools.sending.queue import Queue
 
     queue = mock.patch("labeltools.window.printers.queue_of", lambda name: Queue(name, 600, {}))
     with found, queue:

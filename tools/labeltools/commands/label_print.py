@@ -20,7 +20,7 @@ from labeltools.common.process import (
     standard_output,
 )
 from labeltools.common.report import places_text, Ranges, report
-from labeltools.common.text import counted, joined, Text
+from labeltools.common.text import counted, joined, shell_line, Text
 from labeltools.designs.svg_design import is_file
 from labeltools.drawing.forms import FORMS
 from labeltools.layout.area import PURPOSES
@@ -29,11 +29,12 @@ from labeltools.paper.stock import forget, list_stock
 from labeltools.printing.job import DRAWING_DPI, form_of, Job, planned, PrintOptions, refuse
 from labeltools.printing.press import check_count, labels_of, Prepared
 from labeltools.printing.selection import ranges_in, selection_of
-from labeltools.sending.cups import lp_line, Queue, queue_of, SentJob, UnknownJob
+from labeltools.sending.job import SentJob, UnknownJob
 from labeltools.sending.journal import Journal
 from labeltools.sending.network import address_of
 from labeltools.sending.outlets import Files, Outlet, OUTPUT, StandardOutput
 from labeltools.sending.papers import AS_GIVEN
+from labeltools.sending.queue import lp_line, Queue, queue_of
 from labeltools.sending.sender import direct_outlet, labels_text, print_on, Sender
 
 TOOL = "label-print"
@@ -326,11 +327,10 @@ def check_journal(options: PrintOptions, journal: Journal) -> None:
         names = ", ".join(sorted(journal.printers())) or Text("nothing")
         what = Text("{} has no label of {}", journal.path, options.again)
         raise ToolError(what, Text("--again: the journal has these printers: {}", names))
-    if journal.has_readers:
-        what = Text(
-            "{} can be read by users who may not write it, and who can stop it", journal.path
-        )
-        write_message(TOOL, sentence(what, Text("put it into a folder of your own")))
+    if journal.has_others:
+        what = Text("other users may read or write {}, and stop it", journal.path)
+        line = shell_line(["chmod", "go=", journal.path])
+        write_message(TOOL, sentence(what, Text("{} makes it private", line)))
     if OUTPUT in journal.printers() and not options.queue and not options.is_stream:
         output = standard_output().fileno()
         state = os.fstat(output)

@@ -1,27 +1,20 @@
-"""The papers of a printer, as the file of its driver (PPD) or IPP says them, and where labels would
-be cut on them. Lengths are in millimetres.
+"""The papers of a printer, as the file of its driver (PPD) or IPP says them. Lengths are in
+millimetres.
 """
 
 import math
 import re
-from collections.abc import Iterable, Iterator, Mapping, Sequence
+from collections.abc import Iterable, Mapping, Sequence
 from dataclasses import dataclass
-from itertools import cycle, islice
 from typing import NamedTuple
 
-from labeltools.checking.compare import turned
 from labeltools.common.messages import BAD_ARGUMENTS, ToolError
-from labeltools.common.text import counted, give, joined, Remedy, Text
-from labeltools.designs.svg_layout import SvgLayout
-from labeltools.layout.layout import LaidOut
-from labeltools.paper.box import Box
-from labeltools.paper.plan import Dots, Edges, MILLIMETRES, POINTS
+from labeltools.common.text import joined, Remedy, Text
+from labeltools.paper.plan import Edges, MILLIMETRES, POINTS
 from labeltools.paper.stock import Size, size_text
-from labeltools.printing.press import Prepared
 
 POINT = MILLIMETRES / POINTS
 NEAR = 0.5  # by which a page may differ from a paper: drivers round to points
-HIDDEN = 0.2  # of a label that may be on the white edge, for the same reason
 NO_EDGES: Edges = (0.0, 0.0, 0.0, 0.0)
 OFFICE = ((210.0, 297.0), (215.9, 279.4))  # A4 and Letter
 NARROW = 20.0  # narrower papers only label printers have
@@ -36,13 +29,17 @@ SIDE = re.compile(
 )
 MARGINS = re.compile(r"^\*HWMargins:" + NUMBER * 4, re.MULTILINE)
 FOOMATIC = re.compile(r"^\*cupsFilter2?:.*\bfoomatic-rip\b", re.MULTILINE)
+# the bytes of a row of dots that a driver of ptouch sends, and the dots an inch
+HEAD_BYTES = re.compile(r"\bBytesPerLine=(\d+) ")
+HEAD_DPI = re.compile(r"-r(\d+)")
+BITS = 8
+SLACK = 1.5  # by which a paper may be wider than the head: labels are white there
 GENERAL = (18.0, 36.0, 18.0, 36.0)  # points: foomatic writes these edges where nobody told any
 # a name of PWG 5101.1, such as na_letter_8.5x11in; custom_min_ and custom_max_ have the ends
 PWG = re.compile(r"(custom_min|custom_max|.*)_([0-9.]+)x([0-9.]+)(mm|in)", re.ASCII)
 UNITS = {"mm": 1.0, "in": MILLIMETRES}
 SIDES = ("left", "top", "right", "bottom")
 AS_GIVEN = Remedy("paper-as-given", says=Text("Print on this paper"))
-KEEP_AWAY = Text("Keep labels away from the edge")
 SHEETS = Text(
     "for labels on sheets give {}, or {} with {} and {}",
     *map(Remedy, ("stock", "cell", "columns", "rows")),
@@ -70,7 +67,7 @@ class PrinterPaper(NamedTuple):
 @dataclass(frozen=True)
 class Papers:
     """The papers that a printer has by name; the least and the largest sides of others, where it
-    takes such, and the edges of these.
+    takes such, and the edges of these; how wide its head is, as far as its driver says that.
     """
 
     known: Sequence[PrinterPaper] = ()
@@ -78,6 +75,7 @@ class Papers:
     most: Size = (0.0, 0.0)
     white: Edges = NO_EDGES
     is_general: bool = False
+    head: float = math.inf
 
     @property
     def is_office(self) -> bool:
@@ -88,16 +86,37 @@ class Papers:
 
     def find(self, page: Size) -> PrinterPaper | None:
         """Returns the paper of a page, whose name is empty if it has none; None where there is no
-        such paper. Drivers that take any size take none that is wider than all that they name.
+        such paper.
         """
+        if self.is_too_wide(page):
+            return None
         for paper in self.known:
             if is_near(paper.size, page):
-                return paper
-        widest = max((side for paper in self.known for side in paper.size), default=math.inf)
-        ends = zip(self.least, page, (min(self.most[0], widest), self.most[1]))
+                return self.within_head(paper)
+        ends = zip(self.least, page, self.most)
         if all(least - NEAR <= side <= most + NEAR for least, side, most in ends):
-            return PrinterPaper("", page, self.white, self.is_general)
+            return self.within_head(PrinterPaper("", page, self.white, self.is_general))
         return None
+
+    @property
+    def widest(self) -> float:
+        """How wide a paper may be: across the head, whatever its length. Drivers that take any size
+        name the widest, and print no wider one.
+        """
+        named = max((paper.size[0] for paper in self.known), default=math.inf)
+        return self.head if self.head + SLACK < named else named
+
+    def is_too_wide(self, page: Size) -> bool:
+        """Returns whether a page is wider than what is printed across."""
+        return page[0] > self.widest + NEAR
+
+    def within_head(self, paper: PrinterPaper) -> PrinterPaper:
+        """Returns a paper, with what is beside the head as its edges: drivers leave that out on one
+        side, and do not say on which.
+        """
+        beside = paper.size[0] - self.head
+        left, top, right, bottom = paper.white
+        return paper._replace(white=(max(left, beside), top, max(right, beside), bottom))
 
     def paper(self, printer: str, page: Size, is_given: bool = False) -> PrinterPaper:
         """Returns the paper of a page; raises `ToolError` where a printer has none. One of which
@@ -110,9 +129,14 @@ class Papers:
         if found is not None:
             return found
         what = Text("{} has no paper of {}", printer, size_text(page))
+        hint = Text("take narrower labels, or another printer")
+        if self.is_too_wide(page):
+            sizes = self.widest, page[0]
+            what = Text("{} prints {:.4g} mm across, and this is {:g} mm wide", printer, *sizes)
         other = (page[1], page[0])
         if self.find(other):
             hint = Text("it has {}: give the sides in this order", size_text(other))
+        if self.find(other) or self.is_too_wide(page):
             raise ToolError(what, hint, BAD_ARGUMENTS)
         if self.is_below(page):
             if is_given:
@@ -165,12 +189,24 @@ def papers_of_driver(text: str) -> Papers:
         known.append(PrinterPaper(found[1], (width, height), white, is_general))
     sides = {found[1]: in_millimetres(found.groups()[1:]) for found in SIDE.finditer(text)}
     if not CUSTOM.search(text) or len(sides) < len(("Width", "Height")):
-        return Papers(known)
+        return Papers(known, head=head_of(text))
     ends = tuple(zip(sides["Width"], sides["Height"]))
     margins = MARGINS.search(text)
     left, bottom, right, top = in_millimetres(margins.groups()) if margins else NO_EDGES
     white = (left, top, right, bottom)
-    return Papers(known, ends[0], ends[1], white, has_general and are_general(white))
+    is_general = has_general and are_general(white)
+    return Papers(known, ends[0], ends[1], white, is_general, head_of(text))
+
+
+def head_of(text: str) -> float:
+    """Returns how wide the head of a label printer is, by the file of its driver; infinite if that
+    does not say it.
+
+    >>> round(head_of('X=180dpi: " -r180x180" .. Y=16: " BytesPerLine=16 "'), 2)
+    18.06
+    """
+    size, dots = HEAD_BYTES.search(text), HEAD_DPI.search(text)
+    return BITS * int(size[1]) / int(dots[1]) * MILLIMETRES if size and dots else math.inf
 
 
 def papers_of_ipp(attributes: Mapping[str, object]) -> Papers:
@@ -217,55 +253,3 @@ def at_least_none(white: Edges) -> Edges:
     """Returns edges of which none is beyond the paper."""
     left, top, right, bottom = (max(0.0, side) for side in white)
     return left, top, right, bottom
-
-
-def check_edges(printer: str, paper: PrinterPaper, found: Prepared) -> None:
-    """Raises `ToolError` where codes or letters are on the edges of a paper on which a printer
-    prints nothing; `Unsaid` where these are general ones.
-    """
-    if paper.is_general and found.job.options.is_paper_as_given:
-        return
-    plan, area = found.job.plan, found.laid_out.area
-    left, top = (round((side - HIDDEN) / plan.dot) for side in paper.white[:2])
-    right = plan.page[0] - round((paper.white[2] - HIDDEN) / plan.dot)
-    bottom = plan.page[1] - round((paper.white[3] - HIDDEN) / plan.dot)
-
-    def is_cut(box: Box, place: Dots) -> bool:
-        on_page = turned(box, (area.width, area.height), 1) if area.is_turned else box
-        across, down = place[0] + on_page.left, place[1] + on_page.top
-        is_in = left <= across and top <= down and across + on_page.width <= right
-        return not (is_in and down + on_page.height <= bottom)
-
-    whole = Box(0, 0, area.width, area.height)
-    near = {place for place in plan.places if is_cut(whole, place)}
-    places = cycle(plan.places)
-    used = zip(found.prints, islice(places, found.job.options.first - 1, None)) if near else ()
-    cut = sum(
-        place in near and any(is_cut(box, place) for box in boxes_of(item)) for item, place in used
-    )
-    if cut:
-        edges = ",".join(f"{math.ceil(10 * side) / 10:g}" for side in paper.white)
-        raise cut_error(printer, cut, edges, paper.is_general)
-
-
-def cut_error(printer: str, count: int, edges: str, is_general: bool) -> ToolError:
-    """Returns that a printer would cut labels at its edges, or may if it does not say its own."""
-    if not is_general:
-        cut = counted("{} label would be cut", "{} labels would be cut", count)
-        where = Text("{} prints nothing on the edge of this paper", printer)
-        hint = give(Remedy("edge", edges, KEEP_AWAY))
-        return ToolError(Text("{}: {}", where, cut), hint, BAD_ARGUMENTS)
-    may = counted("{} label may be cut", "{} labels may be cut", count)
-    where = Text("{} does not say how near to the edge it prints", printer)
-    edge = Remedy("edge", edges, KEEP_AWAY)
-    hint = Text("give {} if it prints up to the edge, or {}", AS_GIVEN, edge)
-    return Unsaid(Text("{}: {}", where, may), hint, BAD_ARGUMENTS)
-
-
-def boxes_of(item: LaidOut) -> Iterator[Box]:
-    """Yields where a label has codes and letters, in its area."""
-    if isinstance(item.layout, SvgLayout):
-        yield from (symbol.box for symbol in item.layout.symbols)
-        yield from (box for _, _, box, _ in item.layout.texts)
-    else:
-        yield from item.layout.boxes.values()

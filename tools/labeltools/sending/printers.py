@@ -12,12 +12,8 @@ from typing import Any
 from labeltools.common.messages import ToolError
 from labeltools.common.text import Text
 from labeltools.drawing.forms import PDF
-from labeltools.sending.cups import (
-    connection,
-    cups_library,
-    queues,
-    trouble_of,
-)
+from labeltools.sending.cups import connection, cups_library, queues
+from labeltools.sending.job import trouble_of
 from labeltools.sending.network import SCHEME
 
 QUEUE, NETWORK, USB = "queue", "network", "usb"  # the ways to a printer

@@ -13,7 +13,6 @@ from labeltools.common.messages import ToolError
 from labeltools.common.text import translated
 from labeltools.printing.job import is_direct, planned
 from labeltools.printing.press import labels_of
-from labeltools.sending.cups import Queue, queue_of
 from labeltools.sending.network import address_of, SCHEME
 from labeltools.sending.printers import (
     default_queue,
@@ -23,6 +22,7 @@ from labeltools.sending.printers import (
     QUEUE,
     USB,
 )
+from labeltools.sending.queue import Queue, queue_of
 from labeltools.sending.sender import send_to
 from labeltools.window.gtk import GLib, Gtk, widen
 from labeltools.window.memory import PRINTERS

@@ -13,8 +13,9 @@ from labeltools.common.language import _
 from labeltools.common.messages import ToolError
 from labeltools.common.text import counted, joined, Text, translated, whole, windowed
 from labeltools.printing.press import Prepared
-from labeltools.sending.cups import JobState, Queue, queue_of, SentJob
+from labeltools.sending.job import JobState, SentJob
 from labeltools.sending.printers import choices_of, Printer, QUEUE
+from labeltools.sending.queue import Queue, queue_of
 from labeltools.sending.sender import print_on, save_to, send_to, Sender, Unfinished
 from labeltools.window.bar import Answer, ERROR, Event, INFO, SUCCESS, WARNING
 from labeltools.window.gtk import GLib, Gtk

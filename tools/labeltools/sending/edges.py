@@ -1,0 +1,70 @@
+"""Where labels would be cut at the edges of a paper. Lengths are in millimetres."""
+
+import math
+from collections.abc import Iterator
+from itertools import cycle, islice
+
+from labeltools.checking.compare import turned
+from labeltools.common.messages import BAD_ARGUMENTS, ToolError
+from labeltools.common.text import counted, give, Remedy, Text
+from labeltools.designs.svg_layout import SvgLayout
+from labeltools.layout.layout import LaidOut
+from labeltools.paper.box import Box
+from labeltools.paper.plan import Dots
+from labeltools.printing.press import Prepared
+from labeltools.sending.papers import AS_GIVEN, PrinterPaper, Unsaid
+
+HIDDEN = 0.2  # of a label that may be on the white edge: drivers round to points
+KEEP_AWAY = Text("Keep labels away from the edge")
+
+
+def check_edges(printer: str, paper: PrinterPaper, found: Prepared) -> None:
+    """Raises `ToolError` where codes or letters are on the edges of a paper on which a printer
+    prints nothing; `Unsaid` where these are general ones.
+    """
+    if paper.is_general and found.job.options.is_paper_as_given:
+        return
+    plan, area = found.job.plan, found.laid_out.area
+    left, top = (round((side - HIDDEN) / plan.dot) for side in paper.white[:2])
+    right = plan.page[0] - round((paper.white[2] - HIDDEN) / plan.dot)
+    bottom = plan.page[1] - round((paper.white[3] - HIDDEN) / plan.dot)
+
+    def is_cut(box: Box, place: Dots) -> bool:
+        on_page = turned(box, (area.width, area.height), 1) if area.is_turned else box
+        across, down = place[0] + on_page.left, place[1] + on_page.top
+        is_in = left <= across and top <= down and across + on_page.width <= right
+        return not (is_in and down + on_page.height <= bottom)
+
+    whole = Box(0, 0, area.width, area.height)
+    near = {place for place in plan.places if is_cut(whole, place)}
+    places = cycle(plan.places)
+    used = zip(found.prints, islice(places, found.job.options.first - 1, None)) if near else ()
+    cut = sum(
+        place in near and any(is_cut(box, place) for box in boxes_of(item)) for item, place in used
+    )
+    if cut:
+        edges = ",".join(f"{math.ceil(10 * side) / 10:g}" for side in paper.white)
+        raise cut_error(printer, cut, edges, paper.is_general)
+
+
+def cut_error(printer: str, count: int, edges: str, is_general: bool) -> ToolError:
+    """Returns that a printer would cut labels at its edges, or may if it does not say its own."""
+    if not is_general:
+        cut = counted("{} label would be cut", "{} labels would be cut", count)
+        where = Text("{} prints nothing on the edge of this paper", printer)
+        hint = give(Remedy("edge", edges, KEEP_AWAY))
+        return ToolError(Text("{}: {}", where, cut), hint, BAD_ARGUMENTS)
+    may = counted("{} label may be cut", "{} labels may be cut", count)
+    where = Text("{} does not say how near to the edge it prints", printer)
+    edge = Remedy("edge", edges, KEEP_AWAY)
+    hint = Text("give {} if it prints up to the edge, or {}", AS_GIVEN, edge)
+    return Unsaid(Text("{}: {}", where, may), hint, BAD_ARGUMENTS)
+
+
+def boxes_of(item: LaidOut) -> Iterator[Box]:
+    """Yields where a label has codes and letters, in its area."""
+    if isinstance(item.layout, SvgLayout):
+        yield from (symbol.box for symbol in item.layout.symbols)
+        yield from (box for _, _, box, _ in item.layout.texts)
+    else:
+        yield from item.layout.boxes.values()
