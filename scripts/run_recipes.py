@@ -88,12 +88,9 @@ class Commands:
         return "" if is_good else f"status {ran.returncode} of:\n{self.text}it printed:\n{printed}"
 
 
-# What makes the pictures, the page whose commands run before it, and what it prints.
+# What makes the pictures, and the page whose commands run before it.
 PICTURED = pages.DESIGNS
-DRAWN = Commands(
-    "tools/tests/draw_pictures.sh\n",
-    "label-print: row 5: a text is too long, so it ends in “…”: shorten it, or choose a larger label\n",
-)
+DRAWN = Commands("tools/tests/draw_pictures.sh\n")
 
 
 def commands_of(page: str) -> Iterator[Commands]:
