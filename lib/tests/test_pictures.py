@@ -315,7 +315,7 @@ class Pictures(WithLibrary):
             ("_pictures.py", "(begin + end) / 2", "begin"),
             ("_pictures.py", "html.escape(text.translate(_PICTURES_OF_CONTROLS))", "html.escape(text)"),
             ("_pictures.py", ' xml:space="preserve"', ""),
-            ("_layout.py", "width // _glyphs.WIDTH", "width"),
+            ("_layout.py", "int(width / _ROOM_OF_CHARACTER)", "width"),
             ("__init__.py", "left + x in guard", "x in guard"),
             ("__init__.py", "5 * any", "4 * any"),
         ):
