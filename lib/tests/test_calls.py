@@ -26,7 +26,7 @@ MUTANTS = {
     "room of the bits": ("data, size, bits, room, stride,", "room", "room + (room > 0)"),
     "dots that are read": ("width, height, dots, size, out", "size", ONE_MORE),
     "modules that are read": ("width, rows, modules, size, out", "size", ONE_MORE),
-    "bits that are read": ("region, bits, size, out", "size", ONE_MORE),
+    "bits that are read": ("&seen, bits, size, out", "size", ONE_MORE),
     "room of the message": ("MESSAGE_ROOM = sizeof(((labels_answer *)0)->message) - 1", "- 1", "+ 1"),
 }
 # Other wrong texts, and what takes their place.

@@ -787,8 +787,10 @@ class WindowTest(Keeper):
                 raise KeyError
             before(printer, line, data)
 
-        faults = (("labeltools.sending.network.NetworkPrinter.push", push, 2),)
-        faults += (("labeltools.sending.watch.Watch.end", mock.Mock(side_effect=ValueError), 6),)
+        faults: list[tuple[str, Any, int]] = [
+            ("labeltools.sending.network.NetworkPrinter.push", push, 2),
+            ("labeltools.sending.watch.Watch.end", mock.Mock(side_effect=ValueError), 6),
+        ]
         for place, fault, count in faults:
             with self.subTest(place):
                 self.open(table.replace("Pen", f"Pen {count}"))
