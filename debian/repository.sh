@@ -2,8 +2,9 @@
 # Makes an apt repository of a folder of packages and a source, and the sums of all files: debian/repository.sh FOLDER
 #
 # Nothing is signed: who downloads the folder compares it with SHA256SUMS, and gives `apt-get install` the files. A line
-# `deb [trusted=yes] file:FOLDER ./` is only for tests, since it trusts the folder for packages of every name. SOURCE_DATE_EPOCH is the date of the release, in seconds; the same files and date make the same
-# repository, byte for byte.
+# `deb [trusted=yes] file:FOLDER ./` is only for tests, since it trusts the folder for packages of every name.
+# SOURCE_DATE_EPOCH is the date of the release, in seconds; the same files and date make the same repository, byte for
+# byte.
 set -euo pipefail
 cd "$1"
 date=$(LC_ALL=C date --utc --date="@$SOURCE_DATE_EPOCH" '+%a, %d %b %Y %T UTC')

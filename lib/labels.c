@@ -296,9 +296,12 @@ int labels_read_bits(const labels_region *region, const void *bits, size_t size,
     out = write_to(out, room);
     if (!region || are_bad(bits, size, out, room))
         return refuse(answer);
-    /* Rows that take no bytes have no dots, and may be billions: of these the answer is that of none. */
-    labels_region none = *region;
-    none.height = 0;
-    labels_proved_read_bits(region->stride ? region : &none, bits, size, out, room, found, answer);
+    labels_region seen = *region;
+    if (!seen.width) { /* rows without dots may be billions: none is looked at, and they end where they did */
+        uint64_t end = seen.stride ? (uint64_t)seen.top + seen.height : 0;
+        seen.top = end < UINT32_MAX ? (uint32_t)end : UINT32_MAX;
+        seen.height = (uint32_t)(end - seen.top);
+    }
+    labels_proved_read_bits(&seen, bits, size, out, room, found, answer);
     return finish(answer);
 }

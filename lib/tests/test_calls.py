@@ -26,7 +26,7 @@ MUTANTS = {
     "room of the bits": ("data, size, bits, room, stride,", "room", "room + (room > 0)"),
     "dots that are read": ("width, height, dots, size, out", "size", ONE_MORE),
     "modules that are read": ("width, rows, modules, size, out", "size", ONE_MORE),
-    "bits that are read": ("region, bits, size, out", "size", ONE_MORE),
+    "bits that are read": ("&seen, bits, size, out", "size", ONE_MORE),
     "room of the message": ("MESSAGE_ROOM = sizeof(((labels_answer *)0)->message) - 1", "- 1", "+ 1"),
 }
 # Other wrong texts, and what takes their place.
@@ -37,6 +37,8 @@ WRONG = (
     ("    *dots = (labels_dots){0};\n", ""),
     ("    *found = (labels_found){0};\n", ""),
     ("    if (!region || are_bad", "    if (are_bad"),
+    ("    if (!seen.width) {", "    if (0) {"),
+    ("seen.stride ? (uint64_t)seen.top", "1 ? (uint64_t)seen.top"),
     ("    answer->message[end] = 0;\n", ""),
     ("DATA_ROOM = sizeof(((labels_symbol_info *)0)->data) - 1", "DATA_ROOM = sizeof(((labels_symbol_info *)0)->data)"),
     ("    info->data[info->data_length < DATA_ROOM ? info->data_length : DATA_ROOM] = 0;\n", "    (void)info;\n"),

@@ -62,13 +62,14 @@ for file, kind, said in (
     (io.BytesIO(), None, "kind='png' or kind='svg'"),
     (io.BytesIO(), "gif", "unknown kind 'gif': one of png, svg"),
     (io.StringIO(), "png", "mode 'wb'"),
-    (3, None, "kind='png' or kind='svg'"),
+    (open("no-kind", "wb"), None, "kind='png' or kind='svg'"),
+    (3, None, "end with .svg or .png: 3"),
 ):
     try:
         symbol.save(file, kind)
     except ValueError as why:
         assert said in str(why), why
-        assert file == 3 or not file.getvalue()
+        assert not hasattr(file, "getvalue") or not file.getvalue()
     else:
         raise AssertionError(said)
 for kind, head, picture in (

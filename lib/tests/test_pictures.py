@@ -315,7 +315,7 @@ class Pictures(WithLibrary):
             ("_pictures.py", "(begin + end) / 2", "begin"),
             ("_pictures.py", "html.escape(text.translate(_PICTURES_OF_CONTROLS))", "html.escape(text)"),
             ("_pictures.py", ' xml:space="preserve"', ""),
-            ("_layout.py", "width // _glyphs.WIDTH", "width"),
+            ("_layout.py", "int(width / _ROOM_OF_CHARACTER)", "width"),
             ("__init__.py", "left + x in guard", "x in guard"),
             ("__init__.py", "5 * any", "4 * any"),
         ):
@@ -327,7 +327,7 @@ class Pictures(WithLibrary):
         self.run_ok(PYTHON, "-c", DRAWN_DIGITS)
         for file, right, wrong in (
             ("_pictures.py", "_LONGER = 5", "_LONGER = 4"),
-            ("_pictures.py", "rows[-1] & guarded", "rows[-1]"),
+            ("_pictures.py", "last & guarded", "last"),
             ("_pictures.py", "(begin + end -", "(begin + end + 2 -"),
             ("_glyphs.py", "1.8, 3.2, 0, 360", "1.8, 3.2, 0, 270"),
             ("_glyphs.py", "1.85, 1.7, 0, 360", "1.85, 1.7, 0, 270"),

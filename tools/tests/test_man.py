@@ -12,7 +12,7 @@ from labeltools.common import budget, report
 from labeltools.layout import area, frame
 from labeltools.lines import file
 from labeltools.printing import job
-from labeltools.sending import network, outlets, stream
+from labeltools.sending import network, outlets, stream, watch
 from labeltools.sheets import workbook
 
 PAGES = sorted((support.TOP / "man").glob("label*.[15]"))
@@ -31,6 +31,8 @@ NUMBERS = (
     (r"on a port \((\d+)\)", network.PORT),
     (r"no connection is made in (\d+) seconds", network.CONNECT),
     (r"takes nothing for (a minute)", {60.0: "a minute"}.get(outlets.STUCK)),
+    (r"does not change for (\d+) seconds", watch.IDLE),
+    (r"or fall for (\d+), or", watch.LONGEST),
     (r"waits (\d+) seconds for that", network.FAREWELL),
     (r"(a twentieth) of a second", {0.05: "a twentieth"}.get(network.REGRET)),
     (r"within (\d+) seconds if the FIFO", stream.LOOK),

@@ -102,6 +102,8 @@ class Release(unittest.TestCase):
         self.assertEqual(with_window, {"label-window"})
         with_pages = {name for name, names in packages.items() if any(".md" in it for it in names)}
         self.assertEqual(with_pages, {"labels-doc"})
+        wheels = [file for file in packages["python3-liblabels"] if file.endswith(".whl")]
+        self.assertEqual([Path(file).parts[:2] for file in wheels], [("share", "python-wheels")])
         packed = {Path(it).name for it in files if not it.startswith("share/man/")}
         self.assertEqual({it for it in packed if it.endswith(".gz")}, {"changelog.gz"})
         (program,) = self.release.glob("labels_*_amd64.deb")

@@ -7,7 +7,6 @@ import os
 import random
 import re
 import resource
-import shutil
 import signal
 import subprocess
 import sys
@@ -615,16 +614,31 @@ class Installed(unittest.TestCase):
     """What is installed beside the tools."""
 
     def test_the_service_has_few_rights(self) -> None:
+        """It is no root, and sees little of the computer: of 10 points of exposure it has 3."""
+        support.needs("systemd-analyze")
         path = support.TOP / "examples/labels-till-3.service"
+        self.assertLessEqual(self.exposure(path.read_text()), 3.0)
+        for line in ("DynamicUser=yes\n", "ProtectSystem=strict\n"):
+            self.assertIn(line, path.read_text())
+        self.assertGreater(self.exposure("[Service]\nExecStart=/bin/true\n"), 9.0)
+
+    def exposure(self, service: str) -> float:
+        """What systemd makes of the rights of a service, from 0 to 10 for all of them."""
+        with tempfile.TemporaryDirectory() as folder:
+            path = Path(folder, "labels-till-3.service")
+            path.write_text(service)
+            words = ["systemd-analyze", "security", "--offline=true", str(path)]
+            done = subprocess.run(words, capture_output=True, text=True)
+        self.assertEqual(done.stderr, "")
+        return float(done.stdout.rpartition(": ")[2].split()[0])
+
+    def test_two_services_share_nothing(self) -> None:
+        """A copy of another name has a user, a folder and a FIFO of its own."""
         service = entry_of("examples/labels-till-3.service")["Service"]
-        self.assertEqual(service["DynamicUser"], "yes")
-        self.assertEqual(service["NoNewPrivileges"], "yes")
-        if not shutil.which("systemd-analyze"):
-            return
-        words = ["systemd-analyze", "security", "--offline=true", str(path)]
-        done = subprocess.run(words, capture_output=True, text=True)
-        level = float(done.stdout.rpartition(": ")[2].split()[0])
-        self.assertLess(level, 3)
+        self.assertNotIn("User", service)  # it is named as the service
+        self.assertEqual({service["RuntimeDirectory"], service["CacheDirectory"]}, {"%N"})
+        for name in ("ExecStartPre", "ExecStart"):
+            self.assertTrue(service[name].endswith(" %t/%N/lines"), service[name])
 
     def test_no_folder_is_trusted_for_every_package(self) -> None:
         page = (support.TOP / "docs/INSTALL.md").read_text()

@@ -11,12 +11,14 @@ import tempfile
 import threading
 import time
 import unittest
-from contextlib import redirect_stdout
+from contextlib import redirect_stderr, redirect_stdout
 from dataclasses import replace
+from functools import partial
 from importlib import import_module
 from io import StringIO
 from itertools import product
 from pathlib import Path
+from types import SimpleNamespace
 from typing import Any, Callable
 from unittest import mock
 from xml.etree import ElementTree
@@ -32,7 +34,7 @@ from labeltools.common.messages import ToolError
 from labeltools.common.text import NOTHING, Text
 from labeltools.drawing.forms import FORMS
 from labeltools.printing.job import planned
-from labeltools.sending import cups as sending_cups, printers as sending
+from labeltools.sending import cups as sending_cups, network, printers as sending
 from labeltools.sending.job import JobState, SentJob
 from labeltools.sending.queue import Queue
 from labeltools.tables.codes import NAMES
@@ -775,6 +777,47 @@ class WindowTest(Keeper):
                 self.assertEqual(printer.labels, wanted)
                 self.assertEqual(len(self.printed()), 6)
 
+    def test_what_went_out_counts_though_the_program_has_a_fault(self) -> None:
+        codes = [support.ean13(number) for number in range(401_234_500_100, 401_234_500_106)]
+        table = "EAN;Name;Price\n" + "".join(f"{code};Pen;1,00 €\n" for code in codes)
+        before, sent = network.NetworkPrinter.push, []
+
+        def push(printer: Any, line: Any, data: bytes) -> None:
+            sent.append(data)
+            if len(sent) == 3:
+                raise KeyError
+            before(printer, line, data)
+
+        faults: list[tuple[str, Any, int]] = [
+            ("labeltools.sending.network.NetworkPrinter.push", push, 2),
+            ("labeltools.sending.watch.Watch.end", mock.Mock(side_effect=ValueError), 6),
+        ]
+        for place, fault, count in faults:
+            with self.subTest(place):
+                self.open(table.replace("Pen", f"Pen {count}"))
+                if count == 2:  # these choices are kept
+                    self.change(roll=True, to="zpl", dpi="203")
+                self.window.table.printed.unlink(missing_ok=True)
+                printer = Printer().start()
+                self.addCleanup(printer.off)
+                with mock.patch(place, fault):
+                    self.window.ways.send_to(printer.name, self.window.made.labels)
+                    self.until(self.problem)
+                self.assertIn(f"it took {count} labels whole", self.problem())
+                self.assertIn("fault of the program: report it as", self.problem())
+                self.assertEqual(len(self.printed()), count)
+
+    def test_a_control_that_does_what_nobody_expected(self) -> None:
+        self.open()
+        program = SimpleNamespace(get_active_window=lambda: self.window)
+        hook = partial(application.tell_fault, program)
+        said = StringIO()
+        with mock.patch.object(sys, "excepthook", hook), redirect_stderr(said):
+            GLib.idle_add([].pop)
+            self.until(self.problem)
+        self.assertIn("fault of the program: report it as IndexError", self.problem())
+        self.assertRegex(said.getvalue(), "^label-window: this is a fault of the program.*\n$")
+
     def by_columns(self, *words: Any) -> Any:
         """What the commands write for a table of codes, names and prices."""
         options = ["--header", "--code", "1", "--title", "2", "--price", "3"]
@@ -889,6 +932,7 @@ class WindowTest(Keeper):
 
         with (
             mock.patch.object(sys, "argv", list(map(str, words))),
+            mock.patch.object(sys, "excepthook", sys.excepthook),
             mock.patch.object(window.Window, "open", open_and_end),
         ):
             self.assertEqual(application.run(), 0)  # Ctrl+Q ends it

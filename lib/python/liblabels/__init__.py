@@ -290,13 +290,14 @@ class Symbol:
 
 def _kind_of(file: object) -> str:
     """The kind of a file, which the end of its name says; raises ValueError if it says none."""
-    name = getattr(file, "name", None) if hasattr(file, "write") else file
-    if not isinstance(name, (str, os.PathLike)):
-        raise ValueError("a file without a name needs kind='png' or kind='svg'")
-    kind = Path(name).suffix.lower().removeprefix(".")
-    if kind not in _MEDIA_TYPES:
-        raise ValueError(f"the name of a file has to end with .svg or .png: {os.fspath(name)}")
-    return kind
+    is_open = hasattr(file, "write")
+    name = getattr(file, "name", None) if is_open else file
+    kind = Path(name).suffix.lower().removeprefix(".") if isinstance(name, (str, os.PathLike)) else ""
+    if kind in _MEDIA_TYPES:
+        return kind
+    if is_open:
+        raise ValueError("an open file whose name does not end with .svg or .png needs kind='png' or kind='svg'")
+    raise ValueError(f"the name of a file has to end with .svg or .png: {file}")
 
 
 def _line_of(text: Data) -> bytes:

@@ -51,7 +51,7 @@ def _parser() -> argparse.ArgumentParser:
         formatter_class=argparse.RawDescriptionHelpFormatter,
     )
     parser.add_argument("symbology", choices=SYMBOLOGIES, help=", ".join(SYMBOLOGIES), metavar="SYMBOLOGY")
-    parser.add_argument("data", nargs="*", metavar="DATA")
+    parser.add_argument("data", nargs="*", metavar="DATA", help="after -- it may begin with a hyphen")
     parser.add_argument("-i", "--input", metavar="FILE", help="the data, one a line; - is standard input")
     parser.add_argument(
         "-o", "--output", metavar="NAME", help="a .png or .svg file; for each its own: %%s is its data, %%d its number"

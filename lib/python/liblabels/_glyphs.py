@@ -10,7 +10,7 @@ Stroke = tuple[Point, ...]
 # The field of a character, in modules. The pen is one module wide and high.
 WIDTH = 7
 HEIGHT = 9
-ZERO_OF_LETTERS = "\uff10"  # a zero among letters: it has a dot, so that nobody takes it for an O
+ZERO_OF_LETTERS = "\uff10"  # a zero among letters: it has a dot, so that it is not taken for an O
 _STEP = 15  # degrees of an arc that are drawn as a line
 _BASE = 6.9  # where letters and digits end below, in modules from the top
 _ROUNDINGS = 3  # how often the corners of a curve are cut
@@ -140,9 +140,9 @@ def _rounded(stroke: Stroke) -> Stroke:
 
 def _stroke_of(text: str) -> Stroke:
     """A stroke of _OTHERS."""
-    points = text.removeprefix("~")
-    places = [(int(points[at], 16), int(points[at + 1], 16)) for at in range(0, len(points), 2)]
-    stroke = tuple((column + 0.5, 0.5 + row * (_BASE - 0.5) / 8) for column, row in places)
+    numbers = [int(digit, 16) for digit in text.removeprefix("~")]
+    points = zip(numbers[::2], numbers[1::2])
+    stroke = tuple((column + 0.5, 0.5 + row * (_BASE - 0.5) / 8) for column, row in points)
     return _rounded(stroke) if text.startswith("~") else stroke
 
 

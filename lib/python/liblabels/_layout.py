@@ -4,8 +4,10 @@ import ctypes
 from collections.abc import Iterator
 from dataclasses import dataclass
 
-from . import _binding, _glyphs
+from . import _binding
 from ._binding import LIBRARY, SYMBOLOGIES
+
+_ROOM_OF_CHARACTER = 7.5  # modules: a font of SVG may be a little wider than the letters of the module
 
 Span = tuple[int, int]
 Text = tuple[int, int, str]  # from which module on and before which one it is in the middle, and what it is
@@ -51,7 +53,7 @@ def layout(symbology: str) -> Layout:
 
 def _lines_of(text: str, width: int) -> Iterator[tuple[Text, ...]]:
     """Yields the lines of a text in the middle of `width` modules: as few as have room for it, equally long."""
-    most = width // _glyphs.WIDTH
+    most = int(width / _ROOM_OF_CHARACTER)
     count = -(-len(text) // most)
     size = -(-len(text) // count)
     for start in range(0, len(text), size):

@@ -170,10 +170,10 @@ def turned(picture: Bitmap, turns: int) -> Bitmap:
 
 def with_text(bars: Bitmap, scale: int, below: Below) -> Bitmap:
     """Returns bars of modules of `scale` dots with longer guard bars and with what is printed below."""
-    rows = bars.rows()
+    last = int.from_bytes(bars.bits[-((bars.width + 7) // 8) :], "big") >> -bars.width % 8
     guarded = sum((2 ** ((end - begin) * scale) - 1) << (bars.width - end * scale) for begin, end in below.guards)
     high = _BELOW_BARS * scale
-    printed = [rows[-1] & guarded] * (_LONGER * scale) + [0] * (high * len(below.lines) - _LONGER * scale)
+    printed = [last & guarded] * (_LONGER * scale) + [0] * (high * len(below.lines) - _LONGER * scale)
     texts = [(first, *text) for first, line in zip(range(scale, len(printed), high), below.lines) for text in line]
     has_letters = any(character.isalpha() for *_, text in texts for character in text)
     for first, begin, end, text in texts:
@@ -183,4 +183,4 @@ def with_text(bars: Bitmap, scale: int, below: Below) -> Bitmap:
             form = _glyphs.ZERO_OF_LETTERS if has_letters and character == "0" else character
             for y, row in enumerate(_glyphs.rows_of(form, scale), first):
                 printed[y] |= row << shift
-    return bitmap_of(bars.width, rows + printed)
+    return Bitmap(bars.width, bars.height + len(printed), bars.bits + bitmap_of(bars.width, printed).bits)

@@ -35,7 +35,14 @@ from labeltools.sending.network import address_of
 from labeltools.sending.outlets import Files, Outlet, OUTPUT, StandardOutput
 from labeltools.sending.papers import AS_GIVEN
 from labeltools.sending.queue import lp_line, Queue, queue_of
-from labeltools.sending.sender import direct_outlet, labels_text, print_on, Sender
+from labeltools.sending.sender import (
+    direct_outlet,
+    expected,
+    labels_text,
+    NOTHING_OUT,
+    print_on,
+    Sender,
+)
 
 TOOL = "label-print"
 USAGE = """label-print --stock NAME [OPTIONS] [LINES]
@@ -249,7 +256,7 @@ def run() -> int:
 
 def print_lines(job: Job, queue: Queue | None, talk: CommandTalk) -> int:
     """Prints the lines of a file; returns 1 where a label is left out or doubtful."""
-    found = labels_of(job, *read_input(job.options.lines), talk)
+    found = all_labels(job, talk)
     for message in [*report(found.left_out, found.tables), *(one.reason for one in found.remarks)]:
         write_message(TOOL, message)
     check_count(job, found.prints)
@@ -260,6 +267,21 @@ def print_lines(job: Job, queue: Queue | None, talk: CommandTalk) -> int:
         return give_out(found, talk)
     is_printed = follow(*print_on(found, queue, talk), talk)
     return 1 if found.left_out or not is_printed else 0
+
+
+def all_labels(job: Job, talk: CommandTalk) -> Prepared:
+    """Returns the labels of a file of lines; raises `ToolError` and `OSError`. Of an exception that
+    nobody expected it is said that nothing was printed.
+    """
+    try:
+        return labels_of(job, *read_input(job.options.lines), talk)
+    except OSError:
+        raise
+    except Exception as error:
+        known = expected(error, ToolError)
+        if known is error:
+            raise
+        raise ToolError(Text("{}: {}", known.what, NOTHING_OUT), status=known.status) from error
 
 
 def follow(sent: SentJob, text: Text, talk: CommandTalk) -> bool:

@@ -122,8 +122,8 @@ def of_system(error: OSError) -> ToolError:
 def fault_of(error: Exception) -> Text:
     """Returns what is said of an exception that nobody expected, and where it was raised.
 
-    >>> fault_of(MemoryError())
-    'there is not enough memory'
+    >>> fault_of(MemoryError()), fault_of(KeyError())
+    ('there is not enough memory', 'this is a fault of the program: report it as KeyError')
     """
     if isinstance(error, MemoryError):
         return Text("there is not enough memory")
@@ -131,6 +131,8 @@ def fault_of(error: Exception) -> Text:
 
     places = extract_tb(error.__traceback__)
     own = [one for one in places if Path(one.filename).is_relative_to(OURS)] or places
+    if not own:  # a library has raised it
+        return Text("this is a fault of the program: report it as {}", type(error).__name__)
     where = (type(error).__name__, own[-1].lineno, Path(own[-1].filename).name)
     return Text("this is a fault of the program: report it as {} in line {} of {}", *where)
 

@@ -259,15 +259,15 @@ def located(design: SvgDesign, places: list[Place]) -> Iterator[Place]:
     area = design.area(1.0)
     # one after the other: each keeps all of the page in memory
     file, data = design.page.file, design.page.data
-    upper, left = (sides_of(handle_of(file, data, sheet), names, area) for sheet in edges)
+    upper, left = (rectangles_of(handle_of(file, data, sheet), names, area) for sheet in edges)
     handle = handle_of(file, data)
-    whole = sides_of(handle, names, area)
+    whole = rectangles_of(handle, names, area)
     for name, place, *rectangles in zip(names, places, whole, upper, left):
         placed = located_place(file, place, *rectangles)
         yield replace(placed, colour=colour_of(handle, name, area, placed))
 
 
-def sides_of(handle: Any, names: Iterable[str], area: Any) -> list[Any]:
+def rectangles_of(handle: Any, names: Iterable[str], area: Any) -> list[Any]:
     """Returns the rectangles of some elements."""
     return [handle.get_geometry_for_layer(name, area).out_logical_rect for name in names]
 

@@ -31,6 +31,9 @@ from labeltools.sending.queue import NOTHING_CHOSEN, Queue
 from labeltools.sending.watch import Watch
 
 
+NOTHING_OUT = Text("nothing was printed")
+
+
 class Unfinished(ToolError):
     """Why labels were not all sent, one by one to a printer: `done` of them are on paper, or may
     be; the next one is in doubt if `is_doubtful`.
@@ -89,7 +92,7 @@ class Sender:
             except Exception as error:
                 known = expected(error, ToolError)
                 if not self.outlet.is_direct:
-                    raise known from error
+                    raise self.ended(known, known is not error) from error
                 told = self.told(known, self.named(part.items))
                 self.before(self.outlet.close)
                 raise told from error
@@ -118,7 +121,19 @@ class Sender:
             if not isinstance(known, Broken):
                 raise
             what = Text("{}: {}", known.what, self.so_far())
-            raise ToolError(what, self.may_be_missing(), known.status) from error
+            ended = Unfinished(what, self.may_be_missing(), known.status)
+            ended.printer, ended.done = self.outlet.name, self.done
+            raise ended from error
+
+    def ended(self, error: ToolError, is_fault: bool) -> ToolError:
+        """Returns an error of what goes out as a whole, or as files; of a fault of ours with what
+        went out before it.
+        """
+        if not is_fault:
+            return error
+        is_nothing = isinstance(self.outlet, Collected)
+        what = NOTHING_OUT if is_nothing else self.so_far()
+        return ToolError(Text("{}: {}", error.what, what), error.hint, error.status)
 
     def send(self, press: Press, part: Batch, is_first: bool, is_last: bool = False) -> int:
         """Sends what goes out as a whole, and returns how many bytes it has; 0 if the journal has

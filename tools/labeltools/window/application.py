@@ -2,12 +2,13 @@
 
 import sys
 from collections.abc import Sequence
+from functools import partial
 from pathlib import Path
 from typing import Any
 
 from labeltools.common.arguments import Parser
 from labeltools.common.language import language
-from labeltools.common.messages import ToolError
+from labeltools.common.messages import fault_of, ToolError, write_message
 from labeltools.common.text import Text
 from labeltools.window.gtk import add_actions, add_style, Gio, GLib, Gtk
 from labeltools.window.window import Window
@@ -65,6 +66,17 @@ class Application(Gtk.Application):
             window.destroy()
 
 
+def tell_fault(application: Application, kind: type[BaseException], *error: Any) -> None:
+    """Says that a control did what nobody expected: in the window, and on standard error."""
+    if not issubclass(kind, Exception):
+        sys.__excepthook__(kind, *error)
+        return
+    fault = fault_of(error[0])
+    write_message("label-window", fault)
+    if window := application.get_active_window():
+        window.show_problem(ToolError(fault))
+
+
 def run() -> int:
     """Runs label-window and returns its status."""
     about = "Prints labels from a table, in a window."
@@ -77,4 +89,6 @@ def run() -> int:
         )
     GLib.set_prgname(ID)
     words = [] if table is None else ["--", table]
-    return int(Application().run([sys.argv[0], *words]))
+    application = Application()
+    sys.excepthook = partial(tell_fault, application)
+    return int(application.run([sys.argv[0], *words]))

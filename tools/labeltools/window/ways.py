@@ -46,6 +46,7 @@ class WaysOut:
         self.waiting: dict[SentJob, tuple[Table, Path]] = {}  # jobs whose labels may be printed
         self.told: dict[SentJob, str] = {}  # what was said of each last
         self.sending: tuple[Prepared, bool]  # the labels that are sent, and whether they count
+        self.of: tuple[Table, MadeLabels]  # what they are of
         self.printing = Printing(window)
 
     def send(self, way: Way, labels: Prepared, counts: bool = True, is_rest: bool = False) -> None:
@@ -54,6 +55,7 @@ class WaysOut:
         """
         table, made = self.window.table, self.window.made
         table.keep(self.window.choices())
+        self.of = table, made
         if not is_rest:
             self.sending = labels, counts
         then = partial(self.on_sent, table, made)
@@ -74,6 +76,15 @@ class WaysOut:
         self.report(kind, text, job)
         if job is not None:
             self.watch(job, count)
+
+    def keep_taken(self, problem: Exception) -> None:
+        """Keeps the labels that a printer took before there was a problem, however it goes on."""
+        if isinstance(problem, Unfinished):
+            labels, counts = self.sending
+            done = problem.done - labels.job.options.after
+            if counts and done > 0:
+                table, made = self.of
+                table.keep_printed(made, replace(labels, prints=labels.prints[:done]))
 
     def look_back(self, table: Table) -> None:
         """Says which jobs of a table are not over since a window was closed, and looks at them; of

@@ -57,6 +57,7 @@ class Work:
             self.window.tell(_("Stopped: nothing was printed"))
         except (ToolError, OSError) as error:
             problem = of_system(error) if isinstance(error, OSError) else error
+            self.window.ways.keep_taken(problem)
             self.window.show_problem(problem)
         except Exception as error:
             self.window.show_problem(ToolError(fault_of(error)))
