@@ -3,15 +3,18 @@
 
 - Each block of code is closed, and its language is one that a script reads: text, one of those below, and sh, sh kit
   and console on the pages alone that run_recipes.py runs.
-- Code is quoted as it is: each block of a program's language in docs/LIBRARY.md and docs/PROOF-RUN.md, and each block
-  of text that begins with a clause (`ensures`), is in a file crates/*.rt or lib/* that the page names before it, line
-  by line, but for the spaces in front. A block below a line `Not checked:` is left out.
+- Code is quoted as it is: each block of a program's language in docs/LIBRARY.md and docs/PROOF.md, and each block of
+  text that begins with a definition (`pub`), is in a file of crates/ or lib/ that the page names before it, line by
+  line, but for the spaces in front. A block below a line `Not checked:` is left out.
 - Each link from one file of the repository to another leads to a file and a heading.
 - Each name between backticks in the pages of NAMING, such as `Filter::feed`, is of words that the code has.
 - Each crate has a page of at most 40 lines. Each line of a block of Rust in it, but for imports and comments, is a
   line of the function page_of_NAME in crates/tests/src/pages.rt, in the same order, white space apart; of the pages in
   CALLERS it is one of the function that calls them.
-- A number of a page that a step of the gate counts is the one in scripts/counts.txt.
+- A number of a page that a step of the gate counts is the one in scripts/counts.txt, and a number of files or lines is
+  that of the files. With --write the right numbers are put into the pages.
+- Each contract that README names for a crate is declared in this crate.
+- No sentence speaks of how the project was made, with the words of OF_THE_MAKING.
 - No line is a mark of a merge that somebody has to settle. None, not even that of a table, has more than LONGEST_LINE
   bytes: Debian's lintian takes longer ones for the work of a program.
 
@@ -38,22 +41,25 @@ import sources
 README = "README.md"
 DESIGNS = "designs/README.md"
 PRINTING = ("docs/PRINTING.md", "docs/SHEETS.md", "docs/ROLLS.md")
-RUN = (README, "docs/INPUT.md", *PRINTING, "docs/TICKETS.md", "docs/RECIPES.md", DESIGNS)
+RUN = (
+    *(README, "docs/INSTALL.md", "docs/TABLE.md", "docs/LINES.md", *PRINTING, "docs/TICKETS.md", "docs/RECIPES.md"),
+    DESIGNS,
+)
 QUOTED = {"rust", "python", "c"}
 COMMANDS = {"sh", "sh kit", "console"}
 LANGUAGES = {"text", *COMMANDS, *QUOTED}
 # What a command of a session is behind.
 PROMPT = "$ "
-# The pages of the proof: what a run promises, whether contracts are strong enough, and what is only tested.
+# The pages of the proof: its entry, what a run promises, and whether contracts are strong enough.
+PROOF = "docs/PROOF.md"
 PROMISES = "docs/PROOF-RUN.md"
-STRENGTH = "docs/PROOF-STRENGTH.md"
-TESTED = "docs/PROOF-TESTS.md"
-QUOTING = ("docs/LIBRARY.md", PROMISES)
+EVIDENCE = "docs/EVIDENCE.md"
+QUOTING = ("docs/LIBRARY.md", PROOF)
 # The pages that name the code, and the files that have its words.
 NAMING = (
     *(f"docs/{name}.md" for name in ("ARCHITECTURE", "DEFINITIONS", "LIBRARY", "SPECIFICATION")),
-    *(f"docs/PROOF{name}.md" for name in ("", "-READING", "-CRATES", "-DAMAGE", "-LIBRARY")),
-    *(PROMISES, STRENGTH, TESTED),
+    *(f"docs/PROOF{name}.md" for name in ("", "-READING", "-DAMAGE", "-LIBRARY")),
+    *(PROMISES, EVIDENCE),
 )
 CODE = (
     *("crates/*/src/**/*.rt", "crates/*/specs/*.antt", "crates/*/proofs/**/*.antt"),
@@ -64,7 +70,7 @@ OF_MERGES = re.compile(r"(?:<<<<<<<|>>>>>>>|\|\|\|\|\|\|\|) .*")
 WITHOUT_EXAMPLE = {"labels", "labels_c", "examples", "tests"}
 LONGEST = 40
 LONGEST_LINE = 500
-FILE = re.compile(r"\b(?:crates/[\w/]+\.rt|lib/[\w/]+\.\w+)\b")
+FILE = re.compile(r"\b(?:crates/[\w/]+\.(?:rt|antt)|lib/[\w/]+\.\w+)\b")
 # A name of the code: words that are joined by colons or points, as in `Filter::feed`, `answer.length`.
 NAME = re.compile(r"[^\W\d]\w*(?:(?:::|\.)[^\W\d]\w*)*(?:\(\))?")
 # The functions that have the lines of the pages' examples, by their names, and in which files they are.
@@ -75,19 +81,58 @@ CALLERS = {
     "capi": ("labels_proved_draw", "crates/labels_c/src/lib.rt"),
 }
 NOT_CHECKED = "Not checked:"
-# What pages say, with the step whose line in scripts/counts.txt has the number, and how it is found there.
+# The folders and endings of the files whose lines PROOF counts, and how a comment in them begins.
+COUNTED_LINES = {
+    "code": ("src", ".rt", "//"),
+    "definitions": ("specs", ".antt", "--"),
+    "proofs": ("proofs", ".antt", "--"),
+}
+WRONG_BODIES, BELIEVED = "wrong bodies", "believed lines"
+# The row of PROOF's table that believed.py writes, whose last number is how much a sceptic has to read.
+OF_SHOWS = re.compile(r"the clause `shows` of `program` \|.* ([\d,]+) \|\n")
+# What pages say: the page, the sentence with the number, what counts it (a step of scripts/counts.txt or one of
+# `counted_here`), and how the number is found there.
 IN_PAGES = (
-    (TESTED, r"read\s+all\s+([\d,]+)\s+labels\s+back", "compare_symbols.py", r"(\d+) read back"),
-    (TESTED, r"drew\s+the\s+same\s+([\d,]+)\s+symbols", "compare_symbols.py", r"(\d+) of \1 as zint"),
-    (TESTED, r"of\s+([\d,]+)\s+simulated\s+out-of-memory", "refuse_each_growth.py", r"^(\d+) growths"),
-    (TESTED, r"read\s+all\s+([\d,]+)\s+symbols\s+of\s+five", "read_foreign.py", r"(\d+) read as asked"),
-    (STRENGTH, r"operator\s+of\s+([\d,]+)\s+believed\s+definitions", "believed_rows.py", r"of (\d+) definitions"),
-    (STRENGTH, r"one\s+at\s+a\s+time:\s+([\d,]+)\s+changes", "believed_rows.py", r"^(\d+) changes"),
-    (STRENGTH, r"contract\s+rests\s+on,\s+([\d,]+)", "believed_rows.py", r"(\d+) of \d+ behind the program"),
-    (STRENGTH, r"([\d,]+)\s+definitions\s+that\s+the", "believed_rows.py", r"of (\d+) behind the program"),
-    (STRENGTH, r"library's\s+[\d,]+,\s+([\d,]+)", "believed_rows.py", r"(\d+) of \d+ behind the library"),
-    (STRENGTH, r"of\s+the\s+library's\s+([\d,]+),", "believed_rows.py", r"of (\d+) behind the library"),
+    (PROOF, r"about\s+([\d,]+)\s+lines\s+of\s+code", "code", r"(\d+)"),
+    (PROOF, r"about\s+([\d,]+)\s+lines\s+of\s+definitions", "definitions", r"(\d+)"),
+    (PROOF, r"on\s+([\d,]+)\s+lines\s+of\s+proof", "proofs", r"(\d+)"),
+    (PROOF, r"\[([\d,]+)\s+lines\]", BELIEVED, r"(\d+)"),
+    (PROOF, r"back\s+all\s+([\d,]+)\s+labels", "compare_symbols.py", r"(\d+) read back"),
+    (PROOF, r"In\s+([\d,]+)\s+definitions", "believed_rows.py", r"of (\d+) definitions"),
+    (PROOF, r"([\d,]+)\s+changes\s+were\s+refused", "believed_rows.py", r"^(\d+) changes"),
+    (PROOF, r"other\s+([\d,]+)\s+mean\s+the\s+same", "believed_rows.py", r"(\d+) mean the same"),
+    (EVIDENCE, r"([\d,]+)\s+wrong\s+functions", WRONG_BODIES, r"(\d+)"),
+    (EVIDENCE, r"([\d,]+)\s+changes\*\*\s+of", "believed_rows.py", r"^(\d+) changes"),
+    (EVIDENCE, r"in\s+([\d,]+)\s+definitions", "believed_rows.py", r"of (\d+) definitions"),
+    (EVIDENCE, r"([\d,]+)\s+worked\s+values", "unused.py", r"^(\d+) worked"),
+    (EVIDENCE, r"([\d,]+)\s+labels\*\*\s+are", "compare_symbols.py", r"(\d+) read back"),
+    (EVIDENCE, r"([\d,]+)\s+of\s+them\s+are\s+drawn", "compare_symbols.py", r"(\d+) of \1 as zint"),
+    (EVIDENCE, r"([\d,]+)\s+symbols\*\*\s+of", "read_foreign.py", r"(\d+) read as asked"),
+    (EVIDENCE, r"([\d,]+)\s+requests\s+for\s+memory", "refuse_each_growth.py", r"^(\d+) growths"),
+    (EVIDENCE, r"([\d,]+)\s+tests\*\*\s+of", "run_tests.py tools/tests", r"^(\d+) passed"),
+    (EVIDENCE, r"tools,\s+([\d,]+)\s+of", "run_tests.py lib/tests", r"^(\d+) passed"),
+    (EVIDENCE, r"([\d,]+)\s+of\s+our\s+own\s+scripts", "run_tests.py scripts/tests", r"^(\d+) passed"),
+    (EVIDENCE, r"([\d,]+)\s+groups\s+of\s+commands", "run_recipes.py", r"^(\d+) of"),
+    (EVIDENCE, r"([\d,]+)\s+other\s+changes\s+mean", "believed_rows.py", r"(\d+) mean the same"),
+    (EVIDENCE, r"contract\s+rests\s+on,\s+([\d,]+)", "believed_rows.py", r"(\d+) of \d+ behind the program"),
+    (EVIDENCE, r"([\d,]+)\s+definitions\s+that\s+the", "believed_rows.py", r"of (\d+) behind the program"),
+    (EVIDENCE, r"library's\s+[\d,]+,\s+([\d,]+)", "believed_rows.py", r"(\d+) of \d+ behind the library"),
+    (EVIDENCE, r"of\s+the\s+library's\s+([\d,]+),", "believed_rows.py", r"of (\d+) behind the library"),
+    (EVIDENCE, r"([\d,]+)\s+more\s+were\s+given", "read_foreign.py", r"(\d+) damaged"),
+    (EVIDENCE, r"gives\s+([\d,]+)\s+damaged\s+labels", "scan_damaged.py", r"^(\d+) damaged"),
+    (EVIDENCE, r"([\d,]+)\s+of\s+them\s+were\s+misread", "scan_damaged.py", r"(\d+) misread"),
+    (EVIDENCE, r"([\d,]+)\s+bar\s+codes\s+with\s+wrong", "scan_damaged.py", r"of (\d+) guessed"),
 )
+# What a sentence about the product does not have: who made it, when, on which machine, what was tried on the way.
+OF_THE_MAKING = re.compile(
+    r"\b(?:language models?|[Hh]elpers?|[Rr]eviewers?|[Ii]ssue \d+|[Cc]ommit [\da-f]{7,}|20\d\d-\d\d-\d\d"
+    r"|[Ww]e (?:once|tried|ran|wanted|measured again|had decided)|At first|[Oo]nce by hand"
+    r"|on (?:a|another) (?:slower|faster|older|busier) (?:machine|host))\b"
+)
+# A row of README's table of the crates, and the names of crates and contracts in it.
+OF_CRATES = re.compile(r"^\| \[\w+\]\(crates/.*$", re.MULTILINE)
+CRATE = re.compile(r"\(crates/(\w+)/README\.md\)")
+CONTRACT = re.compile(r"`(?:\w+::)?(\w+)`")
 MARKDOWN = MarkdownIt().enable("table")
 
 
@@ -102,6 +147,17 @@ class Block:
     above: str
     is_closed: bool
     is_next: bool
+
+
+@dataclass(frozen=True)
+class Number:
+    """A number on a page: the page, the sentence that has it, the right number ("" if it is not counted), and the line
+    that counts it."""
+
+    page: str
+    sentence: str
+    right: str
+    line: str
 
 
 def texts() -> dict[str, str]:
@@ -136,7 +192,7 @@ def blocks_of(text: str) -> Iterator[Block]:
 def faults_of_blocks(page: str, blocks: Iterable[Block]) -> Iterator[tuple[int, str]]:
     """What is wrong with the blocks of a page, each with the number of its line."""
     for block in blocks:
-        is_quoted = block.language in QUOTED or block.code.lstrip().startswith("ensures")
+        is_quoted = block.language in QUOTED or block.code.startswith("pub ")
         if not block.is_closed:
             yield block.line, "this block is not closed"
         elif block.language not in LANGUAGES:
@@ -261,19 +317,85 @@ def faults_of_example(name: str, page: str, blocks: Iterable[Block]) -> Iterator
         yield 1, "no example"
 
 
-def faults_of_counts(pages: Mapping[str, str]) -> Iterator[str]:
-    """The numbers of pages that are not those that the gate compares, or that a page lacks."""
-    kept = dict(line.split(": ", 1) for line in sources.read(gate.COUNTS).splitlines() if not line.startswith("#"))
+def lines_of_code(folder: str, ending: str, comment: str) -> int:
+    """How many lines the files in this folder of each crate have, without comments and blank lines."""
+    paths = [path for path in sources.files_below("crates", ending) if f"/{folder}/" in path]
+    lines = [line.strip() for path in paths for line in sources.read(path).split("\n")]
+    return len([line for line in lines if line and not line.startswith(comment)])
+
+
+def counted_here() -> dict[str, str]:
+    """What this script counts itself: wrong bodies, lines of the crates in thousands, and those to be believed."""
+    lines = {name: str(round(lines_of_code(*files), -3)) for name, files in COUNTED_LINES.items()}
+    believed = OF_SHOWS.search(sources.read(PROOF))
+    bodies = len(glob.glob("crates/*/wrong-bodies/*"))
+    return {**lines, WRONG_BODIES: str(bodies), BELIEVED: believed[1].replace(",", "") if believed else ""}
+
+
+def right_numbers() -> list[Number]:
+    """The numbers of IN_PAGES."""
+    lines = sources.read(gate.COUNTS).splitlines()
+    kept = {**dict(line.split(": ", 1) for line in lines if not line.startswith("#")), **counted_here()}
+    numbers: list[Number] = []
     for page, sentence, step, place in IN_PAGES:
-        right, said = re.search(place, kept.get(step, "")), re.search(sentence, pages[page])
-        if not right or not said or said[1] != f"{int(right[1]):,}":
-            found = " ".join(said[0].split()) if said else f"no {sentence}"
-            yield f"{page}: {found}, and scripts/counts.txt has {kept.get(step)}"
+        line = kept.get(step, "")
+        found = re.search(place, line)
+        numbers.append(Number(page, sentence, f"{int(found[1]):,}" if found else "", line))
+    return numbers
+
+
+def faults_of_counts(pages: Mapping[str, str]) -> Iterator[str]:
+    """The numbers of pages that are not those that are counted, or that a page lacks."""
+    for number in right_numbers():
+        said = [*re.finditer(number.sentence, pages[number.page])]
+        wrong = [" ".join(found[0].split()) for found in said if found[1] != number.right]
+        if wrong or not said:
+            what = wrong[0] if wrong else f"no {number.sentence}"
+            yield f"{number.page}: {what}, and counted is {number.line or 'nothing'}"
+
+
+def write_counts(pages: Mapping[str, str]) -> None:
+    """Puts the right numbers into the pages."""
+    texts = dict(pages)
+    for number in right_numbers():
+        text = texts[number.page]
+        for found in reversed([*re.finditer(number.sentence, text)] if number.right else []):
+            text = text[: found.start(1)] + number.right + text[found.end(1) :]
+        texts[number.page] = text
+    for page, text in texts.items():
+        if text != pages[page]:
+            sources.write(page, text)
+
+
+def faults_of_contracts(text: str) -> Iterator[tuple[int, str]]:
+    """The contracts in README's table of the crates that none of the crates of their row declares."""
+    for row in OF_CRATES.finditer(text):
+        folders = [f"crates/{crate}/src" for crate in CRATE.findall(row[0])]
+        code = "".join(sources.read(path) for folder in folders for path in sources.files_below(folder, ".rt"))
+        declared = set(re.findall(r"\b(?:fn|trait) (\w+)", code))
+        for name in CONTRACT.findall(row[0].split(" | ")[-1]):
+            if name not in declared:
+                yield text.count("\n", 0, row.start()) + 1, f"no crate of this row declares {name}"
+
+
+def faults_of_making(text: str) -> Iterator[tuple[int, str]]:
+    """The sentences of a page that speak of how the project was made. The headings of versions have their dates."""
+    tokens = parsed(text)
+    for before, token in zip(tokens, tokens[1:]):
+        is_prose = token.type == "inline" and before.type != "heading_open"
+        found = OF_THE_MAKING.search(token.content) if is_prose else None
+        if found:
+            start, _ = token.map or (0, 0)
+            yield start + 1, f"this speaks of the making: {found[0]}"
 
 
 def main() -> int:
-    sources.parser_of(__doc__).parse_args()
+    parser = sources.parser_of(__doc__)
+    parser.add_argument("--write", action="store_true", help="put the right numbers into the pages")
+    wants_numbers = parser.parse_args().write
     os.chdir(sources.TOP)
+    if wants_numbers:
+        write_counts(texts())
     pages = texts()
     faults, known = [*faults_of_counts(pages)], words_of_code()
     count = links = 0
@@ -285,8 +407,10 @@ def main() -> int:
         for line, words in long_paragraphs(text):
             print(f"{page}:{line}: a paragraph of {words} words is long")
         found = [*faults_of_blocks(page, blocks)]
-        found += [*faults_of_lines(text)]
+        found += [*faults_of_lines(text), *faults_of_making(text)]
         found += [(line, fault) for line, link in links_of(text) if (fault := fault_of_link(page, link))]
+        if page == README:
+            found += faults_of_contracts(text)
         if page in NAMING:
             found += faults_of_names(text, known)
         if page.startswith("crates/"):

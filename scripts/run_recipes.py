@@ -5,9 +5,10 @@ The pages are those of RUN in pages.py, and the examples of the man pages. A blo
 ```text right after it, if there is one, what they print on standard output and standard error together; where there is
 none, they print nothing. A block ```console is a session: each command is behind a prompt `$ `, its other lines behind
 `> `, and what it prints is below it; `$ cat FILE` of a file that is not there makes the file. A block ```sh, and each
-command of a session, has to end with status 0. The blocks of a page run in their order, each by its own `sh`, at the
-top of a new copy of the repository's files, with `labels` and the tools on the path, and with a home of their own. A
-block ```sh kit calls the kit, which proves for minutes: it does not run.
+command of a session, has to end with status 0. If a command of a session does not, a comment right above the session,
+which no reader sees, has the status of each: `<!-- statuses: 0 1 -->`. The blocks of a page run in their order, each
+by its own `sh`, at the top of a new copy of the repository's files, with `labels` and the tools on the path, and
+with a home of their own. A block ```sh kit calls the kit, which proves for minutes: it does not run.
 
 In a man page an example with prompts is a session, too: there each command may end with any status. An example without
 a prompt has to end with status 0 and may print anything; it runs in labels.1 alone, since those of the other man pages
@@ -45,6 +46,8 @@ FOLDERS = ("man", "completions", "tools", "lib", "docs", "scripts", "designs", "
 SECONDS = 3600
 CONTINUED = "> "
 EXAMPLE = re.compile(r"(?:^ {14}.*\n)+", re.MULTILINE)
+# The statuses of a session's commands, in a comment right above it.
+STATUSES = re.compile(r"<!-- statuses: ([\d ]+) -->\s*\Z")
 SHOWN_FILE = re.compile(r"cat ([\w.]+)\n")
 END = "END OF FILE"
 # What the last command of a page or a manual prints otherwise than these say, behind what is right.
@@ -54,6 +57,7 @@ WRONG_PAGES = {
     "a block that prints nothing": "```sh\necho wrong\n```\n",
     "a session": "```console\n$ echo right\nright\n$ echo right\nwrong\n```\n",
     "a session that fails": "```console\n$ echo right; false\nright\n```\n",
+    "a session with a wrong status": "<!-- statuses: 0 1 -->\n```console\n$ echo right\nright\n$ true\n```\n",
     "a session that goes on": "```console\n$ echo \\\n> right\nwrong\n```\n",
     "a file that is shown": "```console\n$ cat one.csv\none\n$ cat one.csv\ntwo\n```\n",
 }
@@ -84,12 +88,9 @@ class Commands:
         return "" if is_good else f"status {ran.returncode} of:\n{self.text}it printed:\n{printed}"
 
 
-# What makes the pictures, the page whose commands run before it, and what it prints.
+# What makes the pictures, and the page whose commands run before it.
 PICTURED = pages.DESIGNS
-DRAWN = Commands(
-    "tools/tests/draw_pictures.sh\n",
-    "label-print: row 5: a text is too long, so it ends in “…”: shorten it, or choose a larger label\n",
-)
+DRAWN = Commands("tools/tests/draw_pictures.sh\n")
 
 
 def commands_of(page: str) -> Iterator[Commands]:
@@ -99,12 +100,19 @@ def commands_of(page: str) -> Iterator[Commands]:
         if block.language == "sh":
             yield Commands(block.code, after.code if after and after.is_next and after.language == "text" else "")
         elif block.language == "console":
-            yield session_of(block.code.splitlines(keepends=True))
+            yield session_of(block.code.splitlines(keepends=True), statuses=statuses_above(block.above))
 
 
-def session_of(lines: Iterable[str], may_fail: bool = False) -> Commands:
+def statuses_above(text: str) -> list[str]:
+    """The statuses of a session's commands in the comment at the end of a text, or none."""
+    found = STATUSES.search(text)
+    return found[1].split() if found else []
+
+
+def session_of(lines: Iterable[str], may_fail: bool = False, statuses: Sequence[str] = ()) -> Commands:
     """The commands of a session, which begins with a prompt, and what one `sh` prints of them. After each command it
-    prints a mark with the status of that command, or an empty mark where any status will do."""
+    prints a mark with the status of that command, which is 0 if no statuses are given, or an empty mark if any will
+    do."""
     typed: list[tuple[str, str]] = []
     for line in lines:
         if line.startswith(pages.PROMPT):
@@ -113,9 +121,12 @@ def session_of(lines: Iterable[str], may_fail: bool = False) -> Commands:
             typed[-1] = (typed[-1][0] + line.removeprefix(CONTINUED), typed[-1][1])
         else:
             typed[-1] = (typed[-1][0], typed[-1][1] + line)
-    asked, wanted = ("", "") if may_fail else ('"$?"', "0")
+    asked = "" if may_fail else '"$?"'
+    wanted = [""] * len(typed) if may_fail else statuses or ["0"] * len(typed)
+    if len(wanted) != len(typed):
+        wanted = ["as many statuses as commands"] * len(typed)
     text = [f"{with_file(command, printed)}printf '\\001%s\\001' {asked}\n" for command, printed in typed]
-    return Commands("".join(text), "".join(f"{printed}\1{wanted}\1" for _, printed in typed))
+    return Commands("".join(text), "".join(f"{printed}\1{status}\1" for (_, printed), status in zip(typed, wanted)))
 
 
 def with_file(command: str, printed: str) -> str:

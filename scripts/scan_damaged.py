@@ -2,7 +2,7 @@
 """Damages labels of the program `labels`, and lets two third-party scanners read them: zbar and zxing-cpp.
 
 The proofs say what the standards' reading rules make of a damaged label: its full data or nothing. This step looks at
-what scanners make of it that nobody here wrote. Each label is read as drawn; turned by a quarter, a half and three
+what third-party scanners make of it. Each label is read as drawn; turned by a quarter, a half and three
 quarters, and in a mirror; and damaged at random, by a fixed seed, up to what the proofs allow:
 
 - modules turned (dark for light), as many as the limit of the symbology: the same ones in each row of a bar code, or

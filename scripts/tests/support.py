@@ -77,7 +77,7 @@ def copied() -> str:
     """A copy of the repository for all tests of a file, each of which undoes its changes."""
     folder = tempfile.mkdtemp(prefix="test-copy-")
     unittest.addModuleCleanup(shutil.rmtree, folder)
-    left_out = (f"--exclude={name}" for name in ("out", ".git", "__pycache__", "wrong-bodies"))
+    left_out = (f"--exclude={name}" for name in ("out", ".git", "__pycache__"))
     with subprocess.Popen(["tar", "-c", "-C", TOP, *left_out, "."], stdout=subprocess.PIPE) as files:
         subprocess.run(["tar", "-x", "-C", folder], stdin=files.stdout, check=True)
     return folder

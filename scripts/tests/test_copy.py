@@ -7,6 +7,7 @@ from unittest import mock
 from support import PYTHON, TOP, InCopy, cases_of, module, read, run_command, slow
 
 README, PROOF, READING = "README.md", "docs/PROOF.md", "crates/picture/specs/Reading.antt"
+EVIDENCE = "docs/EVIDENCE.md"
 COUNTS, RESULTS = "scripts/counts.txt", "scripts/believed_rows.txt"
 
 
@@ -75,6 +76,17 @@ class Changed(InCopy):
         os.rename(self.path("crates"), self.path("boxes"))
         self.addCleanup(os.rename, self.path("boxes"), self.path("crates"))
         self.assertEqual(self.judged("unused.py")[0], 1)
+
+
+class Numbers(InCopy):
+    """The numbers of pages that steps of the gate and the files have."""
+
+    def test_what_write_leaves_is_right(self) -> None:
+        text = read(self.path(EVIDENCE))
+        self.replace(EVIDENCE, re.sub(r"\*\*\d[\d,]* ", "**1 ", text))
+        self.assertEqual(self.judged("pages.py")[0], 1)
+        status, said = self.judged("pages.py", "--write")
+        self.assertEqual((status, read(self.path(EVIDENCE))), (0, text), said)
 
 
 class Believed(InCopy):

@@ -19,7 +19,7 @@ edits = module("edits")
 
 CASES = cases_of("test_fields")
 RECORDS, FUNCTIONS, LAWS = CASES["records"], CASES["functions"], CASES["laws"]
-# Of these the prover does not find by itself what is left without them (docs/PROOF-STRENGTH.md): `refutes:` names
+# Of these the prover does not find by itself what is left without them (docs/EVIDENCE.md): `refutes:` names
 # them in a body.
 BESIDE = {"Shows.images", "RunsOver.runs", "RunsOver.whole", *(f"Ends.{case}" for case in range(1, 10))}
 

@@ -417,9 +417,9 @@ BENT: tuple[tuple[Callable[[], Iterable[tuple[str, bool]]], Any, dict[str, Any],
     (of_foreign, read_foreign, {"readings": readings(lambda one: bytes(one.data))}, 21),
     (of_symbols, compare_symbols, {"is_as_zint": lambda *_: True, "is_read_back": lambda *_: True}, 6 * SHOWN),
     (of_symbols, compare_symbols, {"is_as_zint": lambda *_: False, "is_read_back": lambda *_: False}, 2 * SHOWN),
-    (run_recipes.wrong_cases, run_recipes.Commands, {"fault": lambda *_: ""}, 36),
+    (run_recipes.wrong_cases, run_recipes.Commands, {"fault": lambda *_: ""}, 39),
     (run_recipes.wrong_cases, run_recipes, {"fault_of_picture": lambda *_: ""}, 9),
-    (run_recipes.wrong_cases, run_recipes, {"judged": lambda *_: (3, 3)}, 45),
+    (run_recipes.wrong_cases, run_recipes, {"judged": lambda *_: (3, 3)}, 48),
     (instructions.wrong_cases, instructions, {"ROOM": 50}, 48),
     (instructions.wrong_cases, instructions, {"fault_of": lambda *_: ""}, 56),
     (instructions.wrong_cases, instructions, {"shape_of": lambda row: ""}, 8),
@@ -467,7 +467,7 @@ class Judges(unittest.TestCase):
 
 # In the place of Python, which writes the table: what stands in for the tools reads none.
 NO_TABLE = {"python3": "true"}
-PAGES = ("README.md", "docs/INPUT.md", "docs/pictures/sheet.png")
+PAGES = ("README.md", "docs/TABLE.md", "docs/pictures/sheet.png")
 
 
 class PackageTests(InFolder):

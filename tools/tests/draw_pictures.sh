@@ -21,9 +21,14 @@ mv one/1.png thermal.png
 tools/tests/layouts.py .
 tools/tests/settings.py .
 mv rack/1.png design-rack.png
+label-table --code Pallet --symbology code128 --title Number --text From --text Article --text Quantity --text Batch \
+    --text 'Best before' examples/pallets.csv > pallets.lines
+label-print --design designs/pallet-105x148.svg --dpi 203 --to png --each 'pallet/%d.png' pallets.lines
 mv pallet/1.png design-pallet.png
 label-print --design designs/shelf-60x40.svg --to png --dpi 203 --only 2 --each 'own/%d.png' shop.lines
 mv own/1.png design-shelf.png
+label-table --code Ticket --symbology qr --title Name --price Price --text Block --text Row --text Seat --text Event \
+    examples/seats.csv > seats.lines
 label-print --design designs/ticket-210x148.svg --to png --dpi 203 --only 2 seats.lines > design-ticket.png
 cat > jar.lines <<'LINES'
 #{"title":"Bärlauchpesto mit Walnüssen","text":{"Filled":"3.11.2026","Text":"Hofladen Huber, kühl lagern"}}

@@ -1,7 +1,9 @@
-"""The help of label-window: a page in each language, whose steps name controls as the screen does."""
+"""The help: of label-window a page in each language, whose steps name controls as the screen does, and
+the pages for shop keepers, to which it leads."""
 
 import gettext
 import importlib.util
+import os
 import re
 import subprocess
 import tempfile
@@ -45,6 +47,17 @@ def unknown_names(language: str, page: str) -> Iterator[str]:
             yield name
 
 
+def html_name(page: str) -> str:
+    """The name of the heading of a page, as links have it."""
+    return f'"{window_help.anchor_of(page[2:].splitlines()[0])}"'
+
+
+def linked_from(path: Path) -> Iterator[Path]:
+    """The pages to which a page leads."""
+    for link in re.findall(r'\bhref="([^"#]+)', path.read_text(encoding="utf-8")):
+        yield Path(os.path.normpath(path.parent / link))
+
+
 class Help(unittest.TestCase):
     def test_each_language_has_the_page(self) -> None:
         pages = window_help.pages()
@@ -60,14 +73,33 @@ class Help(unittest.TestCase):
             self.assertEqual([*unknown_names(language, page)], [], language)
             self.assertEqual([*unknown_names(language, f"{page} **No control**")], ["No control"])
 
-    def test_a_page_needs_no_other_file(self) -> None:
+    def test_pictures_are_in_the_pages_and_links_lead_to_headings(self) -> None:
         with tempfile.TemporaryDirectory() as folder:
             subprocess.run([SOURCE, folder], check=True)
-            for language, page in window_help.pages().items():
-                html = Path(folder, language, "label-window/index.html").read_text(encoding="utf-8")
-                self.assertIn(f"<h1>{page[2:].splitlines()[0]}</h1>", html)
-                links = re.findall(r'\b(?:src|href)="([^"]{,22})', html)
-                self.assertEqual(links, ["data:image/png;base64,"])
+            texts = {
+                path: path.read_text(encoding="utf-8") for path in Path(folder).rglob("*.html")
+            }
+        for language, page in window_help.pages().items():
+            html = texts[Path(folder, language, "label-window/index.html")]
+            self.assertIn(f"<h1 id={html_name(page)}>{page[2:].splitlines()[0]}</h1>", html)
+        for path, html in texts.items():
+            for source in re.findall(r'\bsrc="([^"]{,22})', html):
+                self.assertEqual(source, "data:image/png;base64,")
+            for link in re.findall(r'\bhref="([^"]*)"', html):
+                file, _, anchor = link.partition("#")
+                there = texts[Path(os.path.normpath(path.parent / file)) if file else path]
+                self.assertIn(f'id="{anchor}"' if anchor else "<h1", there, f"{path.name}: {link}")
+
+    def test_the_help_of_the_window_leads_to_each_page(self) -> None:
+        """By links from page to page, in each language."""
+        with tempfile.TemporaryDirectory() as folder:
+            subprocess.run([SOURCE, folder], check=True)
+            wanted = {*Path(folder, "C/label-tools").iterdir()}
+            for language in window_help.pages():
+                found = {Path(folder, language, "label-window/index.html")}
+                for _ in wanted:
+                    found |= {target for path in found for target in linked_from(path)}
+                self.assertEqual(wanted - found, set(), language)
 
 
 if __name__ == "__main__":

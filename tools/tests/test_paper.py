@@ -1,8 +1,7 @@
 """What a shop sees on paper, by the commands alone: lines in, PDF, SVG, PNG, PBM, ZPL or ESC/POS
 out.
 
-No test here looks into label-print, so $TOOLS may name the folder of other tools: on those of
-2026-11-25, in which nothing grew with the label, each of these tests fails.
+No test here looks into label-print, so $TOOLS may name the folder of other tools.
 """
 
 import os

@@ -641,7 +641,7 @@ class Installed(unittest.TestCase):
             self.assertTrue(service[name].endswith(" %t/%N/lines"), service[name])
 
     def test_no_folder_is_trusted_for_every_package(self) -> None:
-        page = (support.TOP / "README.md").read_text()
+        page = (support.TOP / "docs/INSTALL.md").read_text()
         self.assertNotIn("deb [trusted=yes]", page)
 
 

@@ -1,8 +1,7 @@
 """Tests of the rules of label-table: a wrong label, text, price, count or row is never written
 without a word.
 
-Each case is a table that a shop, a web shop's export or a spreadsheet has made, and that went
-through once.
+Each case is a table such as a shop, a web shop's export or a spreadsheet makes.
 """
 
 import csv

@@ -168,7 +168,7 @@ class SentJob:
 
     def unseen(self) -> Unseen:
         """Returns that CUPS does not answer, and how to see what became of the job."""
-        line = shlex.join(["lpstat", "-W", "all", "-o", self.queue])
+        line = shell_line(["lpstat", "-W", "all", "-o", self.queue])
         what = Text("CUPS does not answer any more: labels may be on paper")
         hint = Text("look there; once CUPS answers, {} shows the job", line)
         return Unseen(what, hint)
