@@ -155,14 +155,11 @@ class Scheduler:
         (self.folder / "cupsd.conf").write_text(SETTINGS.format(socket=self.name))
         lines = [f"{name} {self.folder}/{name}" for name in (*FILES, *LOGS)]
         (self.folder / "cups-files.conf").write_text("\n".join([*lines, "FileDevice Yes", ""]))
-        words = [CUPSD, "-f", "-c", f"{self.folder}/cupsd.conf"]
-        words += ["-s", f"{self.folder}/cups-files.conf"]
         self.processes: list[Any] = []
-        self.start(*words)
         self.before = os.environ.get("CUPS_SERVER")
         os.environ["CUPS_SERVER"] = self.name
         cups.setServer(self.name)  # which GTK would not look up again
-        self.wait(lambda: is_open(self.name))  # lpstat -r gives status 0 before, too
+        self.come()
 
     def start(self, *words: str, **variables: str) -> Any:
         """Starts a program that ends with this one."""
@@ -170,6 +167,20 @@ class Scheduler:
         process = subprocess.Popen([*WITH_TEST, *words], stdout=subprocess.PIPE, **how)
         self.processes.append(process)
         return process
+
+    def come(self) -> None:
+        """Starts cupsd, which has the queues and jobs of before."""
+        words = [CUPSD, "-f", "-c", f"{self.folder}/cupsd.conf"]
+        self.start(*words, "-s", f"{self.folder}/cups-files.conf")
+        self.processes.insert(0, self.processes.pop())
+        self.wait(lambda: is_open(self.name))  # lpstat -r gives status 0 before, too
+
+    def leave(self) -> None:
+        """Ends cupsd, as a restart of the computer does."""
+        process = self.processes.pop(0)
+        process.terminate()
+        process.wait()
+        process.stdout.close()
 
     def wait(self, is_done: Any) -> None:
         """Waits until something is done."""

@@ -11,6 +11,7 @@ import tempfile
 import threading
 import time
 import unittest
+from concurrent.futures import ThreadPoolExecutor
 from contextlib import suppress
 from desk import unread
 from pathlib import Path
@@ -30,7 +31,7 @@ from labeltools.printing.job import planned, PrintOptions
 from labeltools.sending import ipp
 from labeltools.sending.cups import queues
 from labeltools.sending.driver import dots_of, dpi_of
-from labeltools.sending.job import ABORTED, SentJob, UnknownJob
+from labeltools.sending.job import ABORTED, own_jobs, SentJob, UnknownJob
 from labeltools.sending.papers import Papers, papers_of_driver
 from labeltools.sending.queue import lp_line, media_of, Queue, queue_of
 from laying import laid_out, look
@@ -576,11 +577,11 @@ class Queues(unittest.TestCase):
         for name, status, said in (
             ("plain", 0, "CUPS reports it as printed"),
             ("broken", 1, "it waits in the queue: .*Filter failed"),
-            ("given-up", 1, "it was not printed: CUPS gave up job [0-9]+"),
+            ("given-up", 1, "some labels may be on paper: CUPS gave up job [0-9]+: The printer"),
             (
                 "holds",
                 1,
-                "it waits in the queue: holds: job ([0-9]+) is held: .*lp -i holds-.* -H resume",
+                "it waits in the queue: holds: job ([0-9]+) is held; lp -i holds-.* -H resume",
             ),
         ):
             with self.subTest(queue=name):
@@ -595,11 +596,11 @@ class Queues(unittest.TestCase):
         device = self.scheduler.add_driverless("gives-up", "/bin/false")
         self.addCleanup(self.scheduler.remove, "gives-up")
         done = self.printed(*self.SHEET, "--print", "gives-up")
-        self.assertRegex(done.stderr.decode(), "it was not printed: .*job [0-9]+")
+        self.assertRegex(done.stderr.decode(), "some labels may be on paper: .*job [0-9]+")
         self.assertEqual(done.returncode, 1)
         (job,) = ipp.groups_of(ipp.asked(device))
         name = job[ipp.NAME].decode()
-        self.assertRegex(name, "^labels [0-9:.]+$")
+        self.assertRegex(name, "^labels [0-9:.]+ [0-9a-f]+-[0-9]+$")
         self.assertEqual(ipp.state_at_printer(device, name), ABORTED)
         self.assertEqual(ipp.state_at_printer(device, "labels"), 0)
         said = self.printed(*self.SHEET, "--print", "home").stderr.decode()
@@ -607,6 +608,75 @@ class Queues(unittest.TestCase):
         self.assertTrue(sent.state().is_printed)  # no job of this name is there
         with mock.patch("labeltools.sending.ipp.state_at_printer", return_value=ABORTED):
             self.assertEqual(sent.state().trouble, f"the printer gave up job {sent.number}")
+
+    def meanwhile(self, queue: str, act: Callable[[], object]) -> str:
+        """What label-print says if something is done while CUPS tries to print."""
+        shown = ("lpstat", "-p", queue)
+        with ThreadPoolExecutor(1) as thread:
+            done = thread.submit(self.printed, *self.ROLL, "--print", queue)
+            self.scheduler.wait(
+                lambda: b"now printing" in subprocess.run(shown, capture_output=True).stdout
+            )
+            time.sleep(0.5)  # the job is known, and is watched
+            act()  # cupsd ends with the thread that has started it
+        is_printed = b"reports it as printed" in done.result().stderr
+        self.assertEqual(done.result().returncode, 0 if is_printed else 1)
+        return done.result().stderr.decode()
+
+    def test_cups_that_goes_away(self) -> None:
+        """What was sent is said, and how it is looked for; the same labels are not sent again
+        without a question. Others are.
+        """
+        self.add("lost", "zebra", "socket://127.0.0.1:1")
+        with mock.patch("labeltools.sending.job.AWAY", 0.5):
+            said = self.meanwhile("lost", self.scheduler.leave)
+        sent = "5 labels sent to lost, at 203 dpi: job ([0-9]+); CUPS does not answer any more: "
+        self.assertRegex(said, f"{sent}labels may be on paper; look there; once CUPS answers, lpst")
+        words = (*self.ROLL, "--print", "lost")
+        self.assertIn(b"CUPS does not answer: install it", self.printed(*words).stderr)
+        self.scheduler.come()
+        number = re.findall(sent, said)[0]
+        for _ in range(2):
+            asks = f"job {number} of lost has the same labels: it waits in the queue"
+            with mock.patch("labeltools.sending.job.IDLE", 0.5):
+                done = self.printed(*words)
+            self.assertEqual(done.returncode, 1)
+            self.assertIn(asks, done.stderr.decode())
+            self.assertIn("give --again lost to print them once more", done.stderr.decode())
+        self.assertEqual([sent.number for sent in own_jobs("lost")], [int(number)])
+        with mock.patch("labeltools.sending.job.IDLE", 0.5):
+            done = self.printed(*words, "--only", "2")
+            self.assertRegex(
+                done.stderr.decode(), "1 label sent to lost, .*; it waits in the queue"
+            )
+            done = self.printed(*words, "--again", "lost")
+        self.assertRegex(done.stderr.decode(), "5 labels sent to lost, .*; it waits in the queue")
+
+    def test_cups_that_is_started_again(self) -> None:
+        """The job is found again, and nothing is asked of the next one."""
+        with socket.create_server(("127.0.0.1", 0)) as free:
+            port = free.getsockname()[1]
+        self.add("restarted", "zebra", f"socket://127.0.0.1:{port}")
+
+        def come_back() -> None:
+            self.scheduler.leave()
+            time.sleep(0.5)
+            self.addCleanup(Printer(port=port).start().off)
+            self.scheduler.come()
+
+        said = self.meanwhile("restarted", come_back)
+        self.assertRegex(said, "5 labels sent to restarted, .*; CUPS reports it as printed")
+        done = self.printed(*self.ROLL, "--print", "restarted")
+        self.assertIn(b"CUPS reports it as printed", done.stderr)
+
+    def test_a_job_that_is_cancelled_and_a_queue_that_is_removed(self) -> None:
+        """Of a job that was begun some labels may be on paper."""
+        self.scheduler.add("removed", "zebra", "socket://127.0.0.1:1")
+        said = self.meanwhile("removed", lambda: subprocess.run(["cancel", "-a", "removed"]))
+        self.assertRegex(said, "; some labels may be on paper: job [0-9]+ was cancelled")
+        said = self.meanwhile("removed", lambda: self.scheduler.remove("removed"))
+        gone = "the queue removed was removed with its job [0-9]+; labels may be on paper: look"
+        self.assertRegex(said, f"5 labels sent to removed, .*; {gone}")
 
     def test_a_signal_ends_only_the_watching(self) -> None:
         self.add("away", "zebra", "socket://127.0.0.1:1")
@@ -755,7 +825,26 @@ class Devices(unittest.TestCase):
                 done = support.printed(*self.WORDS, "--print", device, input=LINES)
                 self.assertEqual(done.returncode, 1)
                 self.assertIn(said, done.stderr.decode())
+                self.assertNotIn(b"--after", done.stderr)
             self.assertEqual(os.listdir(folder), [])
+
+    def test_a_full_disk_below_a_file(self) -> None:
+        """No label is in doubt that is not there: what the disk took of it is taken back."""
+        with tempfile.TemporaryDirectory() as folder:
+            device = Path(folder, "lp0")
+            device.touch()
+            words = [str(support.TOOLS / "label-print"), *self.WORDS, "--print", str(device)]
+            size = len(support.printed(*self.WORDS, "--only", "2", input=LINES).stdout)
+            shell = f'trap "" XFSZ; ulimit -f {1 + size // 1024}; "$@"'
+            done = subprocess.run(
+                ["bash", "-c", shell, "sh", *words],
+                input=LINES,
+                capture_output=True,
+                env=support.environment(),
+            )
+            self.assertIn("it took 1 label whole: row 3 and what follows", done.stderr.decode())
+            self.assertNotIn("may be on paper", done.stderr.decode())
+            self.assertEqual(len(device.read_bytes()), size)
 
 
 class Ipp(unittest.TestCase):

@@ -1309,6 +1309,29 @@ class WindowTest(Keeper):
         future: Any = mock.Mock(exception=lambda: None, result=lambda: state)
         self.window.ways.show_state(SentJob("any", 7), 6, future)
         self.assertEqual(self.said(), "6 labels are not printed: The printer is not responding.")
+        begun = replace(state, is_begun=True)
+        future = mock.Mock(exception=lambda: None, result=lambda: begun)
+        self.window.ways.show_state(SentJob("any", 7), 6, future)
+        said = "Some of 6 labels may be on paper: The printer is not responding."
+        self.assertEqual(self.said(), said)
+
+    def test_cups_that_goes_away_is_waited_for(self) -> None:
+        """For a minute; then the window says how the job is looked for, and asks of it."""
+        self.open()
+        job = SentJob("any", 7)
+        looks: list[SentJob] = []
+        away: Any = mock.Mock(exception=lambda: ToolError(Text("CUPS does not answer")))
+        sent = "6 labels were sent to any as job 7. CUPS does not answer any more: labels may be"
+        with mock.patch.object(self.window.ways, "watch", lambda job, _: looks.append(job)):
+            with mock.patch.object(ways, "WATCH", BEAT):
+                self.window.ways.show_state(job, 6, away)
+                self.assertEqual(self.said(), f"{sent} on paper. It is looked for again.")
+                self.until(lambda: looks == [job])
+                with mock.patch.object(ways, "AWAY", 0.0):
+                    self.window.ways.show_state(job, 6, away)
+            shows = "Look there; once CUPS answers, lpstat -W all -o any shows the job."
+            self.assertEqual(self.said(), f"{sent} on paper. {shows}")
+            self.assertEqual(looks, [job])
 
     def test_the_window_speaks_the_language(self) -> None:
         """Its controls, and what it tells."""

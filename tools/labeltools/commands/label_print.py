@@ -29,8 +29,9 @@ from labeltools.paper.stock import forget, list_stock
 from labeltools.printing.job import DRAWING_DPI, form_of, Job, planned, PrintOptions, refuse
 from labeltools.printing.press import check_count, labels_of, Prepared
 from labeltools.printing.selection import ranges_in, selection_of
-from labeltools.sending.job import SentJob, UnknownJob
+from labeltools.sending.job import SentJob, Unseen
 from labeltools.sending.journal import Journal
+from labeltools.sending.marks import unmark
 from labeltools.sending.network import address_of
 from labeltools.sending.outlets import Files, Outlet, OUTPUT, StandardOutput
 from labeltools.sending.papers import AS_GIVEN
@@ -210,7 +211,10 @@ def add_output_options(group: Any) -> None:
     flag(group, "--paper-as-given", "is_paper_as_given", given)
     journal = "write each label into this file before it is sent; what is there is not sent again"
     value(group, "--journal", "FILE", not_empty, journal)
-    again = "with --only or --only-code: print once more what the journal has of this printer"
+    again = (
+        "with --only or --only-code: print once more what the journal has of this printer; on a "
+    )
+    again += "queue of CUPS: what was sent to it before"
     value(group, "--again", "PRINTER", not_empty, again)
     stream = "print each label as soon as its line has come in, and answer on standard error"
     flag(group, "--stream", "is_stream", stream)
@@ -265,7 +269,7 @@ def print_lines(job: Job, queue: Queue | None, talk: CommandTalk) -> int:
         write_message(TOOL, Text("--after {}: the first label is {}", after, place))
     if queue is None:
         return give_out(found, talk)
-    is_printed = follow(*print_on(found, queue, talk), talk)
+    is_printed = follow(*print_on(found, queue, talk, is_once=True), talk)
     return 1 if found.left_out or not is_printed else 0
 
 
@@ -291,11 +295,13 @@ def follow(sent: SentJob, text: Text, talk: CommandTalk) -> bool:
     with hold_signals() as came:
         try:
             state = sent.follow(talk.wait, came)
-        except UnknownJob as error:
+        except Unseen as error:
             write_message(TOOL, joined("; ", (text, error.what, error.hint)))
             return False
         told = state.told
-        if came and not state.is_over:
+        if state.is_over:
+            unmark(sent)
+        elif came:
             told = Text("it goes on: cancel {} ends it", sent.number)
         write_message(TOOL, joined("; ", (text, told)))
     return state.is_printed

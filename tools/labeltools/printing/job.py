@@ -184,7 +184,7 @@ def check_together(options: PrintOptions, form: Form) -> None:
     not_taken = Text("--print: printers do not take {}", form.name)
     refuse(is_queue and not is_taken, not_taken, Text("give --to pdf, zpl or escpos"))
     named = Text("name what to print again with --only or --only-code")
-    is_named = options.journal and options.only
+    is_named = options.journal and options.only or is_queue and options.again == printer
     refuse(options.again and not is_named, Text("--again needs --journal and rows or codes"), named)
     chosen = options.only or options.after
     all_lines = Text("leave out --only and --after")

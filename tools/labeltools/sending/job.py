@@ -1,7 +1,7 @@
 """A job of CUPS: how it is sent, and what becomes of it."""
 
 import time
-from collections.abc import Callable, Mapping, Sized
+from collections.abc import Callable, Iterator, Mapping, Sized
 from dataclasses import dataclass, field
 from datetime import datetime
 from typing import Any, IO
@@ -28,7 +28,9 @@ PENDING, HELD, STOPPED, CANCELLED, ABORTED, COMPLETED = 3, 4, 6, 7, 8, 9  # of a
 PRINTER_STOPPED = 5
 # what the backend of CUPS for IPP says of a printer that did not print a job which CUPS has passed
 REFUSED = ("cups-remote-aborted", "cups-remote-canceled")
+ASKED = ("job-printer-uri", "job-name", "time-at-creation")
 IDLE = 60.0  # seconds in which a job that is watched may show nothing new
+AWAY = 60.0  # seconds in which CUPS may not answer
 LOOKS = 0.1, 1.0  # seconds between two looks at it, at first and later
 
 
@@ -36,7 +38,8 @@ LOOKS = 0.1, 1.0  # seconds between two looks at it, at first and later
 class JobState:
     """What becomes of a job: what keeps it from paper, which may be nothing; what CUPS last said of
     it, in its own words; whether it is over, and was printed; whether it waits for somebody; what
-    else shows that it goes on; and what to do about what keeps it.
+    else shows that it goes on; what to do about what keeps it; and whether it was begun, so that a
+    part of it may be on paper.
     """
 
     trouble: Text
@@ -46,12 +49,15 @@ class JobState:
     is_waiting: bool = False
     marks: tuple[object, ...] = ()
     cure: Text = NOTHING
+    is_begun: bool = False
 
     @property
     def told(self) -> Text:
         """What a message says of it."""
         if self.is_printed:
             return Text("CUPS reports it as printed")
+        if self.is_over and self.is_begun:
+            return Text("some labels may be on paper: {}", self.trouble)
         if self.is_over:
             return Text("it was not printed: {}", self.trouble)
         reasons = filter(None, (self.trouble, self.said))
@@ -59,9 +65,13 @@ class JobState:
         return joined("; ", filter(None, (waits, self.cure)))
 
 
-class UnknownJob(ToolError):
+class Unseen(ToolError):
+    """A job that was sent, of which nobody can say what became of it: CUPS does not answer."""
+
+
+class UnknownJob(Unseen):
     """A job of which CUPS knows nothing any more: it keeps no jobs that are over, or has begun to
-    count again.
+    count again, or its queue was removed.
     """
 
 
@@ -84,12 +94,7 @@ class SentJob:
 
     def attributes(self, cups: Any) -> Mapping[str, Any]:
         """Returns what CUPS has of the job; raises `UnknownJob`."""
-        try:
-            found: Mapping[str, Any] = cups.getJobAttributes(self.number)
-        except cups_library().IPPError as error:
-            if error.args[0] != cups_library().IPP_NOT_FOUND:
-                raise
-            found = {}
+        found = known_to(cups.getJobAttributes, self.number)
         queue = str(found.get("job-printer-uri", "")).rpartition("/")[2]
         created = found.get("time-at-creation", 0)
         if unquote(queue) == self.queue and self.created in (0, created):
@@ -97,74 +102,157 @@ class SentJob:
         what = Text("CUPS does not know job {} of {} any more", self.number, self.queue)
         raise UnknownJob(what, Text("look at the paper to see whether it was printed"))
 
+    def printer(self, cups: Any) -> Mapping[str, Any]:
+        """Returns what CUPS has of the queue; raises `UnknownJob`."""
+        found = known_to(cups.getPrinterAttributes, self.queue)
+        if found:
+            return found
+        what = Text("the queue {} was removed with its job {}", self.queue, self.number)
+        raise UnknownJob(what, Text("labels may be on paper: look there"))
+
     def state(self) -> JobState:
         """Returns what CUPS reports of the job now; raises `ToolError`, `UnknownJob` if it reports
         nothing.
         """
         with refusals(self.queue) as cups:
+            printer = self.printer(cups)
             job = self.attributes(cups)
-            printer = cups.getPrinterAttributes(self.queue)
-        reasons = printer["printer-state-reasons"]
-        state = job["job-state"]
-        said = job.get("job-printer-state-message", "")
-        if state == CANCELLED:
-            what = Text("job {} was cancelled", self.number)
-            return JobState(joined(": ", filter(None, (what, said))), said, True)
-        if state == ABORTED:
-            return JobState(Text("CUPS gave up job {}: {}", self.number, said), said, True)
-        if state == COMPLETED:
-            device = printer.get("device-uri", "")
-            is_refused = any(reason.startswith(REFUSED) for reason in reasons)
-            if is_refused or is_given_up(device, self.title):
-                what = Text("the printer gave up job {}", self.number)
-                return JobState(joined(": ", filter(None, (what, said))), said, True)
-            return JobState(NOTHING, said, True, True)
+        state, said = job["job-state"], job.get("job-printer-state-message", "")
+        if state in (CANCELLED, ABORTED, COMPLETED):
+            why = self.why_not_printed(job, printer)
+            is_begun = bool(job.get("time-at-processing"))
+            return JobState(why, said, True, not why, is_begun=is_begun)
         found = trouble_of(self.queue, printer)
         if state == HELD and found is None:
             line = shell_line(["lp", "-i", f"{self.queue}-{self.number}", "-H", "resume"])
-            found = Trouble(Text("job {} is held: {}", self.number, said), lets_go_on(line))
+            held = Text("job {} is held", self.number)
+            found = Trouble(joined(": ", filter(None, (held, said))), lets_go_on(line))
         trouble = Text("{}: {}", self.queue, found.what) if found else NOTHING
         is_stopped = printer["printer-state"] == PRINTER_STOPPED
         is_waiting = is_stopped or state in (HELD, STOPPED)
-        marks = (state, job.get("job-media-sheets-completed"), *sorted(reasons))
+        reasons = sorted(printer["printer-state-reasons"])
+        marks = (state, job.get("job-media-sheets-completed"), *reasons)
         cure = found.cure if found else NOTHING
         return JobState(trouble, said, False, is_waiting=is_waiting, marks=marks, cure=cure)
 
+    def why_not_printed(self, job: Mapping[str, Any], printer: Mapping[str, Any]) -> Text:
+        """Returns why a job that is over was not printed; nothing if it was."""
+        said = job.get("job-printer-state-message", "")
+        what = NOTHING
+        if job["job-state"] == CANCELLED:
+            what = Text("job {} was cancelled", self.number)
+        elif job["job-state"] == ABORTED:
+            what = Text("CUPS gave up job {}", self.number)
+        else:
+            reasons = printer["printer-state-reasons"]
+            is_refused = any(reason.startswith(REFUSED) for reason in reasons)
+            if is_refused or is_given_up(printer.get("device-uri", ""), self.title):
+                what = Text("the printer gave up job {}", self.number)
+        return joined(": ", filter(None, (what, said))) if what else NOTHING
+
+    def state_again(self, show: Callable[[Text], object], came: Sized = ()) -> JobState:
+        """Returns what CUPS reports of the job, if that does not answer within a minute in which it
+        is looked for; raises `Unseen`.
+        """
+        end = time.monotonic() + AWAY
+        while True:
+            try:
+                return self.state()
+            except UnknownJob:
+                raise
+            except ToolError as error:
+                if came or time.monotonic() > end:
+                    raise self.unseen() from error
+            show(Text("CUPS does not answer: job {} is looked for again", self.number))
+            time.sleep(LOOKS[1])
+
+    def unseen(self) -> Unseen:
+        """Returns that CUPS does not answer, and how to see what became of the job."""
+        line = shell_line(["lpstat", "-W", "all", "-o", self.queue])
+        what = Text("CUPS does not answer any more: labels may be on paper")
+        hint = Text("look there; once CUPS answers, {} shows the job", line)
+        return Unseen(what, hint)
+
     def follow(self, show: Callable[[Text], object], came: Sized = ()) -> JobState:
         """Looks at the job until it is over, or waits for somebody, or has shown nothing new for a
-        minute, or something came; returns what it is then. What it does is shown. Raises
-        `ToolError`.
+        minute, or something came; returns what it is then. What it does is shown. Raises `Unseen`.
         """
         pause, longest = LOOKS
-        state = self.state()
+        state = self.state_again(show, came)
         end = time.monotonic() + IDLE
         while not (state.is_over or state.is_waiting or came or time.monotonic() > end):
             reason = state.trouble or state.said
             show(joined(": ", filter(None, (Text("job {}", self.number), reason))))
             time.sleep(pause)
             pause = min(2 * pause, longest)
-            before, state = state, self.state()
+            before, state = state, self.state_again(show, came)
             if state != before:
                 end = time.monotonic() + IDLE
         return state
 
 
+def known_to(ask: Callable[..., Any], name: object) -> Mapping[str, Any]:
+    """Returns what CUPS answers of a job or a queue; nothing if it knows none."""
+    try:
+        found: Mapping[str, Any] = ask(name)
+    except cups_library().IPPError as error:
+        if error.args[0] != cups_library().IPP_NOT_FOUND:
+            raise
+        return {}
+    return found
+
+
 def print_by(
-    job: Job, queue: Queue, file: IO[bytes], chosen: Mapping[str, str] = NOTHING_CHOSEN
+    job: Job,
+    queue: Queue,
+    file: IO[bytes],
+    chosen: Mapping[str, str] = NOTHING_CHOSEN,
+    mark: str = "",
 ) -> SentJob:
     """Prints a file that a job has written, with options that are chosen for it, and returns the
-    job of CUPS; raises `ToolError` if CUPS does not take it.
+    job of CUPS, whose title ends with a mark; raises `ToolError` if CUPS does not take it.
     """
     path = f"/proc/self/fd/{file.fileno()}"
     options = job_options(job, queue, chosen)
+    title = f"labels {datetime.now():%H:%M:%S.%f}{mark}"  # by which the printer knows it, too
     with refusals(queue.name) as cups:
-        title = f"labels {datetime.now():%H:%M:%S.%f}"  # by which the printer knows it, too
-        number = int(cups.printFile(queue.name, path, title, options))
         try:
-            created = cups.getJobAttributes(number).get("time-at-creation", 0)
-        except cups_library().IPPError:  # it is over, and CUPS keeps none
-            created = int(time.time())
-        return SentJob(queue.name, number, created, title)
+            number = int(cups.printFile(queue.name, path, title, options))
+        except cups_library().IPPError as error:
+            if error.args[0] != cups_library().IPP_SERVICE_UNAVAILABLE:
+                raise
+            number = taken_as(queue.name, title)
+            if not number:
+                raise
+        found = known_to(cups.getJobAttributes, number)  # nothing if it is over, and not kept
+        created = found.get("time-at-creation", 0 if found else int(time.time()))
+    return SentJob(queue.name, number, created, title)
+
+
+def taken_as(queue: str, title: str) -> int:
+    """Returns the number of a job that CUPS may have taken before it went away, by its title; 0 if
+    it has none. Raises `Unseen` if CUPS does not come back within a minute.
+    """
+    end = time.monotonic() + AWAY
+    while True:
+        try:
+            return next((sent.number for sent in own_jobs(queue) if sent.title == title), 0)
+        except ToolError as error:
+            if time.monotonic() > end:
+                raise SentJob(queue, 0).unseen() from error
+        time.sleep(LOOKS[1])
+
+
+def own_jobs(queue: str) -> Iterator[SentJob]:
+    """Yields the jobs of a queue that this user has sent; raises `ToolError`."""
+    with refusals(queue) as cups:
+        found = cups.getJobs(
+            which_jobs="all", my_jobs=True, requested_attributes=["job-id", *ASKED]
+        )
+    for number, job in found.items():
+        uri, title, created = (job.get(name) for name in ASKED)
+        if unquote(str(uri).rpartition("/")[2]) == queue:
+            yield SentJob(queue, number, created or 0, title or "")
 
 
 def job_of(key: str) -> SentJob:

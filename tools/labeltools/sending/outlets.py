@@ -135,8 +135,7 @@ class OpenFile(Outlet):
                     os.fdatasync(file)
         except OSError as error:
             self.drop()
-            is_back = isinstance(error, Unwritten) and self.name == OUTPUT
-            kind = Untaken if is_back else Broken  # a device may have a part of it
+            kind = Untaken if isinstance(error, Unwritten) else Broken
             raise kind(Text("{}: {}", self.name, error.strerror)) from error
 
 

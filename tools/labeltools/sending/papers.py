@@ -189,20 +189,20 @@ def papers_of_driver(text: str) -> Papers:
         known.append(PrinterPaper(found[1], (width, height), white, is_general))
     sides = {found[1]: in_millimetres(found.groups()[1:]) for found in SIDE.finditer(text)}
     if not CUSTOM.search(text) or len(sides) < len(("Width", "Height")):
-        return Papers(known, head=head_of(text))
+        return Papers(known, head=head_width(text))
     ends = tuple(zip(sides["Width"], sides["Height"]))
     margins = MARGINS.search(text)
     left, bottom, right, top = in_millimetres(margins.groups()) if margins else NO_EDGES
     white = (left, top, right, bottom)
     is_general = has_general and are_general(white)
-    return Papers(known, ends[0], ends[1], white, is_general, head_of(text))
+    return Papers(known, ends[0], ends[1], white, is_general, head_width(text))
 
 
-def head_of(text: str) -> float:
+def head_width(text: str) -> float:
     """Returns how wide the head of a label printer is, by the file of its driver; infinite if that
     does not say it.
 
-    >>> round(head_of('X=180dpi: " -r180x180" .. Y=16: " BytesPerLine=16 "'), 2)
+    >>> round(head_width('X=180dpi: " -r180x180" .. Y=16: " BytesPerLine=16 "'), 2)
     18.06
     """
     size, dots = HEAD_BYTES.search(text), HEAD_DPI.search(text)

@@ -17,6 +17,7 @@ from labeltools.printing.selection import FILE
 from labeltools.sending.edges import check_edges
 from labeltools.sending.job import print_by, SentJob
 from labeltools.sending.journal import Entry, Journal, SENDING
+from labeltools.sending.marks import print_once
 from labeltools.sending.network import NetworkPrinter, SCHEME
 from labeltools.sending.outlets import (
     Broken,
@@ -230,6 +231,8 @@ class Sender:
         """
         if self.journal is not None and self.again is None:
             return Text("the same command prints the rest")
+        if not self.done:
+            return Text("the same command begins with it")
         after = Remedy("after", str(self.done), Text("Go on with label {}", self.done + 1))
         if self.outlet.name == OUTPUT and self.outlet.is_kept:
             return Text("with {} and >> the same command begins with it", after)
@@ -359,14 +362,21 @@ def save_to(found: Prepared, path: Path, talk: Talk) -> None:
 
 
 def print_on(
-    found: Prepared, queue: Queue, talk: Talk, chosen: Mapping[str, str] = NOTHING_CHOSEN
+    found: Prepared,
+    queue: Queue,
+    talk: Talk,
+    chosen: Mapping[str, str] = NOTHING_CHOSEN,
+    is_once: bool = False,
 ) -> tuple[SentJob, Text]:
-    """Prints labels on a queue of CUPS, with options that are chosen for it; returns the job, and
-    what is reported of it.
+    """Prints labels on a queue of CUPS, with options that are chosen for it, and only once if the
+    end of the job is followed; returns the job, and what is reported of it.
     """
     if not found.job.form.is_roll:
         check_edges(queue.name, queue.paper(found.job), found)
-    outlet = Collected(queue.name, partial(print_by, found.job, queue, chosen=chosen))
+    way: Callable[..., SentJob] = print_by
+    if is_once:
+        way = print_once
+    outlet = Collected(queue.name, partial(way, found.job, queue, chosen=chosen))
     sender = Sender(outlet)
     sender.send_all(found, talk)
     sent: SentJob = outlet.given

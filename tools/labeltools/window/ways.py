@@ -2,6 +2,7 @@
 label is compared before, as label-print does.
 """
 
+import time
 from collections.abc import Callable
 from concurrent.futures import Future
 from dataclasses import replace
@@ -13,7 +14,7 @@ from labeltools.common.language import _
 from labeltools.common.messages import ToolError
 from labeltools.common.text import counted, joined, Text, translated, whole, windowed
 from labeltools.printing.press import Prepared
-from labeltools.sending.job import JobState, SentJob
+from labeltools.sending.job import AWAY, JobState, SentJob, UnknownJob
 from labeltools.sending.printers import choices_of, Printer, QUEUE
 from labeltools.sending.queue import Queue, queue_of
 from labeltools.sending.sender import print_on, save_to, send_to, Sender, Unfinished
@@ -45,6 +46,7 @@ class WaysOut:
         self.window = window
         self.waiting: dict[SentJob, tuple[Table, Path]] = {}  # jobs whose labels may be printed
         self.told: dict[SentJob, str] = {}  # what was said of each last
+        self.away: dict[SentJob, float] = {}  # since when CUPS does not answer about them
         self.sending: tuple[Prepared, bool]  # the labels that are sent, and whether they count
         self.of: tuple[Table, MadeLabels]  # what they are of
         self.printing = Printing(window)
@@ -135,16 +137,50 @@ class WaysOut:
         """Shows what CUPS reports of a job of some labels if that is new, and looks again until it
         is over.
         """
-        if future.exception() is not None or not self.window.get_visible():
+        if not self.window.get_visible():
             return
+        name = self.window.of_printers.name_of(job.queue)
+        error = future.exception()
+        if error is not None:
+            self.show_away(job, count, error)
+            return
+        self.away.pop(job, None)
         state = future.result()
-        event = event_of(job, count, state, self.window.of_printers.name_of(job.queue))
+        event = event_of(job, count, state, name)
         if event is not None and self.told.get(job) != event.sentence:
             self.told[job] = event.sentence
             self.window.events.show(event)
         if state.is_over:
             self.end(job, state.is_printed)
         else:
+            GLib.timeout_add(WATCH, self.watch, job, count)
+
+    def show_away(self, job: SentJob, count: int, error: BaseException) -> None:
+        """Shows that nobody says what became of a job, and looks again for a minute if CUPS does
+        not answer; then how to see it, and asks whether it was printed.
+        """
+        since = self.away.setdefault(job, time.monotonic())
+        is_gone = isinstance(error, UnknownJob)
+        is_given_up = is_gone or time.monotonic() - since > AWAY
+        told = error if isinstance(error, UnknownJob) else job.unseen()
+        name = self.window.of_printers.name_of(job.queue)
+        sent = Text("Job {} was sent to {}.", job.number, name)
+        if count:
+            sent = counted(
+                "{} label was sent to {} as job {}.",
+                "{} labels were sent to {} as job {}.",
+                count,
+                name,
+                job.number,
+            )
+        hint = told.hint if is_given_up else Text("it is looked for again")
+        parts = sent, whole(told.what), whole(hint)
+        text = joined(" ", parts)
+        answer = (_("Was it printed?"), partial(self.ask_of_job, job, translated(text)))
+        if self.told.get(job) != text:
+            self.told[job] = text
+            self.report(WARNING, text, job, answer if is_given_up else None)
+        if not is_given_up:
             GLib.timeout_add(WATCH, self.watch, job, count)
 
     def ask_file(self) -> None:
@@ -298,6 +334,14 @@ def event_of(job: SentJob, count: int, state: JobState, name: str) -> Event | No
     if state.is_printed:
         text = Text("Job {} is printed on {}.", job.number, name)
         return Event(SUCCESS, whole(printed_on(count, name) if count else text), None, job)
+    if state.is_over and state.is_begun:
+        why = state.trouble
+        text = Text("Labels of job {} may be on paper: {}", job.number, why)
+        if count:
+            text = counted(
+                "{} label may be on paper: {}", "Some of {} labels may be on paper: {}", count, why
+            )
+        return Event(ERROR, whole(text), None, job)
     if state.is_over:
         why = state.trouble
         text = Text("Job {} is not printed: {}", job.number, why)
