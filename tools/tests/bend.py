@@ -135,10 +135,11 @@ def text_of(data: bytes) -> str:
     found = data
     if data.startswith(b"PK"):
         with suppress(Exception), zipfile.ZipFile(BytesIO(data)) as archive:
-            parts = [part for part in archive.namelist() if part.endswith(".xml")]
-            found = b"\n".join(archive.open(part).read(MOST_PARTS) for part in parts)
-    text = found.replace(b"\0", b"").decode("utf-8", "replace")
-    return re.sub(r"[\s\u00a0\u202f-]|</?[^>]*>", "", text)
+            for part in archive.namelist():
+                with suppress(Exception), archive.open(part) as stream:
+                    found += b"\n" + stream.read(MOST_PARTS)
+    text = re.sub(r"[\s\u00a0\u202f-]", "", found.replace(b"\0", b"").decode("utf-8", "replace"))
+    return text + re.sub("<[^>]*>", "", text)  # letters of a cell may have tags between them
 
 
 def require_known(records: Sequence[LineRecord], text: str) -> None:

@@ -47,6 +47,7 @@ NUMBERS = (
     (r"rows that were skipped, at most (\d+)", file.MOST_LEFT_OUT),
     (r"CSV of more than (\d+) MB", budget.CSV.most(0) // budget.MEGABYTE),
     (r"more than (\d+) seconds of the processor", budget.SECONDS.most(0)),
+    (r"and (\d+) more for each million", budget.SECONDS.each * budget.MILLION),
     (r"a file of more than (\d+) MB", budget.ANY_INPUT.most(0) // budget.MEGABYTE),
     (r"than (\d+) rows or", workbook.MOST_ROWS),
     (r"rows or (\d+) columns", workbook.MOST_COLUMNS),

@@ -430,6 +430,15 @@ class Private(Desk):
             self.assertEqual(other.stdout.readline(), b"Permission denied\n")
         self.assertTrue(journal.claim(self.records[0]))
 
+    def test_a_printer_whose_name_has_the_end_of_a_line(self) -> None:
+        """The next run reads what was written."""
+        printer = Path(self.folder, "a\n2026\tb")
+        for number in range(2):
+            printer.touch()
+            done = printed("--journal", self.path, "--print", str(printer))
+            self.assertEqual(done.returncode, 0, done.stderr)
+        self.assertIn("30 labels are in", support.messages(done)[-1])
+
     def test_what_the_window_keeps(self) -> None:
         before = os.umask(0o022)
         self.addCleanup(os.umask, before)

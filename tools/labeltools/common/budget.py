@@ -40,7 +40,7 @@ PARTS = Share(MILLION / 2, Text("rows, texts, links and merged cells"), 2)
 CELLS = Share(4 * MILLION, Text("cells, with the empty ones before others"), 2)
 PIXELS = Share(25 * MILLION, Text("million pixels in its pictures"), unit=MILLION)
 DOTS = Share(75 * MILLION, NOTHING)  # A3 at 600 dpi has 70 million
-SECONDS = Share(20, Text("seconds of the processor"), 6 / MILLION)
+SECONDS = Share(20, Text("seconds of the processor"), 40 / MILLION)
 
 # each drawing of a page
 PAGE_SECONDS = Share(5, SECONDS.name)

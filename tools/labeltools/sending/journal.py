@@ -34,6 +34,7 @@ from labeltools.common.text import Text
 from labeltools.lines.file import LineRecord
 
 HEAD = b"#labels journal 1\n"
+FIELD_ENDS = str.maketrans("\t\n", "  ")  # what the name of a printer is written without
 UPCA = b"upca "
 SENDING = b"sending"
 TAKEN = b"taken"
@@ -70,7 +71,7 @@ class Journal:
         """
         self.path = path
         self.records = records
-        self.printer = printer.replace("\t", " ")
+        self.printer = printer.translate(FIELD_ENDS)
         flags = os.O_RDWR | os.O_CREAT | os.O_CLOEXEC | os.O_NONBLOCK  # it waits for no FIFO
         self.file = os.open(path, flags, 0o600)
         if not stat.S_ISREG(os.fstat(self.file).st_mode):
