@@ -15,7 +15,7 @@ from typing import NamedTuple
 from labeltools.layout.frame import PRICE_STYLES
 from labeltools.layout.letters import Letters
 
-KEPT = 2048  # prices of which the extent is kept
+KEPT = 128  # shapes of prices of which the extent is kept
 ROUNDED_PRICE = 32  # parts of the size of letters to which widths are rounded up
 CENTS = 0.57  # letters of cents
 CURRENCY = 0.33  # letters of a currency
