@@ -14,7 +14,7 @@ from labeltools.layout.area import Area
 from labeltools.layout.arrangement import ARRANGEMENTS
 from labeltools.layout.attempt import Attempt
 from labeltools.layout.code_boxes import Least
-from labeltools.layout.frame import Frame, Need, Needs
+from labeltools.layout.frame import Frame, Need, Needs, PRICE_STYLES
 from labeltools.layout.joint_needs import JointNeeds, Level, LOWEST_PART, module_in
 
 # letters of titles as parts of those of texts, the largest first: without a price and with one
@@ -43,8 +43,14 @@ def frame_of(area: Area, needs: Needs) -> Frame | None:
     found = searched(JointNeeds(area, wide, ("price",)))
     if found is None or needs.keys() == wide.keys():
         return found
-    own = JointNeeds(area, {need: sum(alike.values()) for need, alike in needs.items()})
+    styles = [name for name in PRICE_STYLES if is_allowed(name, area)]
+    own = JointNeeds(area, {need: sum(alike.values()) for need, alike in needs.items()}, styles)
     return searched(own, Least(found, needs, own.deciding)) or found
+
+
+def is_allowed(style: str, area: Area) -> bool:
+    """Returns whether prices may be written in a style."""
+    return area.wishes.has_raised_cents or not style.endswith("raised")
 
 
 def searched(demand: JointNeeds, least: Least | None = None) -> Frame | None:
