@@ -11,7 +11,7 @@ _labels() {
     case ${1##*/} in
         labels) options='--format=pbm,ascii --scale=1,2,3,4,5,6,7,8 --height= --level=L,M,Q,H --min-version=1,2,3,4,5,6,7,8,9,10 --mask=0,1,2,3,4,5,6,7 --escapes --help' ;;
         label-table) options='--help --version --summary --code= --title= --text= --price= --unit-price= --old-price= --currency= --copies= --variants-of= --where= --new-since=FILE --hidden --symbology=auto,ean8,upca,ean13,code128,qr --symbology-column= --settings= --fill-zeros --without-check-digit --allow-zeros --links --price-as= --price-text --currency-name= --decimal=comma,point --date-as= --sheet= --delimiter= --encoding= --header --no-header --header-row=' ;;
-        label-print) options='--help --version --stock= --list-stock= --paper= --cell= --columns= --rows= --page= --margin= --gap= --edge= --shift= --design=article,shelf,FILE --turn --no-turn --module= --note= --font= --first= --only= --only-code= --after= --unique --escapes --to=pdf,svg,png,pbm,zpl,escpos --dpi=203,300,600 --each=FILE --print= --paper-as-given --journal=FILE --again= --stream --dots= --no-cut --summary' ;;
+        label-print) options='--help --version --stock= --list-stock= --paper= --cell= --columns= --rows= --page= --margin= --gap= --edge= --shift= --design=article,shelf,FILE --turn --no-turn --module= --note= --font= --no-raised-cents --first= --only= --only-code= --after= --unique --escapes --to=pdf,svg,png,pbm,zpl,escpos --dpi=203,300,600 --each=FILE --print= --paper-as-given --journal=FILE --again= --stream --dots= --no-cut --summary' ;;
     esac
     COMPREPLY=()
     for option in $options; do

@@ -74,7 +74,7 @@ class Glyphs(unittest.TestCase):
             self.assertEqual(found[:4], wanted[:4], text)
             pairs = zip(places_in(found), places_of(wanted.layout), strict=True)
             for (x, y), (left, base) in pairs:
-                self.assertLess(max(abs(x - left), abs(y - base)), 2 / UNIT, text)
+                self.assertLess(max(abs(x - left), abs(y - base)), 0.05, text)
             known += 1
         return known
 

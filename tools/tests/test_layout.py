@@ -328,6 +328,15 @@ class Prices(unittest.TestCase):
         self.assertLess(whole.box.right - whole.text.size * 0.1, cents.box.left)
         self.assertGreater(euro.style.base, cents.style.base)
 
+    def test_cents_are_not_raised_where_that_is_wished(self) -> None:
+        rows = filed({"title": "Seife", "price": "12,80 €"})
+        for is_wished, parts in ((True, 3), (False, 1)):
+            laid = laid_out(rows, (63.5, 38.1), 300, has_raised_cents=is_wished)
+            (item,) = laid.labels
+            self.assertFalse(laid.fault(item))
+            bold = [one for one in laid.pen.texts(item) if one.style.is_bold]
+            self.assertEqual(len(bold) - 1, parts, is_wished)
+
     def test_prices_that_have_no_cents_stay_whole(self) -> None:
         for price in ("12 €", "1.250", "1,259 €/l", "2 für 3,00 €", "٣٫٢٠"):
             self.assertEqual(len(self.numbers(price, (63.5, 38.1))), 1, price)

@@ -160,7 +160,7 @@ class Room:
                 lines.append("")
                 used = 0.0
             lines[-1] += part
-            used += wide + letters.spaces[self.place.is_bold] * (len(part) - len(bare))
+            used += wide + letters.steps[self.place.is_bold][" "] * (len(part) - len(bare))
         return [line.rstrip(" ") for line in lines]
 
     def new_text(self, text: str) -> PlacedText:

@@ -1,8 +1,8 @@
 """The built-in designs: one frame for all labels of a file."""
 
 import math
-from functools import cache
-from typing import Iterator, Mapping, Sequence
+from functools import cache, lru_cache
+from typing import Iterator, Mapping, NamedTuple, Sequence
 
 from labeltools.common.messages import Talk
 from labeltools.designs.design import Below, CODE, NO_BOX, PlacedSymbol, Setting
@@ -14,14 +14,14 @@ from labeltools.layout.layout import (
     lay_out,
     Layout,
     PrintLabel,
-    ROUNDED_PRICE,
 )
 from labeltools.layout.letters import Letters
 from labeltools.layout.medium import Medium
 from labeltools.layout.pango import UNIT
-from labeltools.layout.price import letters_of, raised
+from labeltools.layout.price import KEPT, letters_of, raised, ROUNDED_PRICE, shape_of
 from labeltools.paper.box import Box
 
+BESIDE_LAST = 0.05  # room at the left of the last part of a price, in sizes of its letters
 BETWEEN = "   "  # old price and unit price on one line
 LARGER_WAS = 1.3  # an old price beside the price, in letters of details
 MOST_WAS = 0.5  # the same in letters of the price
@@ -60,7 +60,7 @@ class FramedDesign:
             yield self.placed("text", label, layout, boxes["text"], fitter)
         was = None
         if "price" in boxes:
-            numbers = [*self.numbers(label, layout, fitter)]
+            numbers = self.numbers(label, layout, fitter)
             was = self.old_price(label, layout, numbers, fitter)
             yield from numbers
             if was:
@@ -68,38 +68,16 @@ class FramedDesign:
         if "details" in boxes and (label.record.label.unit or not was):
             yield self.placed("details", label, layout, boxes["details"], fitter, bool(was))
 
-    def numbers(self, label: PrintLabel, layout: Layout, fitter: Fitter) -> Iterator[Placed]:
-        """Yields the parts of a price: raised cents and the currency by themselves."""
-        box = layout.boxes["price"]
-        _, style = styled_text("price", label, layout, fitter.letters)
+    def numbers(self, label: PrintLabel, layout: Layout, fitter: Fitter) -> Sequence[Placed]:
+        """Returns the parts of a price: raised cents and the currency by themselves."""
         price = label.record.label.price
-        size = style.size
-        for one in styles_from(layout.frame.price_style):
-            letters = letters_of(one, price, fitter.letters)
-            found = raised(price, letters) if one.endswith("raised") else None
-            wide = found.width if found else letters.extent(price, True).width
-            if HINTING * wide * size <= box.width + size / ROUNDED_PRICE:
-                break
-        style = style._replace(family=letters.family)
-        if found is None:
-            yield Placed(fitter.found(price, style, box.width, box.height), style, box)
-            return
-        size = min(size, math.floor(box.width / found.width / HINTING))
-        wide = math.ceil(found.width * size)
-        start = box.left + (box.width - wide) * (style.across + 1) // 2
-        for part in found.parts:
-            is_last = part.left + part.width >= found.width
-            how = style._replace(
-                size=round(part.size * size),
-                across=RIGHT if is_last else LEFT,
-                base=round(part.base * size),
-            )
-            left = start + math.floor(part.left * size)
-            width = math.ceil(HINTING * part.width * size) + 1
-            if is_last:
-                left = min(start + wide, box.right) - width
-            place = box._replace(left=left, width=width)
-            yield Placed(fitter.found(part.text, how, place.width, place.height), how, place)
+        shape = shape_of(price, fitter.letters)
+        frame = layout.frame
+        how = (frame.price_style, frame.kind, frame.sizes["price"], layout.boxes["price"])
+        return [
+            Placed(fitter.found(price[first:last], style, box.width, box.height), style, box)
+            for first, last, style, box in price_places(shape, *how, fitter.letters)
+        ]
 
     def old_price(
         self, label: PrintLabel, layout: Layout, numbers: Sequence[Placed], fitter: Fitter
@@ -116,7 +94,7 @@ class FramedDesign:
         ink = numbers[0].box.left + max(0, text.x)
         room = ink - box.left - frame.sizes["price"] // 4
         letters = fitter.letters.of(was)
-        wide = HINTING * letters.extent(was, False).width
+        wide = HINTING * letters.width(was, False)
         least = frame.sizes["details"]
         most = min(LARGER_WAS * least, MOST_WAS * frame.sizes["price"])
         size = math.floor(min(room / wide, max(least, most)))
@@ -133,26 +111,25 @@ class FramedDesign:
     def head(self, label: PrintLabel, layout: Layout, fitter: Fitter) -> Iterator[Placed]:
         """Yields a title, and the text below it where that has no place of its own."""
         frame = layout.frame
-        box = layout.boxes["title"]
+        left, top, width, height = layout.boxes["title"]
         has_text = bool(label.text) and "text" not in layout.boxes
-        room = box.height
+        room = height
         if has_text:
             room -= math.ceil((label.text.count("\n") + 1) * LINE * frame.sizes["text"])
         used = 0
         title = None
         if label.title:
-            most = math.ceil(frame.lines * LINE * frame.sizes["title"])
-            title = self.placed(
-                "title", label, layout, box._replace(height=min(most, room)), fitter
-            )
+            most = min(math.ceil(frame.lines * LINE * frame.sizes["title"]), room)
+            title = self.placed("title", label, layout, Box(left, top, width, most), fitter)
             used = min(title.text.height, room)
-        top = box.top
+        start = top
         if frame.kind == "beside" and "price" not in frame.boxes:
-            top += (room - used) // 2
+            start += (room - used) // 2
         if title is not None:
-            yield title if top == box.top else title._replace(box=box._replace(top=top))
+            moved = Box(left, start, width, height)
+            yield title if start == top else title._replace(box=moved)
         if has_text:
-            rest = box._replace(top=top + used, height=box.bottom - top - used)
+            rest = Box(left, start + used, width, top + height - start - used)
             yield self.placed("text", label, layout, rest, fitter)
 
     def placed(
@@ -171,10 +148,56 @@ class FramedDesign:
     def cut_texts(self, item: LaidOut, fitter: Fitter) -> Iterator[tuple[str, Style, int, int]]:
         """Yields the texts of a label that may be cut, with the room of their lines."""
         boxes = item.layout.boxes
-        for kind in ("title", "text"):
-            text, style = styled_text(kind, item.label, item.layout, fitter.letters)
-            if text:
+        label = item.label
+        for kind, whole in (("title", label.title), ("text", label.text)):
+            if whole:
+                text, style = styled_text(kind, label, item.layout, fitter.letters)
                 yield text, style, (boxes.get(kind) or boxes["title"]).width, WITHOUT_END
+
+
+class PricePlace(NamedTuple):
+    """Where a part of a price is in the price, how it is written, and its box."""
+
+    first: int
+    last: int
+    style: Style
+    box: Box
+
+
+@lru_cache(KEPT)
+def price_places(
+    shape: str, wanted: str, arrangement: str, size: int, box: Box, letters: Letters
+) -> Sequence[PricePlace]:
+    """Returns where the parts of prices of a shape are in a box: in the first of their styles that
+    has room.
+    """
+    for name in styles_from(wanted):
+        own = letters_of(name, shape, letters)
+        found = raised(shape, own) if name.endswith("raised") else None
+        wide = found.width if found else own.width(shape, True)
+        if HINTING * wide * size <= box.width + size / ROUNDED_PRICE:
+            break
+    style = style_of(own.family, "price", arrangement, size, 0)
+    if found is None:
+        return [PricePlace(0, len(shape), style, box)]
+    size = min(size, math.floor(box.width / wide / HINTING))
+    right = math.ceil(wide * size)
+    start = box.left + (box.width - right) * (style.across + 1) // 2
+    places = []
+    for part in found.parts:
+        is_last = part.left + part.width >= wide
+        how = style._replace(
+            size=round(part.size * size),
+            across=RIGHT if is_last else LEFT,
+            base=round(part.base * size),
+        )
+        left = start + math.floor(part.left * size)
+        width = math.ceil(HINTING * part.width * size) + 1
+        if is_last:  # its digits may be wider than those of the shape
+            left -= math.floor(BESIDE_LAST * size)
+            width = min(start + right, box.right) - left
+        places.append(PricePlace(part.first, part.last, how, box._replace(left=left, width=width)))
+    return places
 
 
 def base_of(text: Fitted) -> float:
@@ -185,27 +208,25 @@ def base_of(text: Fitted) -> float:
 def styled_text(
     kind: str, label: PrintLabel, layout: Layout, letters: Letters, is_without_was: bool = False
 ) -> tuple[str, Style]:
-    """Returns a text of a label and how it is written."""
+    """Returns title, text or details of a label and how that is written."""
     frame = layout.frame
-    whole = label.record.label
-    texts = {"title": label.title, "text": label.text, "price": whole.price}
-    text = texts.get(kind, whole.was + whole.unit)
-    how = (letters.of(text).family, kind, frame.kind, frame.sizes[kind])
+    size = frame.sizes[kind]
     if kind == "title":
-        lines = frame.lines - label.title.count("\n")
-        if lines > 0:
-            return label.title, style_of(*how, lines)
-        return label.title.replace("\n", " "), style_of(*how, max(1, frame.lines))
+        text = label.title
+        lines = frame.lines - text.count("\n")
+        if lines < 1:
+            text, lines = text.replace("\n", " "), max(1, frame.lines)
+        return text, style_of(letters.of(text).family, kind, frame.kind, size, lines)
     if kind == "text":
-        if frame.kind == "foot" and "text" not in frame.boxes:  # below the title
-            return label.text, style_of(*how, 1)._replace(across=LEFT, down=0.0)
-        return label.text, style_of(*how, 1)
-    if kind == "price":
-        return whole.price, style_of(*how, 0)
+        style = style_of(letters.of(label.text).family, kind, frame.kind, size, 1)
+        is_below_title = frame.kind == "foot" and "text" not in frame.boxes
+        return label.text, style._replace(across=LEFT, down=0.0) if is_below_title else style
+    whole = label.record.label
     between = BETWEEN if frame.details_lines == 1 else "\n"
     was = "" if is_without_was else whole.was
-    text = between.join(part for part in (was, whole.unit) if part)
-    return text, style_of(*how, 0)._replace(struck=len(was.encode()))
+    text = between.join(filter(None, (was, whole.unit)))
+    style = style_of(letters.of(text).family, kind, frame.kind, size, 0)
+    return text, style._replace(struck=len(was.encode()))
 
 
 @cache

@@ -426,6 +426,8 @@ def padded(packed: bytes, size: int, stride: int) -> bytes:
     """Returns rows of some bytes as Cairo has them: longer, the first dot in the lowest bit."""
     found = packed.translate(REVERSED)
     behind = bytes(stride - size)
+    if len(found) == size:
+        return found + behind
     return b"".join([found[at : at + size] + behind for at in range(0, len(found), size)])
 
 

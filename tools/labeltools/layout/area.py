@@ -42,13 +42,15 @@ PURPOSES = {purpose.name: purpose for purpose in (ARTICLE, SHELF)}
 @dataclass(frozen=True)
 class Wishes:
     """What is asked for: what labels are for, a module in millimetres, whether they are turned to
-    the right (None: where more of them fit so), whether the paper is a roll.
+    the right (None: where more of them fit so), whether the paper is a roll, and whether prices may
+    have raised cents.
     """
 
     purpose: Purpose = ARTICLE
     module: float | None = None
     turn: bool | None = None
     is_roll: bool = False
+    has_raised_cents: bool = True
 
 
 @dataclass(frozen=True)

@@ -1,10 +1,10 @@
-"""Where a code is in a frame, and whether anything in it is smaller than in another one."""
+"""Where a code is in a frame, and whether anything is smaller in it than in another frame."""
 
 import math
-from typing import Sequence
+from typing import NamedTuple, Sequence
 
 from labeltools.layout.area import Area
-from labeltools.layout.frame import Frame, HINTING, Need, PRICE_STYLES, styles_from
+from labeltools.layout.frame import Frame, HINTING, Need, Needs, PRICE_STYLES, styles_from
 from labeltools.layout.joint_needs import module_in
 from labeltools.paper.box import Box
 
@@ -31,31 +31,45 @@ def code_boxes(frame: Frame, need: Need, area: Area) -> dict[str, Box] | None:
     return {"bars": Box(left, low - high, wide, high), "digits": Box(left, low, wide, frame.digits)}
 
 
-def is_no_less(frame: Frame, other: Frame, area: Area, needs: Sequence[Need]) -> bool:
-    """Returns whether nothing is smaller in a frame than in another one: letters, modules and bars
-    of needs; and whether no title is shorter, in letters of which as many or more have room.
+class Least(NamedTuple):
+    """A frame than which another one has to be no less, with the needs that it was found for, and
+    those of them in which something may be smaller.
     """
-    if any(frame.sizes[kind] < size for kind, size in other.sizes.items()):
-        return False
-    if frame.is_whole < other.is_whole or frame.room_of_titles < other.room_of_titles:
-        return False
-    is_sure = math.isinf(frame.room_of_titles)
-    if not is_sure and frame.title_line < NARROWER * other.title_line:  # of words that are parted
-        return False
-    for need in needs:
+
+    frame: Frame
+    wide: Needs
+    deciding: Sequence[Need]
+
+    def is_kept_by(self, frame: Frame, area: Area) -> bool:
+        """Returns whether nothing is smaller in a frame than in this one: letters, modules and bars
+        of needs; and whether no title is shorter, in letters of which as many or more have room.
+        """
+        least = self.frame
+        if any(frame.sizes[kind] < size for kind, size in least.sizes.items()):
+            return False
+        if frame.is_whole < least.is_whole or frame.room_of_titles < least.room_of_titles:
+            return False
+        is_sure = math.isinf(frame.room_of_titles)
+        if not is_sure and frame.title_line < NARROWER * least.title_line:  # of parted words
+            return False
         worth = PRICE_STYLES[frame.price_style]
-        if worth * price_size(frame, need) < price_size(other, need.plain or need):
-            return False
-        old = code_boxes(other, need, area)
-        new = code_boxes(frame, need, area)
-        if old is None:
-            continue
-        if new is None:
-            return False
-        _, _, wide, high = new["bars"]
-        if wide < old["bars"].width or high < old["bars"].height:
-            return False
-    return True
+        for need in self.deciding:
+            largest = max(price_size(least, wide) for wide in self.wide[need])
+            if worth * price_size(frame, need) < largest:
+                return False
+            if not has_code_of(least, frame, need, area):
+                return False
+        return True
+
+
+def has_code_of(least: Frame, frame: Frame, need: Need, area: Area) -> bool:
+    """Returns whether the code of a need is no smaller in a frame than in another one."""
+    old = code_boxes(least, need, area)
+    new = code_boxes(frame, need, area)
+    if old is None or new is None:
+        return old is None
+    _, _, wide, high = new["bars"]
+    return wide >= old["bars"].width and high >= old["bars"].height
 
 
 def price_size(frame: Frame, need: Need) -> int:

@@ -9,12 +9,13 @@ import cairo
 
 from labeltools.layout.frame import LINE
 from labeltools.layout.glyphs import BY_PAIRS, GlyphRow, Glyphs, LINE_END
-from labeltools.layout.letters import Letters
+from labeltools.layout.letters import Letters, MEASURED
 from labeltools.layout.pango import asked_size, font_options, new_layout, Pango, pango_context, UNIT
 from labeltools.paper.box import Box
 
 NOT_LATIN = re.compile("[^\0-\u024f]")  # letters that may leave their line
 ELLIPSIS = 1 << 1  # PANGO_ANALYSIS_FLAG_IS_ELLIPSIS of a run
+MUCH = 1.1  # by how much a line may be wider that is surely whole
 SIDE = 16  # lines have this part of the size of letters as room at their sides
 # letters that do not fit lose this part of their size: in a box, and on a base line
 STEP = 20
@@ -163,11 +164,23 @@ class Fitter:
 
     def shown(self, text: str, style: Style, width: int, height: int) -> str:
         """Returns a text as it is seen in a box: up to the ellipsis, where it has one."""
+        if self.is_short(text, style, width):
+            return text
         glyphs = self.glyphs(style) if style.lines else None
         if not style.lines or glyphs and self.rows(glyphs, text, style, width):
             return text
         layout = self.by_pango(text, style, width, height).layout
         return seen_in(layout) if layout.is_ellipsized() else text
+
+    def is_short(self, text: str, style: Style, width: int) -> bool:
+        """Returns whether a text has much room on one line: its letters need not be placed to see
+        that it is whole.
+        """
+        letters = self.letters.of(text)
+        if letters.family != style.family or "\n" in text:
+            return False
+        room = width / style.size / MUCH
+        return letters.width(text, style.is_bold) < room and not NOT_LATIN.search(text)
 
     def new_blank(self, style: Style, width: int, size: int) -> Any:
         """Returns a layout of Pango without a text, its letters of a size in dots; it has one line
@@ -197,6 +210,11 @@ class Fitter:
         asked = asked_size(family, size)
         scale = cairo.Matrix(asked, 0, 0, asked)
         font = cairo.ScaledFont(face, scale, cairo.Matrix(), font_options(self.is_dots))
+        if not self.is_dots and size != MEASURED:
+            measured = self.font(family, is_bold, MEASURED, has_lines)
+            part = asked / asked_size(family, MEASURED)
+            high = round(LINE * size * UNIT) / UNIT if has_lines else measured.high * part
+            return measured.scaled(font, part, high)
         style = Style(family, is_bold, size, int(has_lines), LEFT, 0.0, 0)
         return Glyphs(face, font, self.new_blank(style, -1, size))
 

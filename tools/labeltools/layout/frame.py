@@ -35,8 +35,7 @@ class Need(NamedTuple):
     modules (bars without a height of their own have 1); the widths of the lines of its title, the
     lines of its text and the width of the widest, the width and height of the ink of its price, its
     width with raised cents, in narrow letters, and in these with raised cents, the widths of its
-    old price and its unit price; 0 for what is not there. `plain` is the need in wide letters, in
-    which a first frame is found, where these are narrower.
+    old price and its unit price; 0 for what is not there.
     """
 
     symbology: str
@@ -52,7 +51,6 @@ class Need(NamedTuple):
     narrow_raised: float
     was: float
     unit: float
-    plain: "Need | None" = None
 
     @property
     def code(self) -> tuple[str, int, int]:
@@ -73,6 +71,11 @@ class Need(NamedTuple):
     def is_bars(self) -> bool:
         """Whether the code is bars."""
         return self.kind.nominal > 0
+
+
+# needs of labels: each is given with those in wide letters, such as those of other scripts, in
+# which a first frame is found, and how many labels have each of these
+Needs = Mapping[Need, Mapping[Need, int]]
 
 
 @dataclass(frozen=True)

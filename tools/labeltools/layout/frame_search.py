@@ -8,13 +8,13 @@ that has a frame counts. Lengths are in dots, those of texts in sizes of their l
 
 from collections import Counter
 from itertools import product
-from typing import Mapping, Sequence
+from typing import Sequence
 
 from labeltools.layout.area import Area
 from labeltools.layout.arrangement import ARRANGEMENTS
 from labeltools.layout.attempt import Attempt
-from labeltools.layout.code_boxes import is_no_less
-from labeltools.layout.frame import Frame, Need
+from labeltools.layout.code_boxes import Least
+from labeltools.layout.frame import Frame, Need, Needs, PRICE_STYLES
 from labeltools.layout.joint_needs import JointNeeds, Level, LOWEST_PART, module_in
 
 # letters of titles as parts of those of texts, the largest first: without a price and with one
@@ -31,22 +31,29 @@ LEVELS = (
 WHOLE_TITLES = 2  # levels on which whole titles are looked for before titles are cut
 
 
-def frame_of(area: Area, needs: Mapping[Need, int]) -> Frame | None:
+def frame_of(area: Area, needs: Needs) -> Frame | None:
     """Returns the frame of labels, or None where no one frame serves all of them.
 
     It is found in wide letters first. Narrower ones and raised cents are taken where that makes
     anything larger, and nothing smaller.
     """
-    plain: Counter[Need] = Counter()
-    for need, labels in needs.items():
-        plain[need.plain or need] += labels
-    found = searched(JointNeeds(area, plain, ("price",)))
-    if found is None or all(need.plain is None for need in needs):
+    wide: Counter[Need] = Counter()
+    for alike in needs.values():
+        wide.update(alike)
+    found = searched(JointNeeds(area, wide, ("price",)))
+    if found is None or needs.keys() == wide.keys():
         return found
-    return searched(JointNeeds(area, needs), found) or found
+    styles = [name for name in PRICE_STYLES if is_allowed(name, area)]
+    own = JointNeeds(area, {need: sum(alike.values()) for need, alike in needs.items()}, styles)
+    return searched(own, Least(found, needs, own.deciding)) or found
 
 
-def searched(demand: JointNeeds, least: Frame | None = None) -> Frame | None:
+def is_allowed(style: str, area: Area) -> bool:
+    """Returns whether prices may be written in a style."""
+    return area.wishes.has_raised_cents or not style.endswith("raised")
+
+
+def searched(demand: JointNeeds, least: Least | None = None) -> Frame | None:
     """Returns the frame of labels in which nothing is smaller than in another one."""
     area = demand.area
     fits = (module_in(area, need, area.width, area.width) for need in demand.bars)
@@ -78,14 +85,13 @@ def rounds_of(demand: JointNeeds) -> list[list[int]]:
 
 
 def best_frame(
-    demand: JointNeeds, level: Level, wishes: Sequence[int], least_frame: Frame | None
+    demand: JointNeeds, level: Level, wishes: Sequence[int], kept: Least | None
 ) -> Frame | None:
     """Returns the best frame on a level, of all arrangements, sizes of titles and modules: those
     that cannot be better than one that is found are not tried.
     """
     best = None
     area = demand.area
-    needs = demand.deciding
     parts = TITLES_WITH_PRICE if demand.price else TITLES_ALONE
     least = area.dots(LEAST_TITLE)
     rooms = {at: demand.rooms(level, *at) for at in product(ARRANGEMENTS, wishes)}
@@ -98,7 +104,7 @@ def best_frame(
         is_smallest = title == titles[-1]
         attempt = Attempt(demand, level, kind, title, is_smallest, is_sparing, module)
         frame = attempt.frame(rooms[kind, module])
-        if frame and least_frame and not is_no_less(frame, least_frame, area, needs):
+        if frame and kept and not kept.is_kept_by(frame, area):
             continue
         if frame and (best is None or frame.score > best.score):
             best = frame

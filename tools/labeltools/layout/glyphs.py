@@ -4,10 +4,11 @@ where Pango has it, in a tenth of the time. Lengths are in dots.
 """
 
 import re
-from functools import cache
+from copy import copy
+from functools import partial
 from itertools import accumulate, repeat
 from math import ceil, floor
-from typing import Any, Iterator, NamedTuple
+from typing import Any, Callable, Iterator, NamedTuple, TypeVar
 
 import cairo
 
@@ -18,10 +19,27 @@ BY_PAIRS = ("dejavu ", "liberation sans")  # how the names of these fonts begin
 # letters that stand one behind another: Latin, Greek, Cyrillic; punctuation; currencies
 SIMPLE = ((0x20, 0x2FF), (0x370, 0x482), (0x48A, 0x52F), (0x2010, 0x2027), (0x20A0, 0x20CF))
 OTHERS = re.compile("[^" + "".join(f"{chr(one)}-{chr(other)}" for one, other in SIMPLE) + "]")
+OTHER_SCRIPTS = re.compile(OTHERS.pattern.replace("[^", "[^\n"))  # in several lines
 PARTED = re.compile(r"[^\w., ]|  |^ | $")  # what may be parted elsewhere than at its spaces
 LINE_END = "\u2028"  # of a line that is not the last one of its paragraph
 UNCLEAR = -1.0  # the step of letters that Pango may draw otherwise
 NEAR = 0.01  # of the size of letters: glyphs with ink as near are the same ones
+
+
+Asked = TypeVar("Asked")
+Found = TypeVar("Found")
+
+
+class Memo(dict[Asked, Found]):
+    """What was found before, by what was asked: for a letter that is quicker than a call."""
+
+    def __init__(self, find: Callable[[Asked], Found]) -> None:
+        super().__init__()
+        self.find = find
+
+    def __missing__(self, asked: Asked) -> Found:
+        found = self[asked] = self.find(asked)
+        return found
 
 
 class GlyphRow(NamedTuple):
@@ -37,7 +55,9 @@ class GlyphRow(NamedTuple):
 
 
 class Glyphs:
-    """The glyphs of a font in a size."""
+    """The glyphs of a font in a size. `base` is where the base line of a line is below its top, and
+    `high` is how high a line is.
+    """
 
     def __init__(self, face: cairo.FontFace, font: cairo.ScaledFont, layout: Any) -> None:
         """Takes a font as Cairo has it, and a layout of Pango for a line in its letters."""
@@ -47,8 +67,24 @@ class Glyphs:
         layout.set_text("x", -1)
         self.base: float = layout.get_baseline() / UNIT
         self.high: float = layout.get_size()[1] / UNIT
-        self.number = cache(self.new_number)
-        self.step = cache(self.new_step)
+        self.numbers: Memo[str, int] = Memo(self.new_number)
+        self.steps: Memo[tuple[str, str], float] = Memo(self.new_step)
+
+    def scaled(self, font: cairo.ScaledFont, part: float, high: float) -> "Glyphs":
+        """Returns the glyphs of the same face in another size, whose steps are in proportion, as in
+        a drawing, for lines of a height: Pango takes long to load a font in a size.
+        """
+        found = copy(self)
+        found.font = font
+        found.high = high
+        found.base = self.base * part + (high - self.high * part) / 2
+        found.steps = Memo(partial(self.scaled_step, part))
+        return found
+
+    def scaled_step(self, part: float, letters: tuple[str, str]) -> float:
+        """Returns how far a letter is from the next one in another size."""
+        step = self.steps[letters]
+        return UNCLEAR if step == UNCLEAR else step * part
 
     def rows(self, text: str, room: float) -> list[GlyphRow]:
         """Returns the rows of a line of text as Pango parts it in a room; none where Pango has to
@@ -67,14 +103,15 @@ class Glyphs:
 
     def row(self, text: str) -> "GlyphRow | None":
         """Returns a line of text in one row; None where Pango may draw it otherwise."""
-        steps = [*map(self.step, text, [*text[1:], ""])]
+        steps = [*map(self.steps.__getitem__, zip(text, (*text[1:], "")))]
         if not steps or min(steps) == UNCLEAR:
             return None
-        return GlyphRow([*map(self.number, text)], steps, sum(steps))
+        return GlyphRow([*map(self.numbers.__getitem__, text)], steps, sum(steps))
 
-    def new_step(self, letter: str, following: str) -> float:
+    def new_step(self, letters: tuple[str, str]) -> float:
         """Returns how far a letter is from the next one, or from the end of its line."""
-        if not all(map(self.number, letter + following)):
+        letter, following = letters
+        if not all(map(self.numbers.__getitem__, letter + following)):
             return UNCLEAR
         return self.place(letter + following, len(letter.encode()))
 

@@ -5,7 +5,7 @@ symbology, or for one label. Lengths are in dots.
 import math
 import re
 from bisect import bisect_left
-from collections import Counter, defaultdict
+from collections import defaultdict
 from dataclasses import dataclass, replace
 from functools import cache
 from typing import Iterator, Mapping, Sequence
@@ -14,10 +14,10 @@ from labeltools.common.messages import Origin, Talk
 from labeltools.common.text import joined, Remedy, Text
 from labeltools.layout.area import Area
 from labeltools.layout.code_boxes import code_boxes
-from labeltools.layout.frame import Frame, HINTING, Need, styles_from
+from labeltools.layout.frame import Frame, HINTING, Need, Needs, styles_from
 from labeltools.layout.frame_search import frame_of
 from labeltools.layout.letters import Letters
-from labeltools.layout.price import price_widths
+from labeltools.layout.price import price_extent
 from labeltools.lines.engine import Modules
 from labeltools.lines.file import LineRecord
 from labeltools.lines.symbologies import SYMBOLOGIES, Symbology
@@ -29,13 +29,12 @@ from labeltools.paper.stock import Size, size_text
 MARKS = "[\u0300-\u036f\u0483-\u0489\u1ab0-\u1aff\u1dc0-\u1dff\u20d0-\u20ff\ufe20-\ufe2f]"
 STACK = re.compile(f"({MARKS}{{8}}){MARKS}+")
 MOST_LETTERS = 1000  # of a line of a text: no paper takes more
-# widths of texts, and those of prices, are rounded up to such parts of the size of their letters:
-# so many labels have the same need
+# widths of texts are rounded up to such parts of the size of their letters: so many labels have
+# the same need
 ROUNDED = 8
-ROUNDED_PRICE = 32
 MOST_HEIGHT = 150  # millimetres: the highest label that a message proposes
 ASKED = 256  # labels between two calls of `go_on`
-NUMBERS = [name for name in Need._fields if name not in ("symbology", "title", "plain")]
+NUMBERS = [name for name in Need._fields if name not in ("symbology", "title")]
 
 
 @dataclass(frozen=True, slots=True)
@@ -58,8 +57,9 @@ class PrintLabel:
     def is_cut(self) -> bool:
         """Whether a part of its title or text is left away, whatever the paper."""
         whole = self.record.label
-        lines = sum(map(len, whole.text)) + max(0, len(whole.text) - 1)
-        return len(self.title) < len(whole.title) or len(self.text) < lines
+        if len(self.title) < len(whole.title):
+            return True
+        return bool(whole.text) and len(self.text) < len("\n".join(whole.text))
 
     @property
     def symbology(self) -> Symbology:
@@ -141,13 +141,15 @@ def lay_out(labels: Sequence[PrintLabel], area: Area, letters: Letters, talk: Ta
     is there and more of them fit so.
     """
     needs = []
-    known: dict[Need, Need] = {}
+    counted: dict[Need, dict[Need, int]] = {}
     for done, label in enumerate(labels):
         if done % ASKED == 0:
             talk.go_on(done, 0)
         need = need_of(label, letters)
-        needs.append(known.setdefault(need, need))
-    counted = Counter(needs)
+        wide = need_of(label, letters.others) if letters.has_others else need
+        alike = counted.setdefault(need, {})
+        alike[wide] = alike.get(wide, 0) + 1
+        needs.append(need)
     found = laid_out_needs(counted, area)
     if area.wishes.turn is not False:
         is_forced = area.wishes.turn is True
@@ -161,34 +163,35 @@ def lay_out(labels: Sequence[PrintLabel], area: Area, letters: Letters, talk: Ta
 def need_of(label: PrintLabel, letters: Letters) -> Need:
     """Returns what a label needs."""
     whole = label.record.label
-    price = letters.of(whole.price).extent(whole.price, True)
-    prices = [rounded(width, ROUNDED_PRICE) for width in price_widths(whole.price, letters)]
-    _, with_raised, narrow, narrow_raised = prices
     of_title, of_text = letters.of(label.title), letters.of(label.text)
-    text = label.text.split("\n") if label.text else []
+    of_details = letters.of(whole.was + whole.unit)
+    lines = label.text.split("\n") if label.text else []
+    height, widths = price_extent(whole.price, letters)
     return Need(
         label.record.symbology,
         label.modules.width,
         label.modules.height,
-        tuple(
-            rounded(of_title.extent(line, True).width) for line in label.title.split("\n") if line
-        ),
-        len(text),
-        rounded(max((of_text.extent(line, False).width for line in text), default=0.0)),
-        rounded(price.width, ROUNDED_PRICE),
-        rounded(price.height, ROUNDED_PRICE),
-        with_raised,
-        narrow,
-        narrow_raised,
-        rounded(letters.of(whole.was + whole.unit).extent(whole.was, False).width),
-        rounded(letters.of(whole.was + whole.unit).extent(whole.unit, False).width),
-        need_of(label, letters.others) if letters.others is not letters else None,
+        title_widths(label.title, of_title),
+        len(lines),
+        rounded(max((of_text.width(line, False) for line in lines), default=0.0)),
+        widths[0],
+        height,
+        widths[1],
+        widths[2],
+        widths[3],
+        rounded(of_details.width(whole.was, False)),
+        rounded(of_details.width(whole.unit, False)),
     )
 
 
-def rounded(width: float, parts: int = ROUNDED) -> float:
+def title_widths(title: str, letters: Letters) -> tuple[float, ...]:
+    """Returns the widths of the lines of a title."""
+    return tuple([rounded(letters.width(line, True)) for line in title.split("\n") if line])
+
+
+def rounded(width: float) -> float:
     """Returns a width rounded up, so that there are few different ones."""
-    return math.ceil(width * parts) / parts
+    return math.ceil(width * ROUNDED) / ROUNDED
 
 
 @dataclass(frozen=True)
@@ -199,9 +202,9 @@ class LaidOutNeeds:
     layouts: Mapping[Need, Layout]
     left_out: tuple[Need, ...]
 
-    def count(self, counted: Mapping[Need, int]) -> int:
+    def count(self, counted: Needs) -> int:
         """Returns how many labels have a layout."""
-        return sum(counted[need] for need in self.layouts)
+        return sum(sum(counted[need].values()) for need in self.layouts)
 
     def of_labels(self, labels: Sequence[PrintLabel], needs: Sequence[Need]) -> LaidOutFile:
         """Returns the layouts of labels."""
@@ -220,7 +223,7 @@ class LaidOutNeeds:
         return LaidOutFile(tuple(placed), self.area, left_out)
 
 
-def laid_out_needs(counted: Mapping[Need, int], area: Area) -> LaidOutNeeds:
+def laid_out_needs(counted: Needs, area: Area) -> LaidOutNeeds:
     """Returns layouts in one frame; a need that it does not take has the frame of its symbology, of
     its code, or one of its own, which are found when they are asked for.
     """
@@ -232,17 +235,17 @@ def laid_out_needs(counted: Mapping[Need, int], area: Area) -> LaidOutNeeds:
 
     @cache
     def of_symbology(name: str) -> Frame | None:
-        return frame_of(area, {one: n for one, n in fitting.items() if one.symbology == name})
+        return frame_of(area, {need: n for need, n in fitting.items() if need.symbology == name})
 
     @cache
     def of_code(code: tuple[str, int, int]) -> Frame | None:
-        return frame_of(area, {one: n for one, n in fitting.items() if one.code == code})
+        return frame_of(area, {need: n for need, n in fitting.items() if need.code == code})
 
     def frames(need: Need) -> Iterator[Frame | None]:
         yield common
         yield of_symbology(need.symbology)
         yield of_code(need.code)
-        yield frame_of(area, {need: 1})
+        yield frame_of(area, {need: fitting[need]})
 
     layouts = {}
     known: dict[tuple[object, ...], Layout] = {}
@@ -253,16 +256,20 @@ def laid_out_needs(counted: Mapping[Need, int], area: Area) -> LaidOutNeeds:
     return LaidOutNeeds(area, layouts, tuple(need for need in counted if need not in layouts))
 
 
-def fitting_needs(area: Area, counted: Mapping[Need, int]) -> dict[Need, int]:
+def fitting_needs(area: Area, counted: Needs) -> Needs:
     """Returns the needs that have a frame by themselves."""
     groups: dict[tuple[str, int, int], list[Need]] = defaultdict(list)
     for need in counted:
         groups[need.code].append(need)
-    fits = cache(lambda need: frame_of(area, {need: 1}) is not None)
-    found: dict[Need, int] = {}
+    fits = cache(lambda need, wide: frame_of(area, {need: {wide: 1}}) is not None)
+    wides = {need: alone(largest_of([*counted[need]])) for need in counted}
+    found: dict[Need, Mapping[Need, int]] = {}
     for needs in groups.values():
-        is_all = fits(alone(largest_of(needs)))
-        found.update((need, counted[need]) for need in needs if is_all or fits(alone(need)))
+        largest = largest_of([wides[need] for need in needs])
+        is_all = fits(alone(largest_of(needs)), largest)
+        found.update(
+            (need, counted[need]) for need in needs if is_all or fits(alone(need), wides[need])
+        )
     return found
 
 
@@ -276,7 +283,6 @@ def alone(need: Need) -> Need:
         raised=rounded(need.raised),
         narrow=rounded(need.narrow),
         narrow_raised=rounded(need.narrow_raised),
-        plain=alone(need.plain) if need.plain else None,
     )
 
 
@@ -345,10 +351,7 @@ def reason(needs: Sequence[Need], area: Area) -> Text:
 def largest_of(needs: Sequence[Need]) -> Need:
     """Returns a need that fits only where each of these does."""
     most = {name: max(getattr(need, name) for need in needs) for name in NUMBERS}
-    plains = [need.plain for need in needs if need.plain]
-    plain = largest_of(plains) if plains else None
-    title = max((need.title for need in needs), key=sum)
-    return needs[0]._replace(**most)._replace(title=title, plain=plain)
+    return needs[0]._replace(title=max((need.title for need in needs), key=sum), **most)
 
 
 def smallest_for(need: Need, area: Area, width: int) -> Size | None:
@@ -368,5 +371,5 @@ def fits_cell(need: Need, cell: Size, area: Area) -> bool:
     """Returns whether a label is laid out in a cell of a size in millimetres."""
     width, height = (math.floor((side - 2 * PAD) / area.dot) for side in cell)
     trial = replace(area, width=width, height=height)
-    frame = frame_of(trial, {need: 1}) if min(width, height) > 0 else None
+    frame = frame_of(trial, {need: {need: 1}}) if min(width, height) > 0 else None
     return frame is not None and layout_in(frame, need, trial) is not None

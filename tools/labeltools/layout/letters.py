@@ -2,19 +2,20 @@
 
 import re
 import unicodedata
-from functools import cache, lru_cache
+from functools import cache, cached_property, lru_cache, partial
 from itertools import repeat
-from typing import Iterable, Mapping, NamedTuple, Sequence
+from typing import Any, Iterable, Mapping, NamedTuple, Sequence
 
 from labeltools.common.messages import ToolError
 from labeltools.common.text import Text
 from labeltools.layout.frame import Extent
-from labeltools.layout.glyphs import OTHERS
+from labeltools.layout.glyphs import Memo, OTHER_SCRIPTS, OTHERS
 from labeltools.layout.pango import new_layout, Pango, pango_context, PangoCairo, UNIT
 
 KEPT = 2048  # words of which the extent is kept
 MEASURED = 200  # dots: the size of letters in which they are measured
 SCALE = MEASURED * UNIT
+DIGITS = "0123456789"
 MOST_NAMED = 9  # letters that a message names
 SPACED = re.compile("[^ ]+ *| +")
 FONT = "Liberation Sans"  # of titles and texts
@@ -22,6 +23,7 @@ PRICE_FONT = "Liberation Sans Narrow"  # of prices beside FONT
 OTHER_FONT = "DejaVu Sans"  # of texts with letters of other scripts, and of all where FONT is not
 DATA_FONT = "DejaVu Sans Mono"  # of what is below the bars of Code 128
 DIGITS_FONT = "OCR B"  # of digits below bars in dots; Cairo cannot embed it into a PDF
+USUAL = frozenset({FONT, PRICE_FONT, OTHER_FONT, DATA_FONT, DIGITS_FONT})
 FONTS_OF_LETTERS = "apt-get install fonts-noto-core fonts-noto-cjk"
 FONTS_OF_SIGNS = "apt-get install fonts-symbola"
 
@@ -70,7 +72,9 @@ def font_for(family: str) -> str:
 
 
 def is_there(family: str) -> bool:
-    """Returns whether there is a font."""
+    """Returns whether there is a font. To look for a usual one in the list of them is quick."""
+    if family in USUAL:
+        return PangoCairo.FontMap.get_default().get_family(family) is not None
     return font_for(family).lower() == family.lower()
 
 
@@ -106,39 +110,78 @@ class Letters:
     """Measures texts in a font, with the letters of prices and of other scripts beside it."""
 
     def __init__(self, wanted: str) -> None:
-        family, prices, others = fonts_of(wanted)
-        require_fonts(family, others, DATA_FONT)
-        self.family = family
-        self.prices = self if prices == family else Letters(prices)
-        self.others = self if others == family else Letters(others)
+        self.family, self.of_prices, self.of_others = fonts_of(wanted)
+        require_fonts(self.family, self.of_others, DATA_FONT)
+        self.has_others = self.of_others != self.family
         self.extent = lru_cache(KEPT)(self.new_extent)
         self.is_missing = cache(self.is_in_no_font)
-        how = pango_context(False), family
-        self.layouts = [new_layout(*how, is_bold, MEASURED) for is_bold in (False, True)]
+        self.layout = cache(self.new_layout)
         self.sign = cache(self.whole_sign)
+        self.steps = [Memo(partial(self.step, is_bold)) for is_bold in (False, True)]
         self.word = lru_cache(KEPT)(self.new_word)
-        self.wrapped = new_layout(*how, False, MEASURED)
-        self.wrapped.set_width(1)  # so that each part of a line is a line
-        self.spaces = [self.sign(" ", is_bold).advance for is_bold in (False, True)]
+
+    @cached_property
+    def prices(self) -> "Letters":
+        """The letters of prices."""
+        return self if self.of_prices == self.family else Letters(self.of_prices)
+
+    @cached_property
+    def others(self) -> "Letters":
+        """The letters of other scripts."""
+        return Letters(self.of_others) if self.has_others else self
+
+    @cached_property
+    def has_equal_digits(self) -> bool:
+        """Whether digits are equally wide."""
+        return len({self.sign(digit, True).advance for digit in DIGITS}) == 1
+
+    @cached_property
+    def wrapped(self) -> Any:
+        """A layout of Pango in which each part of a line is a line."""
+        layout = new_layout(pango_context(False), self.family, False, MEASURED)
+        layout.set_width(1)
+        return layout
+
+    def new_layout(self, is_bold: bool) -> Any:
+        """Returns the layout of Pango by which texts are measured, if it is asked for: it takes
+        long to look for a font.
+        """
+        return new_layout(pango_context(False), self.family, is_bold, MEASURED)
 
     @property
     def families(self) -> frozenset[str]:
         """The fonts in which texts are."""
-        return frozenset({self.family, self.prices.family, self.others.family})
+        return frozenset({self.family, self.of_prices, self.of_others})
 
     def of(self, text: str, is_price: bool = False) -> "Letters":
         """Returns the letters in which a text is: all of it in those of other scripts, where it has
         any of these.
         """
-        if self.others is not self and not text.isascii() and OTHERS.search(text.replace("\n", "")):
+        if self.has_others and not text.isascii() and OTHER_SCRIPTS.search(text):
             return self.others
         return self.prices if is_price else self
+
+    def step(self, is_bold: bool, letter: str) -> float:
+        """Returns how far a letter is from the next one."""
+        return self.sign(letter, is_bold).advance
 
     def new_extent(self, text: str, is_bold: bool) -> Extent:
         """Returns the extent of a line of text; zeros for one without ink."""
         if not text:
             return NOTHING
         return extent_of(self.line(text, is_bold) or self.whole_sign(text, is_bold))
+
+    def width(self, text: str, is_bold: bool) -> float:
+        """Returns the width of the ink of a line of text: the sum of its letters, but where these
+        change beside others.
+        """
+        if not text:
+            return 0.0
+        if OTHERS.search(text):
+            return self.extent(text, is_bold).width
+        whole = sum(map(self.steps[is_bold].__getitem__, text))
+        left, right = self.sign(text[0], is_bold).left, self.sign(text[-1], is_bold).right
+        return max(0.0, whole - left - right)
 
     def line(self, text: str, is_bold: bool) -> Sign | None:
         """Returns what a line of text takes, letter by letter; None where letters change beside
@@ -148,7 +191,7 @@ class Letters:
         found = [sign for sign in map(self.word, parts, repeat(is_bold)) if sign]
         if len(found) < len(parts):
             return None
-        return together(found, (len(found) - 1) * self.spaces[is_bold])
+        return together(found, (len(found) - 1) * self.steps[is_bold][" "])
 
     def parts(self, line: str) -> list[str]:
         """Returns the parts of a line behind which it may be wrapped, with the spaces behind them:
@@ -170,7 +213,7 @@ class Letters:
 
     def whole_sign(self, text: str, is_bold: bool) -> Sign:
         """Returns what a line of text takes as Pango lays it out."""
-        layout = self.layouts[is_bold]
+        layout = self.layout(is_bold)
         layout.set_text(text, -1)
         ink, logical = layout.get_extents()
         left, wide, advance = ink.x / SCALE, ink.width / SCALE, logical.width / SCALE
@@ -193,7 +236,7 @@ class Letters:
 
     def is_in_no_font(self, letter: str) -> bool:
         """Returns whether no font has a letter."""
-        layout = self.layouts[True]
+        layout = self.layout(True)
         layout.set_text(letter, -1)
         return bool(layout.get_unknown_glyphs_count())
 

@@ -1,8 +1,12 @@
 """Prices with raised cents: the part behind the decimal sign is smaller, as high up as the digits
 before it, and a currency behind it is below the cents. The decimal sign stays. Lengths are in sizes
 of the letters of the price.
+
+Digits are equally wide in the usual fonts. So what a price takes is measured once for all prices
+that differ only in digits behind the first letter.
 """
 
+import math
 import re
 import unicodedata
 from functools import lru_cache
@@ -11,7 +15,8 @@ from typing import NamedTuple
 from labeltools.layout.frame import PRICE_STYLES
 from labeltools.layout.letters import Letters
 
-KEPT = 2048  # prices whose parts are kept
+KEPT = 128  # shapes of prices of which the extent is kept
+ROUNDED_PRICE = 32  # parts of the size of letters to which widths are rounded up
 CENTS = 0.57  # letters of cents
 CURRENCY = 0.33  # letters of a currency
 BETWEEN = 0.07  # white between two parts
@@ -22,25 +27,16 @@ AMOUNT = re.compile(
     r"\s?([^\d\s]{0,3})",
     re.ASCII,
 )
-
-
-class PriceParts(NamedTuple):
-    """The parts of a price: a currency, the number up to its decimal sign, the cents, a
-    currency.
-    """
-
-    before: str
-    whole: str
-    cents: str
-    after: str
+ZEROS = str.maketrans("123456789", "0" * 9)
 
 
 class Part(NamedTuple):
-    """A part of a price as it is placed: its text, the size of its letters, where its ink begins
-    and how wide that is, and where its base line is below the top of digits.
+    """A part of a price: where its letters are in the price, their size, where the ink begins and
+    how wide it is, and where its base line is below the top of digits.
     """
 
-    text: str
+    first: int
+    last: int
     size: float
     left: float
     width: float
@@ -54,56 +50,72 @@ class Raised(NamedTuple):
     width: float
 
 
-@lru_cache(KEPT)
-def price_parts(price: str) -> PriceParts | None:
-    """Returns the parts of a price; None where it has no two decimals, or anything else beside a
-    currency.
+class PriceExtent(NamedTuple):
+    """The height of the ink of a price, and its width in each style, a bit rounded up."""
 
-    >>> price_parts("1.249,00 €")
-    PriceParts(before='', whole='1.249,', cents='00', after='€')
-    >>> price_parts("$3.50")
-    PriceParts(before='$', whole='3.', cents='50', after='')
-    >>> {price_parts(text) for text in ("12 €", "1.250", "1,259 €", "2 für 3,00 €", "1.2.34")}
-    {None}
+    height: float
+    widths: tuple[float, ...]
+
+
+def price_spans(price: str) -> tuple[tuple[int, int], ...]:
+    """Returns where the parts of a price are in it: a currency, the number up to its decimal sign,
+    the cents, a currency; nothing if it has no two decimals, or anything else beside a currency.
+
+    >>> ["1.249,00 €"[slice(*span)] for span in price_spans("1.249,00 €")]
+    ['', '1.249,', '00', '€']
+    >>> ["$3.50"[slice(*span)] for span in price_spans("$3.50")]
+    ['$', '3.', '50', '']
+    >>> {price_spans(text) for text in ("12 €", "1.250", "1,259 €", "2 für 3,00 €", "1.2.34")}
+    {()}
     """
     found = AMOUNT.fullmatch(price)
     if not found:
-        return None
-    before, whole, thousands, point, cents, after = found.groups()
+        return ()
+    before, _, thousands, point, _, after = found.groups()
     if thousands == point or not all(map(is_currency, filter(None, (before, after)))):
-        return None
-    return PriceParts(before, whole, cents, after)
+        return ()
+    return found.span(1), found.span(2), found.span(5), found.span(6)
 
 
 def is_currency(text: str) -> bool:
     """Returns whether a text is a sign, a code of three letters or a usual short name."""
     is_code = len(text) == 3 and text.isascii() and text.isupper()
-    return is_code or text in SHORT or all(unicodedata.category(one) == "Sc" for one in text)
+    return is_code or text in SHORT or all(unicodedata.category(sign) == "Sc" for sign in text)
+
+
+def shape_of(price: str, letters: Letters) -> str:
+    """Returns a price that takes as much as this one, and is the same for many.
+
+    >>> shape_of("12,80 €", Letters("DejaVu Sans"))
+    '10,00 €'
+    """
+    return price[:1] + price[1:].translate(ZEROS) if letters.has_equal_digits else price
 
 
 @lru_cache(KEPT)
-def raised(price: str, letters: Letters) -> Raised | None:
+def raised(shape: str, letters: Letters) -> Raised | None:
     """Returns a price with raised cents; None where it has none."""
-    found = price_parts(price)
-    if found is None:
+    spans = price_spans(shape)
+    if not spans:
         return None
     top = -letters.sign("0", True).top
-    placed = []
+    before, whole, cents, after = (letters.width(shape[slice(*span)], True) for span in spans)
+    parts = []
     end = 0.0
-
-    def put(text: str, size: float, base: float, left: float) -> float:
-        width = letters.extent(text, True).width * size
-        placed.append(Part(text, size, left, width, base))
-        return left + width
-
-    if found.before:
-        end = put(found.before, CURRENCY, CURRENCY * top, end) + BETWEEN
-    column = put(found.whole, 1.0, top, end) + BETWEEN
-    end = put(found.cents, CENTS, CENTS * top, column)
-    if found.after:
-        wide = letters.extent(found.after, True).width * CURRENCY
-        end = max(end, put(found.after, CURRENCY, top, max(column, end - wide)))
-    return Raised(tuple(placed), end)
+    if before:
+        wide = before * CURRENCY
+        parts.append(Part(*spans[0], CURRENCY, 0.0, wide, CURRENCY * top))
+        end = wide + BETWEEN
+    parts.append(Part(*spans[1], 1.0, end, whole, top))
+    column = end + whole + BETWEEN
+    parts.append(Part(*spans[2], CENTS, column, cents * CENTS, CENTS * top))
+    end = column + cents * CENTS
+    if after:
+        wide = after * CURRENCY
+        left = max(column, end - wide)
+        parts.append(Part(*spans[3], CURRENCY, left, wide, top))
+        end = max(end, left + wide)
+    return Raised(tuple(parts), end)
 
 
 def letters_of(style: str, price: str, letters: Letters) -> Letters:
@@ -111,11 +123,23 @@ def letters_of(style: str, price: str, letters: Letters) -> Letters:
     return letters.of(price, style.startswith("narrow"))
 
 
-def price_widths(price: str, letters: Letters) -> list[float]:
-    """Returns the widths of a price in all styles."""
+def price_extent(price: str, letters: Letters) -> PriceExtent:
+    """Returns what a price takes in each style."""
+    return shape_extent(shape_of(price, letters), letters)
+
+
+@lru_cache(KEPT)
+def shape_extent(shape: str, letters: Letters) -> PriceExtent:
+    """Returns what prices of a shape take in each style."""
     widths = []
     for style in PRICE_STYLES:
-        own = letters_of(style, price, letters)
-        found = raised(price, own) if style.endswith("raised") else None
-        widths.append(found.width if found else own.extent(price, True).width)
-    return widths
+        own = letters_of(style, shape, letters)
+        found = raised(shape, own) if style.endswith("raised") else None
+        widths.append(rounded_up(found.width if found else own.width(shape, True)))
+    height = letters.of(shape).extent(shape, True).height
+    return PriceExtent(rounded_up(height), tuple(widths))
+
+
+def rounded_up(width: float) -> float:
+    """Returns a width rounded up, so that there are few different ones."""
+    return math.ceil(width * ROUNDED_PRICE) / ROUNDED_PRICE

@@ -67,6 +67,7 @@ class PrintOptions:
     module: float | None = None
     note: str = ""
     font: str = FONT
+    has_raised_cents: bool = True
     first: int = 1
     only: Selection = Selection()
     after: int = 0
@@ -134,7 +135,8 @@ def planned(options: PrintOptions) -> Job:
     if edges is None:
         edge = 0.0 if sheet.is_single else EDGE
         edges = edge, edge, edge, edge
-    wishes = (options.module, options.turn, options.paper is not None)
+    is_roll = options.paper is not None
+    wishes = (options.module, options.turn, is_roll, options.has_raised_cents)
     if is_file(options.design):
         white = unprinted_edges(sheet, edges)
         design: Design = SvgLabels(read_design(options.design, sheet.cell, white, options.turn))
