@@ -1,6 +1,7 @@
 # The one door: `make` lists what can be made. PREFIX and DESTDIR are as everywhere. LABELS and PROVED name a program
 # and a static library that are proved already; without them `rt` of the Rattle kit makes them, for every amd64 processor.
-# PROVED_ARM64 names such a library for arm64. The program is for amd64 alone: the kit links no other one.
+# PROVED_ARM64 names such a library for arm64. The program is for amd64 alone: the kit links no other one. Packages are
+# made for ARCHITECTURES; without arm64 among them nothing of it is needed, as by `make release ARCHITECTURES=amd64`.
 MAKEFLAGS += --no-builtin-rules
 PREFIX ?= /usr/local
 DATADIR = $(PREFIX)/share
@@ -8,11 +9,17 @@ LIBDIR ?= $(PREFIX)/lib
 PYTHONDIR ?= $(LIBDIR)/python3/dist-packages
 ZSHDIR ?= $(DATADIR)/zsh/site-functions
 CPU ?= x86-64
+ARCHITECTURES ?= amd64 arm64
 # make cuts names at spaces, and it or the shell takes these signs for its own: files would not be found.
 ODD := " \# $$ % & ' ( ) * : ; < = > ? [ \ ] ^ ` { | } !
 refused = $(error make cannot handle the $(1) in $(if $(filter CURDIR,$(2)),the name of this folder,$(2)): $($(2)))
 $(foreach name,CURDIR PREFIX DESTDIR,$(if $(word 2,$($(name))),$(call refused,space,$(name)))$(foreach sign,$(ODD),\
     $(if $(findstring $(sign),$($(name))),$(call refused,$(sign),$(name)))))
+$(if $(filter-out amd64 arm64,$(ARCHITECTURES)),$(error ARCHITECTURES is $(ARCHITECTURES): it has to be amd64, or \
+    amd64 and arm64))
+$(if $(filter amd64,$(ARCHITECTURES)),,$(error ARCHITECTURES lacks amd64, which all packages but those of the library \
+    are for))
+with_arm64 = $(if $(filter arm64,$(ARCHITECTURES)),$(1))
 LABELS ?= out/labels
 PROVED ?= out/liblabels_c.a
 PROVED_ARM64 ?= out/arm64/liblabels_c.a
@@ -39,6 +46,7 @@ help:
 	@echo 'make library   only the C library, in out/lib/'
 	@echo 'make deb       the Debian packages of what is committed, for amd64 and arm64, in out/deb/'
 	@echo 'make release   the same with the source and checksums, as an apt repository, in out/release/'
+	@echo '               (both only for amd64, with nothing of arm64: ARCHITECTURES=amd64)'
 	@echo 'make deb-test  tries the packages in a fresh Debian, as root'
 	@echo 'make install | uninstall [PREFIX=$(PREFIX)] [DESTDIR=]'
 
@@ -53,21 +61,23 @@ all: $(LABELS) library
 library: $(PROVED)
 	$(call library,all)
 
-# Stops where there is no compiler.
-needs_rt = command -v rt > /dev/null || { echo 'rt of the Rattle kit is not on the path: or name proved files, \
-make LABELS=PROGRAM PROVED=LIBRARY.a' >&2; exit 1; }
+# Stops where there is no compiler, and says what does without.
+needs_rt = command -v rt > /dev/null || { echo 'rt of the Rattle kit is not on the path. Or $(1)' >&2; exit 1; }
+with_files = name proved files: make LABELS=PROGRAM PROVED=LIBRARY.a
+with_file_of_arm64 = name a proved library for arm64: make PROVED_ARM64=LIBRARY.a. Or do without: make \
+    ARCHITECTURES=amd64
 
 out/labels: $(SOURCES)
-	@$(needs_rt)
+	@$(call needs_rt,$(with_files))
 	cd crates/labels && rt run --cpu $(CPU) < /dev/null
 	install -D crates/labels/out/labels $@
 out/liblabels_c.a: $(SOURCES) | $(LABELS)
-	@$(needs_rt)
+	@$(call needs_rt,$(with_files))
 	cd crates/labels_c && rt lib --cpu $(CPU)
 	install -D -m 644 crates/labels_c/out/liblabels_c.a $@
 # rt has one name for the libraries of both processors: that for amd64 is put back.
 out/arm64/liblabels_c.a: $(SOURCES)
-	@$(needs_rt)
+	@$(call needs_rt,$(with_file_of_arm64))
 	set -e; cd crates/labels_c; kept=out/amd64.a; [ ! -e out/liblabels_c.a ] || mv out/liblabels_c.a $$kept; \
 	    trap '[ ! -e $$kept ] || mv $$kept out/liblabels_c.a' EXIT; rt lib --target aarch64-unknown-linux-gnu; \
 	    install -D -m 644 out/liblabels_c.a $(CURDIR)/$@
@@ -120,12 +130,13 @@ debian/changelog:
 
 # What is committed, built in a copy. The packages are those of the commit, byte for byte. What a build for arm64 needs
 # is that of amd64 and gcc-aarch64-linux-gnu: -d, since Debian would ask for compilers of other languages too.
-deb: $(LABELS) $(PROVED) $(PROVED_ARM64)
+deb: $(LABELS) $(PROVED) $(call with_arm64,$(PROVED_ARM64))
 	rm -rf out/deb && mkdir -p out/deb/source
 	git archive HEAD | tar -x -C out/deb/source
 	debian/changelog.py > out/deb/source/debian/changelog
 	cd out/deb/source && MAKEFLAGS= LABELS=$(abspath $(LABELS)) PROVED=$(abspath $(PROVED)) dpkg-buildpackage -b -us -uc
-	cd out/deb/source && MAKEFLAGS= PROVED=$(abspath $(PROVED_ARM64)) dpkg-buildpackage -B -aarm64 -d -us -uc
+	$(call with_arm64,cd out/deb/source && MAKEFLAGS= PROVED=$(abspath $(PROVED_ARM64)) \
+	    dpkg-buildpackage -B -aarm64 -d -us -uc)
 	ls out/deb/*.deb
 
 # What is given away, of what is committed: the packages, their source, an apt repository of both, the sums of all.

@@ -1,6 +1,10 @@
-"""Draws labels one after another by one process of labels(1)."""
+"""Draws the lines that are its arguments, one after another, by one process of labels(1).
+
+python3 client.py 'ean13 400638133393' 'qr HELLO' > codes.pbm
+"""
 
 import subprocess
+import sys
 from types import TracebackType
 
 
@@ -42,3 +46,25 @@ class Labels:
         width, height = map(int, size.split())
         # A row has its pixels, and a line end after each 70 of them and after the last one.
         return head + size + self.process.stdout.read(height * (width + (width + 69) // 70))
+
+
+def main(lines: list[str]) -> int:
+    """Writes the picture of each line, or its message to standard error. Returns 1 if a line is refused, 2 if `labels`
+    has ended.
+    """
+    status = 0
+    with Labels() as labels:
+        for line in lines:
+            try:
+                sys.stdout.buffer.write(labels.draw(line.encode()))
+            except ValueError as why:
+                print(why, file=sys.stderr)
+                status = 1
+            except (EOFError, BrokenPipeError):
+                print("labels has ended", file=sys.stderr)
+                return 2
+    return status
+
+
+if __name__ == "__main__":
+    sys.exit(main(sys.argv[1:]))

@@ -9,6 +9,7 @@ from pathlib import Path
 from support import LIB, LIBDIR, PROGRAM, PYTHON, PYTHONDIR, WithLibrary, run, text_of
 
 METADATA = f"{PYTHONDIR}/liblabels-1.2.0.dist-info/METADATA"
+WHEEL = "usr/share/python-wheels/liblabels-1.2.0-py3-none-any.whl"
 FILES = {
     "usr/include/labels.ffi.h",
     "usr/include/labels.h",
@@ -20,11 +21,13 @@ FILES = {
     f"{PYTHONDIR}/liblabels/__init__.py",
     f"{PYTHONDIR}/liblabels/__main__.py",
     f"{PYTHONDIR}/liblabels/_binding.py",
-    f"{PYTHONDIR}/liblabels/_digits.py",
+    f"{PYTHONDIR}/liblabels/_glyphs.py",
+    f"{PYTHONDIR}/liblabels/_layout.py",
     f"{PYTHONDIR}/liblabels/_pictures.py",
     f"{PYTHONDIR}/liblabels/_reading.py",
     f"{PYTHONDIR}/liblabels/py.typed",
     METADATA,
+    WHEEL,
     "usr/share/man/man3/labels.3",
 }
 LAST = "const char *labels_version(void) { return LABELS_VERSION; }"
@@ -82,6 +85,23 @@ class Built(WithLibrary):
         found = {str(path.relative_to(root)) for path in root.rglob("*") if not path.is_dir()}
         self.assertEqual(found, FILES)
         self.assertEqual((root / LIBDIR / "liblabels.so").resolve(), (root / LIBDIR / "liblabels.so.1.2.0").resolve())
+
+    def test_other_archives_are_refused(self) -> None:
+        """PROVED is the library of the proved calls: no installed one, none for another processor, no other file."""
+        folder = Path(tempfile.mkdtemp(dir=self.library.folder))
+        self.run_ok("aarch64-linux-gnu-gcc", f"-I{LIB}", "-c", LIB / "labels.c", "-o", folder / "labels.o")
+        self.run_ok("ar", "rcs", folder / "arm64.a", folder / "labels.o")
+        for proved, said in (
+            (self.library.libdir / "liblabels.a", "lacks the call labels_proved_bitmap, as an installed liblabels.a"),
+            (folder / "arm64.a", "is for another processor"),
+            (LIB / "labels.h", "is not an archive"),
+        ):
+            with self.subTest(said):
+                made = run("make", "-s", "-C", LIB, f"PROVED={proved}", f"OUT={folder / 'out'}", "all")
+                self.assertEqual(made.returncode, 2)
+                first, *_ = made.stderr.decode().splitlines()
+                self.assertEqual(first.partition(said)[0], f"PROVED={proved} ")
+                self.assertIn("liblabels_c.a that `rt lib` makes in crates/labels_c", first)
 
     def test_one_version(self) -> None:
         code = "import liblabels as it; print(it.version(), it.__version__, version('liblabels'))"

@@ -25,6 +25,42 @@ for wrong in (None, 3, ["a"]):
         continue
     raise AssertionError(wrong)
 """
+# What a table has that pandas has read without dtype=str: of numpy and of Python, and as text.
+FROM_PANDAS = """
+import liblabels, numpy, pickle
+for wrong, said in (
+    (4006381333931, "not int: pandas reads a table without losing digits with dtype=str"),
+    (numpy.int64(36000291452), "not int64: pandas reads a table without losing digits with dtype=str"),
+    (4006381333931.0, "not float: pandas reads a table without losing digits with dtype=str"),
+    (numpy.float64(73513537), "not float64: pandas reads a table without losing digits with dtype=str"),
+    (float("nan"), "not nan, an empty cell in pandas: skip such rows, and read the table with dtype=str"),
+    (None, "not NoneType"),
+):
+    try:
+        liblabels.symbol("ean13", wrong)
+    except TypeError as why:
+        assert str(why) == f"data has to be str or bytes, {said}", why
+    else:
+        raise AssertionError(wrong)
+def notes_of(call, *given):
+    try:
+        call(*given)
+    except liblabels.Refused as why:
+        assert str(why).startswith("not a digit at byte "), why
+        assert getattr(pickle.loads(pickle.dumps(why)), "__notes__", []) == getattr(why, "__notes__", [])
+        return getattr(why, "__notes__", [])
+    raise AssertionError(given)
+CURE = ["this looks like a number of pandas: read the table with dtype=str"]
+for call, *given in (
+    (liblabels.symbol, "ean13", "4006381333931.0"),
+    (liblabels.bitmap, "ean8", "nan"),
+    (liblabels.line, "upca 36000291452.0"),
+    (liblabels.draw_line, "ean13,height=3 nan"),
+):
+    assert notes_of(call, *given) == CURE, given
+for data in ("40063813339x", "4006381333931.50", "banan"):
+    assert notes_of(liblabels.symbol, "ean13", data) == [], data
+"""
 PICKLED = """
 import liblabels, pickle
 try:
@@ -91,6 +127,10 @@ class Callers(WithLibrary):
         for right, wrong in (("bytes(memoryview(data))", "data"), ("str.encode(data)", "data.encode()")):
             module = self.library.changed(("python/liblabels/_binding.py", right, wrong)) / "python"
             self.assert_fails(*self.with_module(module), "-c", BYTES)
+
+    def test_numbers_of_pandas(self) -> None:
+        """A message names what keeps the digits: of a number, an empty cell, and of their texts."""
+        self.run_ok(PYTHON, "-c", FROM_PANDAS)
 
     def test_first_room(self) -> None:
         self.run_ok(PYTHON, "-c", ROOMS)

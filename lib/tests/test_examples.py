@@ -153,32 +153,15 @@ class Clients(WithLibrary):
         return f"{folder}:{os.environ['PATH']}"
 
     def test_python(self) -> None:
-        code = f"""
-import sys
-sys.path.insert(0, {str(EXAMPLES)!r})
-import client
-bad, good = {self.bad!r}, {self.good!r}
-with client.Labels() as labels:
-    for line in [*bad, *good]:
-        try:
-            sys.stdout.buffer.write(labels.draw(line.encode()))
-        except ValueError as why:
-            print(why, file=sys.stderr)
-"""
-        script = self.library.folder / "script.py"
-        script.write_text(code, encoding="utf-8")
-        done = run(PYTHON, script, environment=self.library.environment)
+        done = run(PYTHON, EXAMPLES / "client.py", *self.bad, *self.good, environment=self.library.environment)
         self.assertEqual(done.stderr.decode().splitlines(), list(self.messages))
+        self.assertEqual(done.returncode, 1)
         self.assertTrue(done.stdout == self.pictures, "other pictures")
 
     def test_python_sees_the_end(self) -> None:
-        code = (
-            f"import sys; sys.path.insert(0, {str(EXAMPLES)!r}); import client\n"
-            "labels = client.Labels()\nlabels.draw(b'ean8 7351353')\n"
-            "try:\n    labels.draw(b'ean8 7351353')\nexcept (EOFError, BrokenPipeError):\n    print('ended')\n"
-        )
-        done = run(PYTHON, "-c", code, environment={**self.library.environment, "PATH": self.ended_program()})
-        self.assertEqual(done.stdout.split(b"\n")[0], b"ended", text_of(done))
+        environment = {**self.library.environment, "PATH": self.ended_program()}
+        done = run(PYTHON, EXAMPLES / "client.py", *["ean8 7351353"] * 9, environment=environment)
+        self.assertEqual((done.returncode, done.stderr), (2, b"labels has ended\n"))
 
     def client_in_c(self) -> Path:
         program = self.library.folder / "client"

@@ -13,7 +13,7 @@ LINES = 1000
 TESTS = LIB / "tests"
 DOCSTRINGS = """
 import doctest, liblabels, sys
-for module in (liblabels, liblabels._pictures, liblabels._reading):
+for module in (liblabels, liblabels._layout, liblabels._pictures, liblabels._reading):
     failed, tried = doctest.testmod(module)
     if failed or not tried:
         sys.exit(1)
@@ -33,9 +33,9 @@ light = numpy.array(framed)
 assert (numpy.array(image) == ~array).all() and (light[4:-4, 4:-4] == ~array).all()
 assert light[:4].all() and light[-4:].all() and light[:, :4].all() and light[:, -4:].all()
 """
-# What `save` and the module as a program write, in the folder that it runs in.
-WRITTEN = """
-import liblabels, pathlib, subprocess, sys
+# What `save` writes into files, by name and open ones, in the folder that it runs in; and data URIs.
+SAVED = """
+import base64, io, liblabels, pathlib
 symbol = liblabels.symbol("qr", "gr\u00fcn", level="H")
 symbol.save("code.png", scale=3, dpi=300)
 symbol.save(pathlib.Path("code.SVG"), module=0.5, unit="mm")
@@ -48,8 +48,49 @@ for name in ("code", "code.jpg", "png"):
         assert name in str(why) and not pathlib.Path(name).exists()
     else:
         raise AssertionError(name)
-def program(*words):
-    return subprocess.run([sys.executable, "-m", "liblabels", *words], capture_output=True)
+def into(file, kind=None, **options):
+    symbol.save(file, kind, **options)
+    return file.getvalue()
+assert into(io.BytesIO(), "png", scale=3) == symbol.png(3)
+assert into(io.BytesIO(), "SVG", module=2).decode() == into(io.StringIO(), "svg", module=2) == symbol.svg(2)
+with open("named.png", "wb") as file:
+    symbol.save(file)
+symbol.save("as-svg.png", kind="svg")
+assert pathlib.Path("named.png").read_bytes() == symbol.png()
+assert pathlib.Path("as-svg.png").read_text() == symbol.svg()
+for file, kind, said in (
+    (io.BytesIO(), None, "kind='png' or kind='svg'"),
+    (io.BytesIO(), "gif", "unknown kind 'gif': one of png, svg"),
+    (io.StringIO(), "png", "mode 'wb'"),
+    (3, None, "kind='png' or kind='svg'"),
+):
+    try:
+        symbol.save(file, kind)
+    except ValueError as why:
+        assert said in str(why), why
+        assert file == 3 or not file.getvalue()
+    else:
+        raise AssertionError(said)
+for kind, head, picture in (
+    ("png", "data:image/png;base64,", symbol.png(5)),
+    ("svg", "data:image/svg+xml;base64,", symbol.svg(light="white").encode()),
+):
+    options = {"scale": 5} if kind == "png" else {"light": "white"}
+    uri = symbol.data_uri(kind, **options)
+    assert uri.startswith(head) and base64.b64decode(uri.removeprefix(head), validate=True) == picture
+"""
+# The module as a program.
+PROGRAM_OF_MODULE = """
+import liblabels, os, pathlib, subprocess, sys
+def program(*words, given=None, output=subprocess.PIPE):
+    command = [sys.executable, "-m", "liblabels", *words]
+    return subprocess.run(command, input=given, stdout=output, stderr=subprocess.PIPE)
+"""
+# What it writes to standard output, and how it refuses.
+WRITTEN = (
+    PROGRAM_OF_MODULE
+    + """
+symbol = liblabels.symbol("qr", "gr\u00fcn", level="H")
 for words, picture in (
     ("--level H --scale 3 --dpi 300", symbol.png(3, 300)),
     ("--level H", symbol.png(4)),
@@ -62,11 +103,59 @@ number = liblabels.symbol("ean8", "7351353", height=9)
 assert program("ean8", "7351353", "--height", "9").stdout == number.png(4)
 assert program("ean8", "7351353", *"--height 9 --svg --digits".split()).stdout == number.svg(digits=True).encode()
 assert program("ean8", "7351353", *"--height 9 --digits".split()).stdout == number.png(4, digits=True)
-WRONG = (("ean13 4006381333930", b"check digit is 0"), ("qr x --scale 101", b"scale is 101"), ("pdf x", b"choice"))
-for words, said in WRONG:
+for words, status, said in (
+    ("ean13 4006381333930", 1, b"4006381333930: check digit is 0, should be 1"),
+    ("qr x --scale 101", 2, b"scale is 101"),
+    ("qr x --digits", 2, b"QR code has no text"),
+    ("pdf x", 2, b"choice"),
+    ("qr", 2, b"give DATA, or -i FILE"),
+    ("qr x -i numbers", 2, b"give DATA, or -i FILE"),
+    ("qr x y", 2, b"more than one picture needs -o NAME"),
+    ("qr x -o code.gif", 2, b"has to end with .svg or .png: code.gif"),
+    ("qr x y -o code.png", 2, b"two pictures would be the file code.png: put %d into the name"),
+    ("qr -i no-such-file", 3, b"no-such-file: No such file or directory"),
+    ("qr x -o /dev/full/code.png", 3, b"/dev/full"),
+):
     done = program(*words.split())
-    assert (done.returncode, done.stdout) == (2, b"") and said in done.stderr, done
+    assert (done.returncode, done.stdout) == (status, b"") and said in done.stderr, done
+    assert b"Traceback" not in done.stderr and not pathlib.Path("new").exists(), done
+with open("/dev/full", "wb") as full:
+    done = program("qr", "x", output=full)
+no_space = b"python3 -m liblabels: standard output: No space left on device\\n"
+assert (done.returncode, done.stderr) == (3, no_space), done
+# A reader that has seen enough ends it without a word.
+command = f"{sys.executable} -m liblabels code128 --scale 100 --height 500 {80 * 'x'} | head -c 1"
+assert subprocess.run(command, shell=True, capture_output=True).stderr == b""
 """
+)
+# Many files by one process, named after the data; a line that is refused is named, and the others are written.
+MANY_WRITTEN = (
+    PROGRAM_OF_MODULE
+    + """
+done = program("code128", "--digits", "-o", "codes/%s.png", "LOT/1", "-x-", ".a")
+assert done.returncode == 2 and not pathlib.Path("codes").exists(), done  # -x- is an option
+done = program("code128", "--digits", "-o", "codes/%s.png", "--", "LOT/1", "-x-", ".a")
+assert (done.returncode, done.stdout, done.stderr) == (0, b"", b""), done
+assert sorted(os.listdir("codes")) == ["LOT_1.png", "_a.png", "_x-.png"]
+code = liblabels.symbol("code128", "LOT/1")
+assert pathlib.Path("codes/LOT_1.png").read_bytes() == code.png(4, digits=True)
+for data in (("x/y", "x?y"), ("A", "a")):
+    done = program("qr", "-o", "new/%s.png", *data)
+    assert done.returncode == 2 and not pathlib.Path("new").exists(), done
+numbers = b"4006381333931\\r\\n\\n4006381333930\\n400638133393\\r\\n4006381333931"
+pathlib.Path("numbers").write_bytes(b"\\xef\\xbb\\xbf" + numbers)
+for name, words, given in (("file", "numbers", None), ("pipe", "-", pathlib.Path("numbers").read_bytes())):
+    done = program("ean13", "--output", f"{name}-%03d.svg", "--input", words, given=given)
+    assert (done.returncode, done.stderr) == (1, b"line 3: check digit is 0, should be 1\\n"), done
+    files = sorted(str(file) for file in pathlib.Path(".").glob(f"{name}-*.svg"))
+    assert files == [f"{name}-{number}.svg" for number in ("001", "004", "005")], files
+    number = liblabels.symbol("ean13", "4006381333931")
+    assert {pathlib.Path(file).read_text() for file in files} == {number.svg()}
+done = program("ean13", "--digits", "-o", "%s.svg", "-i", "numbers")
+assert not pathlib.Path("400638133393.svg").exists()
+assert pathlib.Path("4006381333931.svg").read_text() == number.svg(digits=True)
+"""
+)
 WRONG_OPTIONS = """
 import liblabels
 for bad in ({"height": 501}, {"level": "X"}, {"mask": 8}, {"height": -1}, {"min_version": 2**40}, {"min_version": 0}):
@@ -172,6 +261,13 @@ def names_of_codes() -> list[str]:
     return re.findall(r"^ +(LABELS_\w+)", enum, re.M)
 
 
+# The version as pip knows it, of the module and of the library, and where the module is.
+VERSIONS = """
+import importlib.metadata, liblabels
+print(importlib.metadata.version("liblabels"), liblabels.__version__, liblabels.version(), liblabels.__file__)
+"""
+
+
 class Module(WithLibrary):
     def test_types(self) -> None:
         mypy = (*MYPY, "--cache-dir", self.library.folder / "mypy")
@@ -204,24 +300,56 @@ class Module(WithLibrary):
         self.assert_fails(PYTHON, "-c", WITH_LIBRARIES.replace("1;I", "1"))
 
     def test_what_is_written(self) -> None:
-        folder = ("env", "-C", tempfile.mkdtemp(dir=self.library.folder))
-        self.run_ok(*folder, PYTHON, "-c", WRITTEN)
-        for old, new in (('== ".svg"', '== ".jpg"'), ("self.png(**options)", "self.png()")):
-            with_module = self.with_module(self.wrong_module(old, new))
-            self.assert_fails(*folder, *with_module, "-c", WRITTEN)
+        self.run_ok(*self.in_new_folder(), PYTHON, "-c", WRITTEN)
+        old = "signal.signal(signal.SIGPIPE, signal.SIG_DFL)"
+        module = self.library.changed(("python/liblabels/__main__.py", old, "pass")) / "python"
+        self.assert_fails(*self.in_new_folder(), *self.with_module(module), "-c", WRITTEN)
+
+    def test_many_files(self) -> None:
+        self.run_ok(*self.in_new_folder(), PYTHON, "-c", MANY_WRITTEN)
+        for old, new in (
+            ("[^\\w.-]|^[.-]", "/"),
+            ("!= code.data", "== b''"),
+            ('removesuffix(b"\\r")', "removesuffix(b'')"),
+            ("removeprefix(_BYTE_ORDER_MARK)", "removeprefix(b'')"),
+            ("else REFUSED", "else 0"),
+        ):
+            with self.subTest(old):
+                module = self.library.changed(("python/liblabels/__main__.py", old, new)) / "python"
+                self.assert_fails(*self.in_new_folder(), *self.with_module(module), "-c", MANY_WRITTEN)
+
+    def in_new_folder(self) -> tuple[str, ...]:
+        return ("env", "-C", tempfile.mkdtemp(dir=self.library.folder))
+
+    def test_what_is_saved(self) -> None:
+        self.run_ok(*self.in_new_folder(), PYTHON, "-c", SAVED)
+        for old, new in (
+            ("self.png(**options)", "self.png()"),
+            ("kind or _kind_of(file)", "_kind_of(file)"),
+            ("file.write(picture.decode())", "file.write(str(picture))"),
+            ('"image/svg+xml"', '"image/svg"'),
+        ):
+            with self.subTest(new):
+                with_module = self.with_module(self.wrong_module(old, new))
+                self.assert_fails(*self.in_new_folder(), *with_module, "-c", SAVED)
 
     def test_installed_by_pip(self) -> None:
-        """The same files as `make install` puts there, and the same version."""
-        folder = Path(tempfile.mkdtemp(dir=self.library.folder))
-        pip = (PYTHON, "-m", "pip", "install", "--quiet", "--no-index", "--no-build-isolation", "--no-compile")
-        self.run_ok(*pip, "--target", folder, self.library.changed() / "python")
-        for ours in (self.library.root / PYTHONDIR / "liblabels").iterdir():
-            self.assertEqual((folder / "liblabels" / ours.name).read_bytes(), ours.read_bytes(), ours.name)
-        program = (
-            "import importlib.metadata, liblabels; print(importlib.metadata.version('liblabels'), liblabels.version())"
-        )
-        made, *others = self.run_ok(*self.with_module(folder), "-c", program).split()
-        self.assertEqual([made], others)
+        """In an environment that has nothing but Python, without a network: from the source and from the wheel come
+        the same files as `make install` puts there, and the same version."""
+        [wheel] = (self.library.root / "usr/share/python-wheels").iterdir()
+        for given in (self.library.changed() / "python", wheel):
+            with self.subTest(given.name):
+                folder = Path(tempfile.mkdtemp(dir=self.library.folder))
+                self.run_ok(PYTHON, "-m", "venv", "--without-pip", folder)
+                python = folder / "bin/python"
+                pip = (PYTHON, "-m", "pip", "--python", python, "install", "--quiet", "--no-index", "--no-compile")
+                self.run_ok("env", "-u", "PYTHONPATH", *pip, given)
+                [packages] = folder.glob("lib/python*/site-packages")
+                for ours in (self.library.root / PYTHONDIR / "liblabels").iterdir():
+                    self.assertEqual((packages / "liblabels" / ours.name).read_bytes(), ours.read_bytes(), ours.name)
+                said = self.run_ok("env", "-u", "PYTHONPATH", python, "-c", VERSIONS).decode().split()
+                self.assertEqual(said[:2], [said[1], said[2]])
+                self.assertTrue(Path(said[3]).is_relative_to(folder), said)
 
     def test_wrong_arguments(self) -> None:
         self.run_ok(PYTHON, "-c", WRONG_OPTIONS)

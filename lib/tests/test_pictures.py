@@ -96,19 +96,32 @@ for line, (name, data) in LINES.items():
 """
 )
 # The digits of EAN and UPC below: each group in the middle of its bars, below them and within the picture; only the
-# guard bars are longer. Other symbols are as without.
+# guard bars are longer. The text of Code 128 is below it, whatever its characters, and QR has none.
 DIGITS = (
     LINES
     + """
 import liblabels, re, subprocess
+from xml.etree import ElementTree
 BAR = re.compile(r"M(\\d+) (\\d+)h(\\d+)v(\\d+)h")
 TEXT = re.compile(r'<text x="([\\d.]+)" y="(\\d+)">(\\d+)</text>')
+def text_of(symbol):
+    root = ElementTree.fromstring(symbol.svg(digits=True))
+    return root, [(element.get("x"), int(element.get("y")), element.text) for element in root[-1]]
 for line, (name, data) in LINES.items():
     symbol = liblabels.line(line)
-    plain, svg = symbol.svg(4), symbol.svg(4, digits=True)
     of = liblabels.layout(symbol.symbology)
-    assert (plain == svg) == (not of.digits), line
-    assert "".join(text for _, _, text in TEXT.findall(svg)) == (data if of.digits else "")
+    if name == "QRCode":
+        try:
+            symbol.svg(4, digits=True)
+        except ValueError as why:
+            assert "QR code has no text" in str(why)
+            continue
+        raise AssertionError(line)
+    plain, svg = symbol.svg(4), symbol.svg(4, digits=True)
+    assert "".join(text for _, _, text in text_of(symbol)[1]) == data
+    if name == "Code128":
+        assert [(float(middle), foot) for middle, foot, _ in text_of(symbol)[1]] == [(symbol.size()[0] / 2, 39)]
+        continue
     for (middle, foot, text), (first, last, begin, end) in zip(TEXT.findall(svg), of.digits, strict=True):
         assert (float(middle), text) == ((begin + end) / 2, data[first:last])
         assert f'height="{4 * (int(foot) + 1)}"' in svg and int(foot) > symbol.height + 5
@@ -118,8 +131,16 @@ for line, (name, data) in LINES.items():
     drawn = subprocess.run(["rsvg-convert", "-b", "white"], input=svg.encode(), capture_output=True, check=True).stdout
     words = ["zbarimg", "-q", "--raw", "-Supca.enable", "-"]
     assert data in subprocess.run(words, input=drawn, capture_output=True).stdout.decode(), line
+strange = r"a  b<&>'\\x22\\x01\\x7f"
+root, [(_, _, text)] = text_of(liblabels.line("code128 " + strange, escapes=True))
+assert text == "a  b<&>'\\"\\u2401\\u2421"
+assert root[-1].get("{http://www.w3.org/XML/1998/namespace}space") == "preserve"
+long = liblabels.symbol("code128", "0123456789" * 8)
+root, lines = text_of(long)
+assert [text for _, _, text in lines] == ["0123456789" * 4] * 2 and [foot for _, foot, _ in lines] == [59, 69]
+assert root.get("height") == "70"
 try:
-    symbol.svg(quiet_zones=False, digits=True)
+    long.svg(quiet_zones=False, digits=True)
 except ValueError as why:
     assert "quiet_zones" in str(why)
 else:
@@ -147,11 +168,10 @@ for line, (name, data) in LINES.items():
     symbol = liblabels.line(line)
     of = liblabels.layout(symbol.symbology)
     for scale in (2, 5, 11):
+        if not of.digits:
+            continue
         plain, png = dark_of(symbol.png(scale)), symbol.png(scale, digits=True)
         dark = dark_of(png)
-        if not of.digits:
-            assert numpy.array_equal(plain, dark), line
-            continue
         height, width = plain.shape
         assert dark.shape == (height + 10 * scale, width) and numpy.array_equal(dark[:height], plain)
         columns = numpy.arange(width) // scale
@@ -177,6 +197,60 @@ for line, (name, data) in LINES.items():
         assert data in subprocess.run(words, input=png, capture_output=True).stdout.decode(), (line, scale)
 """
 )
+# The text below Code 128 in PNG: bars are as without, each character is in the seven modules of its own, in lines of
+# ten modules, and has as many holes and pieces as it has in print. A zero among letters has a dot. A control character
+# is a frame.
+DRAWN_TEXT = """
+import io, liblabels, numpy
+from PIL import Image, ImageDraw
+ONE_HOLE = "ADOPQRabdegopq069#"
+TWO_PIECES = '!":;=?ij'
+OF_MANY_FORMS = "$%&@"
+def dark_of(png):
+    return ~numpy.array(Image.open(io.BytesIO(png)))
+def pieces_of(light):
+    image = Image.fromarray(numpy.pad(light, 1, constant_values=True).astype(numpy.uint8)).copy()
+    found = 0
+    while image.getbbox():
+        found += 1
+        ImageDraw.floodfill(image, tuple(map(int, numpy.argwhere(numpy.array(image).T == 1)[0])), 0)
+    return found
+def fields_of(data, scale, count):
+    symbol = liblabels.symbol("code128", data, height=9)
+    plain, dark = dark_of(symbol.png(scale)), dark_of(symbol.png(scale, digits=True))
+    height, width = plain.shape
+    assert numpy.array_equal(dark[:height], plain), data
+    below = dark[height:]
+    lines = [below[start : start + 10 * scale] for start in range(0, len(below), 10 * scale)]
+    assert len(lines) == count, data
+    for line, first in zip(lines, range(0, len(data), -(-len(data) // count))):
+        assert not line[:scale].any(), data
+        text = data[first : first + -(-len(data) // count)]
+        for place in range(len(text)):
+            left = (width - 7 * scale * len(text)) // 2 + place * 7 * scale
+            yield text[place], line[:, left : left + 7 * scale].copy()
+            line[:, left : left + 7 * scale] = False
+        assert not line.any(), data
+for scale in (4, 9):
+    forms = dict(fields_of(bytes(range(33, 90)).decode(), scale, 1))
+    forms |= dict(fields_of(bytes(range(90, 127)).decode(), scale, 1))
+    assert len({form.tobytes() for form in forms.values()}) == len(forms) == 94
+    for character, form in forms.items():
+        if character not in OF_MANY_FORMS:
+            holes = 2 if character in "8B" else int(character in ONE_HOLE)
+            light_parts = pieces_of(~form) - 1
+            assert light_parts == holes, (character, scale, light_parts)
+            pieces = pieces_of(numpy.pad(form, 1)) - 1
+            is_dotted = character == "0"
+            assert pieces == 1 + (character in TWO_PIECES or is_dotted), (character, scale, pieces)
+    assert not [form for character, form in fields_of("  ", scale, 1) if form.any()]
+    (_, only_digits), *_ = fields_of("00", scale, 1)
+    assert pieces_of(numpy.pad(only_digits, 1)) - 1 == 1
+    (_, control), (_, other), (_, letter) = fields_of("\\x01\\x7fa", scale, 1)
+    assert numpy.array_equal(control, other) and pieces_of(~control) == 2 and not numpy.array_equal(control, letter)
+    digits = dict(fields_of("0123456789" * 8, scale, 2))
+    assert all(numpy.array_equal(form, forms[digit]) for digit, form in digits.items() if digit != "0")
+"""
 # A scale that the module draws is one that the library draws, dot for dot, where it has both; a larger one is read.
 SCALES = (
     LINES
@@ -194,6 +268,13 @@ for line, (name, data) in LINES.items():
     assert symbol.png(40) == liblabels.bitmap_line(line, scale=40).png(), line
     words = ["zbarimg", "-q", "--raw", "-Supca.enable", "-"]
     assert data in subprocess.run(words, input=symbol.png(9), capture_output=True).stdout.decode(), line
+for call, given in ((liblabels.draw, ("qr", "x")), (liblabels.draw_line, ("qr x",))):
+    try:
+        call(*given, scale=9)
+    except ValueError as why:
+        assert "1 to 8 as labels(1) has it: png, save and bitmap take 100" in str(why), why
+    else:
+        raise AssertionError(call)
 for wrong in (0, 101):
     for call, given in ((liblabels.bitmap, ("qr", "x")), (liblabels.bitmap_line, ("qr x",))):
         try:
@@ -230,12 +311,17 @@ class Pictures(WithLibrary):
 
     def test_digits(self) -> None:
         self.run_ok(PYTHON, "-c", DIGITS)
-        for right, wrong in (
-            ("(begin + end) / 2", "begin"),
-            ("left + x in guard", "x in guard"),
-            ("5 * any", "4 * any"),
+        for file, right, wrong in (
+            ("_pictures.py", "(begin + end) / 2", "begin"),
+            ("_pictures.py", "html.escape(text.translate(_PICTURES_OF_CONTROLS))", "html.escape(text)"),
+            ("_pictures.py", ' xml:space="preserve"', ""),
+            ("_layout.py", "width // _glyphs.WIDTH", "width"),
+            ("__init__.py", "left + x in guard", "x in guard"),
+            ("__init__.py", "5 * any", "4 * any"),
         ):
-            self.assert_fails(*self.with_module(self.wrong_module(right, wrong)), "-c", DIGITS)
+            with self.subTest(right):
+                module = self.library.changed((f"python/liblabels/{file}", right, wrong)) / "python"
+                self.assert_fails(*self.with_module(module), "-c", DIGITS)
 
     def test_digits_drawn(self) -> None:
         self.run_ok(PYTHON, "-c", DRAWN_DIGITS)
@@ -243,11 +329,24 @@ class Pictures(WithLibrary):
             ("_pictures.py", "_LONGER = 5", "_LONGER = 4"),
             ("_pictures.py", "rows[-1] & guarded", "rows[-1]"),
             ("_pictures.py", "(begin + end -", "(begin + end + 2 -"),
-            ("_digits.py", "1.8, 3.2, 0, 360", "1.8, 3.2, 0, 270"),
-            ("_digits.py", "1.85, 1.7, 0, 360", "1.85, 1.7, 0, 270"),
+            ("_glyphs.py", "1.8, 3.2, 0, 360", "1.8, 3.2, 0, 270"),
+            ("_glyphs.py", "1.85, 1.7, 0, 360", "1.85, 1.7, 0, 270"),
         ):
             module = self.library.changed((f"python/liblabels/{file}", right, wrong)) / "python"
             self.assert_fails(*self.with_module(module), "-c", DRAWN_DIGITS)
+
+    def test_text_drawn(self) -> None:
+        self.run_ok(PYTHON, "-c", DRAWN_TEXT)
+        for file, right, wrong in (
+            ("_glyphs.py", '"e": "1555 ', '"e": "'),
+            ("_glyphs.py", '"i": "233338 2848 3030"', '"i": "233338 2848"'),
+            ("_glyphs.py", '(*_DIGITS[0], _stroke_of("3434"))', "_DIGITS[0]"),
+            ("_pictures.py", "has_letters and", "True and"),
+            ("_layout.py", "-(-len(text) // count)", "most"),
+        ):
+            with self.subTest(right):
+                module = self.library.changed((f"python/liblabels/{file}", right, wrong)) / "python"
+                self.assert_fails(*self.with_module(module), "-c", DRAWN_TEXT)
 
     def test_scales(self) -> None:
         self.run_ok(PYTHON, "-c", SCALES)

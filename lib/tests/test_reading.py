@@ -103,6 +103,35 @@ for ((symbology, data), full), scale in itertools.product(DRAWN.items(), (3, 8))
     assert mirrored == (None if symbology == "qr" else liblabels.Reading(symbology, scale, 2, full)), symbology
 """
 )
+# Bars with their digits or text below, as they are drawn, in each direction; and each dot of the smallest turned.
+WITH_TEXT = (
+    DRAWN
+    + """
+import io, numpy
+from PIL import Image
+del DRAWN["qr", "HELLO"], DRAWN["qr", "gr\\u00fcn"], DRAWN["qr", b"\\0\\n\\xff"]
+DRAWN["code128", b"a\\0 b\\x7f"] = b"a\\0 b\\x7f"
+for (symbology, data), full in DRAWN.items():
+    for scale, height in ((1, 1), (2, 50), (9, 3)):
+        png = liblabels.symbol(symbology, data, height=height).png(scale, digits=True)
+        light = numpy.array(Image.open(io.BytesIO(png)))
+        assert liblabels.read(png) == liblabels.Reading(symbology, scale, 0, full), (symbology, scale)
+        assert liblabels.read(symbology, png, scale) == full
+        for turns in (1, 2, 3):
+            turned = numpy.rot90(~light, turns)
+            assert liblabels.read(turned) == liblabels.Reading(symbology, scale, turns, full), (symbology, turns)
+        places = range(0, light.size, 1 if scale == 1 else 997)
+        for place in places:
+            light.flat[place] ^= True
+            assert liblabels.read(~light) is None, (symbology, scale, place)
+            light.flat[place] ^= True
+        for other in (light[:-1], light[: -10 * scale - 1], numpy.pad(light, ((0, 1), (0, 0)), constant_values=True)):
+            assert liblabels.read(~other) is None, (symbology, scale, other.shape)
+codes = [liblabels.symbol("ean8", data).png(2, digits=True) for data in ("7351353", "1234567")]
+first, second = (numpy.array(Image.open(io.BytesIO(png))) for png in codes)
+assert liblabels.read(~numpy.vstack([first[:100], second[100:]])) is None
+"""
+)
 WRONG = """
 import liblabels, numpy, pathlib
 from PIL import Image
@@ -151,6 +180,12 @@ MUTANTS = (
     (IMAGES, "_FIRST_LIGHT = 128", "_FIRST_LIGHT = 127"),
     (IMAGES, "height, width = array.shape", "width, height = array.shape"),
     (IMAGES, "return (width + 7) // 8", "return (width + 8) // 8"),
+    (WITH_TEXT, "below) == picture", "below).width == picture.width"),
+    (WITH_TEXT, "turned(bits, reading.turns), high", "turned(bits, 0), high"),
+    (WITH_TEXT, "width if reading.turns % 2 else height", "height"),
+    (WITH_TEXT, "yield 0, height - bottom, width, bottom", "pass"),
+    (WITH_TEXT, "yield 0, 0, left, height", "pass"),
+    (WITH_TEXT, "yield width - right, 0, right, height", "pass"),
     (WRONG, "digits.translate", "digits[:3].translate"),
     (WRONG, "1 in dots and not", "1 in dots and"),
 )
@@ -162,6 +197,9 @@ class Reading(WithLibrary):
 
     def test_images(self) -> None:
         self.run_ok(PYTHON, "-c", IMAGES)
+
+    def test_with_text(self) -> None:
+        self.run_ok(PYTHON, "-c", WITH_TEXT)
 
     def test_wrong_images(self) -> None:
         self.run_ok(PYTHON, "-c", WRONG)

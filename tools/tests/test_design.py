@@ -16,7 +16,9 @@ import numpy
 import designs
 import support
 from designs import CODE, dots_of, Label, reasons_of, said_of, texts_of
+from labeltools.common.budget import Share
 from labeltools.common.messages import Silence, ToolError
+from labeltools.common.text import Text
 from labeltools.designs import svg_page
 from labeltools.designs.svg_labels import SvgLabels
 from labeltools.designs.svg_layout import SvgLayout
@@ -30,7 +32,7 @@ ONE: Label = ("code128 A", {"title": "Title"})
 PICTURE = '<image x="2" y="2" width="5" height="5" href="data:image/{};base64,{}"/>' + CODE
 NOT_EMBEDDED = "is of another file, or is not PNG or JPEG; embed it"
 TO_PATHS = "export it as a picture, or with texts as paths"
-PIXELS = "pictures have more than 25 million pixels; make its pictures smaller"
+PIXELS = "takes too much, more than 25 million pixels in its pictures; make its pictures smaller"
 HIDDEN = "the place title is hidden, or has no size; give it a width and a height, and show its"
 
 
@@ -91,7 +93,10 @@ REFUSED = (
     ),
     (f"<flowRoot><flowPara>Door 2</flowPara></flowRoot>{CODE}", "flowRoot, flowPara cannot be dr"),
     ("<g>" * 100_000 + "</g>" * 100_000 + CODE, "is not SVG: "),
-    (f"<!--{'x' * 8_000_000}-->{CODE}", "has more than 8 MB; make its pictures smaller"),
+    (
+        f"<!--{'x' * 8_000_000}-->{CODE}",
+        "takes too much, more than 8 MB; make its pictures smaller",
+    ),
     (PICTURE.format("webp", "aGVsbG8="), f"image {NOT_EMBEDDED}"),
     (PICTURE.format("svg+xml", "PHN2Zy8+"), "an SVG is embedded as a picture; in Inkscape import"),
     (f'<image href="data:image/png,hello"/>{CODE}', f"image {NOT_EMBEDDED}"),
@@ -141,7 +146,7 @@ FILES = (
     (b'<?xml version="1.0" encoding="GB2312"?><svg>\xbb\xf5</svg>', "is not SVG: "),
     (b"\x1f\x8b\x08\x00" + bytes(9), "is not SVG: "),
     (gzip.compress(f"<svg {designs.SPACE}>".encode()), "is not SVG: no element found"),
-    (gzip.compress(bytes(9_000_000)), "has more than 8 MB; make its pictures smaller"),
+    (gzip.compress(bytes(9_000_000)), "takes too much, more than 8 MB; make its pictures smaller"),
 )
 
 
@@ -198,7 +203,7 @@ class Refused(OwnPages):
         with self.assertRaisesRegex(ToolError, r"seat is not a rectangle \(text\)"):
             self.found(body, [("code128 A", {"text": {"Seat": "7"}})])
 
-    @mock.patch.object(svg_page, "MOST_SECONDS", 1)
+    @mock.patch.object(svg_page, "PAGE_SECONDS", Share(1, Text("seconds")))
     def test_what_takes_too_long_or_too_much_memory(self) -> None:
         blur = '<filter id="f"><feGaussianBlur stdDeviation="{}"/></filter>'
         for by in (1, 2):  # threads of the first one stay, and are not waited for

@@ -5,6 +5,7 @@ import shlex
 import tempfile
 import unittest
 from dataclasses import replace
+from decimal import Decimal
 from pathlib import Path
 
 import fit_guess
@@ -755,6 +756,20 @@ NO_PRICES = (
 NUMBERS = (("30-11821", "30-11822", "77-40013"), ("KB-2001", "KB-2002", "KB-2003"))
 CODES = ("4006381333931", "9780306406157", "5901234123457")
 LOW, HIGH = ("1,20", "8,40", "2,05"), ("1,99", "12,49", "3,10")
+# names of a price that is advised, usual or old, and of the one that customers pay beside it
+DEARER = """\
+RRP;Sell MSRP;Price RRP;Price_inc_VAT List;Sell List_price;Price Old_price;Price Was;Now
+UVP;VK UVP;Verkaufspreis_brutto Listenpreis;Preis Alter_Preis;Neuer_Preis Statt;Preis Normalpreis;Preis
+Prix_conseillé;Prix PVC;Prix_TTC Prix_catalogue;Prix Ancien_prix;Nouveau_prix Prix_barré;Prix
+PVPR;PVP PVPR;Precio Precio_recomendado;Precio_de_venta Precio_anterior;Precio Antes;Ahora
+Prezzo_consigliato;Prezzo Listino;Prezzo_vendita Prezzo_di_listino;Prezzo Prezzo_pieno;Prezzo
+Adviesprijs;Prijs Adviesprijs;Verkoopprijs Oude_prijs;Nieuwe_prijs Catalogusprijs;Prijs Van;Voor
+Cena_sugerowana;Cena Cena_katalogowa;Cena Stara_cena;Nowa_cena Cena_regularna;Cena
+Rek._pris;Pris Ord._pris;Pris Tidigare_pris;Pris Riktpris;Försäljningspris Listpris;Pris
+""".split()
+OWN = ("8.00", "19.95", "3.99", "12.00")
+PERCENT_OFF = (5, 10, 15, 20, 25, 30, 33, 40, 50)
+PERCENT_MORE = (5, 10, 15, 20, 25)
 
 
 class Codes(unittest.TestCase):
@@ -989,6 +1004,18 @@ class Prices(unittest.TestCase):
             for other, dear in ((LOW, ("2,90", "19,90", "4,50")), (("1,23", "8,41", "2,06"), HIGH)):
                 found = guess([["EAN", *CODES], [sold, *other], [advised, *dear]], 1)
                 self.assertEqual(found.doubts, {"price": [1, 2]}, sold)
+
+    def test_no_discount_makes_a_dearer_price_the_one_that_customers_pay(self) -> None:
+        """20 % off are a factor of 1.25, which is a tax, too; 10 % on top are one of 1.10."""
+        factors = [100 / Decimal(100 - percent) for percent in PERCENT_OFF]
+        factors += [1 + Decimal(percent) / 100 for percent in PERCENT_MORE]
+        codes = ["EAN", *CODES, "96385074"]
+        for names, factor in itertools.product(DEARER, factors):
+            dearer, paid = names.replace("_", " ").split(";")
+            amounts = [str(round(factor * Decimal(amount), 2)) for amount in OWN]
+            found = guess([codes, [dearer, *amounts], [paid, *OWN]], 1)
+            self.assertNotEqual(found.columns.get("price"), 1, (names, factor))
+            self.assertIn(2, found.doubts.get("price", [2]), (names, factor))
 
     def test_what_has_the_amounts_of_another_price_with_a_tax_is_the_price(self) -> None:
         """Even where its name says that it is a sum; else that is one of several."""

@@ -196,11 +196,11 @@ class Sizes(unittest.TestCase):
             till = laid_out(filed(FULL), size, 600).labels[0].layout
             shelf = laid_out(filed(FULL), size, 600, design="shelf").labels[0].layout
             self.assertGreaterEqual(till.boxes["bars"].height, 0.35 * 95 * till.module, size)
-            prices = [
-                PRICE_STYLES[one.frame.price_style] * one.frame.sizes["price"]
-                for one in (shelf, till)
-            ]
-            self.assertGreaterEqual(*prices, size)
+            on_shelf, at_till = (
+                PRICE_STYLES[layout.frame.price_style] * layout.frame.sizes["price"]
+                for layout in (shelf, till)
+            )
+            self.assertGreaterEqual(on_shelf, at_till, size)
 
     def test_modules(self) -> None:
         """No module below 80 % of an EAN, 0.249 mm of it on a roll, or 0.25 mm of others."""

@@ -8,13 +8,12 @@ from unittest import mock
 
 import support
 from labeltools.commands import label_print, label_table
-from labeltools.common import report
-from labeltools.designs import svg_page
+from labeltools.common import budget, report
 from labeltools.layout import area, frame
 from labeltools.lines import file
 from labeltools.printing import job
 from labeltools.sending import network, outlets, stream
-from labeltools.sheets import csv_table, workbook
+from labeltools.sheets import workbook
 
 PAGES = sorted((support.TOP / "man").glob("label*.[15]"))
 TOOLS = sorted(path.name for path in support.TOOLS.glob("label-*"))
@@ -35,8 +34,8 @@ NUMBERS = (
     (r"waits (\d+) seconds for that", network.FAREWELL),
     (r"(a twentieth) of a second", {0.05: "a twentieth"}.get(network.REGRET)),
     (r"within (\d+) seconds if the FIFO", stream.LOOK),
-    (r"drawing that takes (\d+) seconds", svg_page.MOST_SECONDS),
-    (r"seconds or (\d+) MB", svg_page.MOST_MEMORY // 1_000_000),
+    (r"drawing that takes (\d+) seconds", budget.PAGE_SECONDS.most(0)),
+    (r"seconds or (\d+) MB", budget.PAGE_MEMORY.most(0) // budget.MILLION),
     (r"the smallest \(([\d.]+)\)", frame.LEAST_TEXT),
     (r"above 60 mm, at most ([\d.]+) mm", area.LARGEST_MODULE),
     (
@@ -44,8 +43,9 @@ NUMBERS = (
         {8: "nine"}.get(report.MOST_REASONS),
     ),  # and that of the others
     (r"rows that were skipped, at most (\d+)", file.MOST_LEFT_OUT),
-    (r"a part of more than (\d+) MB", workbook.LARGEST_PART >> 20),
-    (r"CSV of more than (\d+) MB", csv_table.LARGEST_FILE >> 20),
+    (r"CSV of more than (\d+) MB", budget.CSV.most(0) // budget.MEGABYTE),
+    (r"more than (\d+) seconds of the processor", budget.SECONDS.most(0)),
+    (r"a file of more than (\d+) MB", budget.ANY_INPUT.most(0) // budget.MEGABYTE),
     (r"than (\d+) rows or", workbook.MOST_ROWS),
     (r"rows or (\d+) columns", workbook.MOST_COLUMNS),
 )

@@ -143,6 +143,25 @@ class Rules(unittest.TestCase):
         given |= {*re.findall(r"[\w.+-]+", named), "binutils", "gcc", "make"}  # of build-essential
         self.assertEqual({it for it in owners if it.partition("-x86")[0] not in given}, set())
 
+    def test_a_release_for_amd64_needs_nothing_of_arm64(self) -> None:
+        """Without the kit and without a library for arm64; a message says so."""
+        given = [f"{name}={support.TOP / 'Makefile'}" for name in ("LABELS", "PROVED")]
+        given.append("PROVED_ARM64=out/arm64/liblabels_c.a")
+        planned = self.planned(*given, "ARCHITECTURES=amd64")
+        self.assertEqual(planned.returncode, 0, planned.stderr)
+        self.assertIn("dpkg-buildpackage -b", planned.stdout)
+        self.assertNotRegex(planned.stdout, "arm64|aarch64")
+        self.assertIn("rt lib --target aarch64", self.planned(*given).stdout)
+        self.assertIn("ARCHITECTURES=amd64", self.planned(*given).stdout)
+        for wrong in ("arm64", "amd64 riscv64"):
+            refused = self.planned(*given, f"ARCHITECTURES={wrong}")
+            self.assertEqual((refused.returncode, "ARCHITECTURES" in refused.stderr), (2, True))
+
+    def planned(self, *words: str) -> subprocess.CompletedProcess[str]:
+        """What make would do for a release of a tree in which nothing is built."""
+        command = ["make", "--dry-run", "--always-make", "release", *words]
+        return subprocess.run(command, cwd=support.TOP, capture_output=True, text=True)
+
     def test_a_package_is_made_of_what_was_checked(self) -> None:
         """Without a library its check fails, and so does the build."""
         support.needs("dpkg-buildpackage")

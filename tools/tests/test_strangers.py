@@ -18,18 +18,19 @@ from base64 import b64encode
 from io import BytesIO
 from pathlib import Path
 from types import SimpleNamespace
-from typing import Any
+from typing import Any, Sequence
 from unittest import mock
 
 from PIL import Image
 
 import support
-from desk import Desk, printed, ROLL, TICKETS
+from desk import Desk, entry, printed, ROLL, TICKETS
 from labeltools.commands.label_print import print_options
+from labeltools.commands.label_table import command_for, table_parser, words_for
 from labeltools.common import files, process
 from labeltools.common.budget import Budget, CELLS, SECONDS, TooMuch
-from labeltools.common.messages import Silence, ToolError, UNEXPECTED
-from labeltools.common.text import Remedy
+from labeltools.common.messages import Silence, ToolError, UNEXPECTED, visible
+from labeltools.common.text import either, Remedy, Text, translated
 from labeltools.designs import svg_page
 from labeltools.lines.file import read_lines
 from labeltools.printing.job import planned
@@ -39,7 +40,15 @@ from labeltools.sending.answers import Query, read_status, Reply
 from labeltools.sending.job import trouble_of
 from labeltools.sending.journal import Journal
 from labeltools.sending.outlets import Outlet
+from labeltools.sending.queue import lp_line
+from labeltools.sending.sender import by_code, may_be_on_paper
 from labeltools.sheets.encoding import OTHER_BYTES, OTHER_LINE, OTHER_WORD
+from labeltools.sheets.rows import Row
+from labeltools.sheets.workbook import chosen, Worksheet
+from labeltools.tables.code_readings import CodeReading
+from labeltools.tables.codes import CodeRules
+from labeltools.tables.columns import column_word
+from labeltools.tables.guess import Guess
 from labeltools.window.memory import Memory, write_own
 from printers import Printer
 from test_examples import entry_of
@@ -47,7 +56,11 @@ from workbooks import ods, ods_cell, packed, rows, table, unpacked, xlsx
 
 SIGNS = "'\"`$\\;&|<>(){}[]*?!#~%=+-.,:/@^ \t\nab1éß$''"
 LETTERLESS = ["'; . ./*; '", "';${!#}<<<x;'", "$(())", "`:`", "'", "!", "~", "-", "--", "=", "''"]
-NOBODY = 65534
+CHANCE = random.Random(12)
+VALUES = [
+    *LETTERLESS,
+    *("".join(CHANCE.choices(SIGNS, k=CHANCE.randint(1, 12))) for _ in range(2000)),
+]
 CODE = "4006381333931"
 SECONDS_OF_A_BOMB = 12  # of a processor; each took more than twice as many, or did not end
 HOLD = """
@@ -55,7 +68,8 @@ import fcntl, os, sys
 os.setgroups([]); os.setgid(65534); os.setuid(65534)
 try:
     file = os.open(sys.argv[1], os.O_RDONLY)
-    for byte in (1 << 62, (1 << 62) + 1):
+    for byte in sys.argv[2:]:
+        byte = (1 << 62) + int(byte)
         fcntl.lockf(file, fcntl.LOCK_SH, 1, byte)
     print("held", flush=True)
     sys.stdin.read()
@@ -76,27 +90,82 @@ class Words(unittest.TestCase):
 
     def in_bash(self, line: str) -> list[str]:
         """The words that bash makes of a line, which does nothing else."""
-        script = f"printf '%s\\0' {line}"
-        subprocess.run(["bash", "-n", "-c", script], check=True, capture_output=True)
-        with tempfile.TemporaryDirectory() as folder:
+        with tempfile.TemporaryDirectory() as folder, tempfile.NamedTemporaryFile() as script:
+            script.write(f"printf '%s\\0' {line}".encode())
+            script.flush()
             Path(folder, "do").write_text("touch PWNED")
-            done = subprocess.run(
-                ["bash", "-c", script], check=True, capture_output=True, cwd=folder
-            )
+            for words in (["bash", "-n"], ["bash"]):
+                done = subprocess.run(
+                    [*words, script.name], check=True, capture_output=True, cwd=folder
+                )
             self.assertEqual(os.listdir(folder), ["do"])
         return done.stdout.decode().split("\0")[:-1]
 
-    def test_any_value_is_one_word(self) -> None:
-        chance = random.Random(12)
-        values = ["".join(chance.choices(SIGNS, k=chance.randint(1, 12))) for _ in range(2000)]
-        remedies = [Remedy("sheet", value) for value in (*LETTERLESS, *values)]
-        wanted = [word for remedy in remedies for word in remedy.words]
-        self.assertEqual(self.in_bash(" ".join(map(str, remedies))), wanted)
-        for value in LETTERLESS:
-            self.assertEqual(
-                self.in_bash(str(Remedy("sheet", value))), [*Remedy("sheet", value).words]
-            )
-            self.assertEqual(len(self.in_bash(f"{Remedy('sheet', value):value}")), 1)
+    def check(self, said: Sequence[Text], wanted: Sequence[Sequence[str]]) -> None:
+        """Compares the words of what messages propose, as they are written, with what was meant."""
+        lines = [visible(translated(text)) for text in said]
+        words = [word for line in wanted for word in line]
+        self.assertEqual(self.in_bash(" ".join(lines)), words)
+
+    def test_remedies(self) -> None:
+        remedies = [Remedy("sheet", value) for value in VALUES]
+        self.check([Text("{}", one) for one in remedies], [one.words for one in remedies])
+        side_by_side = [either((Remedy("a", "1"), Remedy("a", value))) for value in VALUES]
+        self.check(side_by_side, [("--a", "1", "or", value) for value in VALUES])
+
+    def test_sheets(self) -> None:
+        said = []
+        for value in VALUES:
+            sheets = [Worksheet(name, True, iter([Row(1, ["x"])])) for name in ("A", value)]
+            with self.assertRaises(ToolError) as caught:
+                list(chosen(sheets, None))
+            said.append(caught.exception.hint)
+        one = [Remedy("sheet", value).words for value in VALUES]
+        wanted = [("give", "--sheet", "A", "or", words[-1]) for words in one]
+        self.check(
+            [text for text, words in zip(said, one) if len(words) == 2],
+            [line for line, words in zip(wanted, one) if len(words) == 2],
+        )
+
+    def test_columns_and_files(self) -> None:
+        said, wanted = [], []
+        arguments = table_parser().parse_args([])
+        for value, other in zip(VALUES, reversed(VALUES)):
+            names = [value.strip() or "x", "EAN"]
+            guess = Guess(names, {"code": 1, "title": 0}, {1: CodeReading()}, 1, ["", ""])
+            line = command_for(guess, 1, CodeRules(), ["--", other], arguments)
+            said.append(Text("{}", line))
+            title = column_word(names, 0)
+            titles = [f"--title={title}"] if title.startswith("-") else ["--title", title]
+            wanted.append(["label-table", "--code", "EAN", *titles, "--", other])
+            said.append(Text("{}", words_for(guess, [0, 1])))
+            wanted.append([f"{title},", "EAN"])
+        self.check(said, wanted)
+
+    def test_printers_and_codes(self) -> None:
+        said, wanted = [], []
+        for value in VALUES:
+            trouble = trouble_of(value, {"printer-state": 5})
+            assert trouble is not None
+            line = str(trouble.cure).removesuffix(" lets it go on")
+            said.append(Text("{}", line))
+            wanted.append(["cupsenable", value])
+            hint = str(may_be_on_paper("tcp://a", by_code(b"qr A"))).partition("with ")[2]
+            said.append(Text("{}", hint))
+            wanted.append(["--only-code", "qr A", "--again", "tcp://a"])
+            hint = str(may_be_on_paper(value, "--only 7")).rpartition(" with --only")[2]
+            said.append(Text("{}", hint))
+            wanted.append(["7", "--again", value])
+        self.check(said, wanted)
+
+    def test_a_line_of_lp(self) -> None:
+        job = planned(print_options(["--stock", "Avery L7160", "--dpi", "600"]))
+        lines = [lp_line(job, value).partition(" -o ")[0] for value in VALUES]
+        self.check([Text("{}", line) for line in lines], [["lp", "-d", value] for value in VALUES])
+
+    def test_quotes_that_a_person_would_type(self) -> None:
+        self.assertEqual(str(Remedy("price", "Prix d'achat")), '--price "Prix d\'achat"')
+        self.assertEqual(str(Remedy("price", "l'$HOME")), "--price 'l'\"'\"'$HOME'")
 
     def test_a_sheet_whose_name_is_a_command(self) -> None:
         name = "'; . ./*; '"
@@ -212,11 +281,11 @@ class Bombs(unittest.TestCase):
 
     def test_a_budget(self) -> None:
         budget = Budget("a.csv", 10)
-        budget.take(CELLS, 4_000_080)
-        with self.assertRaisesRegex(TooMuch, "^a.csv takes too much, more than 4,000,080 cells"):
+        budget.take(CELLS, 4_000_020)
+        with self.assertRaisesRegex(TooMuch, "^a.csv takes too much, more than 4,000,020 cells"):
             budget.take(CELLS, 1)
         budget.look()
-        with mock.patch("time.thread_time", lambda: budget.begin + budget.most(SECONDS) + 1):
+        with mock.patch("time.thread_time", lambda: budget.begin + SECONDS.most(10) + 1):
             with self.assertRaisesRegex(TooMuch, "more than 20 seconds of the processor"):
                 budget.look()
 
@@ -235,7 +304,7 @@ class Inputs(unittest.TestCase):
         for tool, words in (("label-table", ["--code", "EAN"]), ("label-print", ROLL)):
             done = support.run(tool, *words, str(self.path))
             self.assertEqual(done.returncode, 1)
-            self.assertIn("has more than 512 MB", support.messages(done)[-1])
+            self.assertIn("takes too much, more than 512 MB", support.messages(done)[-1])
 
     def test_a_fifo_that_nobody_writes_to(self) -> None:
         os.mkfifo(self.path)
@@ -320,12 +389,41 @@ class Private(Desk):
             self.assertEqual(printed("--journal", self.path).returncode, 0)
             self.assertEqual(self.mode(self.path), new)
 
+    def test_a_journal_of_others_is_named_with_what_mends_it(self) -> None:
+        self.assertEqual(printed("--journal", self.path).returncode, 0)
+        for mode in (0o660, 0o606, 0o620):
+            os.chmod(self.path, mode)
+            said = support.messages(printed("--journal", self.path))[0]
+            self.assertIn("other users may read or write", said)
+            command = said.partition(", and stop it: ")[2].removesuffix(" makes it private")
+            subprocess.run(["bash", "-c", command], check=True)
+            self.assertEqual(self.mode(self.path), 0o600)
+        self.assertNotIn(b"other users", printed("--journal", self.path).stderr)
+
+    @unittest.skipIf(os.getuid(), "is not built: run it as root")
+    def test_a_lane_that_somebody_else_has_locked(self) -> None:
+        """Who may only read the file is no lane: the label is in doubt as without the lock."""
+        os.chmod(self.folder, 0o755)
+        self.journal(entry("sending", "qr T00002", "line 2"))
+        os.chmod(self.path, 0o644)
+        with subprocess.Popen(
+            [sys.executable, "-c", HOLD, self.path, "1"],
+            stdin=subprocess.PIPE,
+            stdout=subprocess.PIPE,
+            cwd="/",
+        ) as other:
+            assert other.stdout is not None
+            self.assertEqual(other.stdout.readline(), b"held\n")
+            done = printed("--journal", self.path)
+            self.said(done, 1, "line 2: may be on paper, from tcp://a: look for it")
+            other.kill()
+
     @unittest.skipIf(os.getuid(), "is not built: run it as root")
     def test_a_user_who_may_only_read(self) -> None:
         """Such a one would stop all lanes, or hide that a label is in doubt."""
         os.chmod(self.folder, 0o755)
         journal = Journal(self.path, "tcp://a")
-        command = [sys.executable, "-c", HOLD, self.path]
+        command = [sys.executable, "-c", HOLD, self.path, "0", "1"]
         with subprocess.Popen(
             command, stdin=subprocess.PIPE, stdout=subprocess.PIPE, cwd="/"
         ) as other:
@@ -344,6 +442,8 @@ class Private(Desk):
             os.chmod(folder / "files.json", 0o644)
             memory.keep("c", "d")
             self.assertEqual(memory.all(), {"a": "b", "c": "d"})
+            os.chmod(folder, 0o755)
+            memory.keep("e", "f")
         modes = [self.mode(path) for path in (folder, *sorted(folder.iterdir()))]
         self.assertEqual(modes, [0o700, 0o600, 0o600])
 

@@ -12,6 +12,9 @@ b'PNG'
 Traceback (most recent call last):
 liblabels.Refused: check digit is 2, should be 1
 
+>>> code.data_uri("png")[:22]  # for a web page
+'data:image/png;base64,'
+
 >>> label = liblabels.line("qr,level=Q HELLO")  # a line as of labels(1)
 >>> label.width, label.version, label.level, label.mask, label.data
 (21, 1, 'Q', 2, b'HELLO')
@@ -19,30 +22,38 @@ liblabels.Refused: check digit is 2, should be 1
 >>> liblabels.read(picture)  # what a picture says
 Reading(symbology='ean8', scale=2, turns=0, data=b'73513537')
 
-The modules as an array of numpy, without quiet zones, and a picture as an image of Pillow:
+A file of it with its digits below; the same into an open file; the modules as an array of numpy, without quiet zones;
+and a picture as an image of Pillow:
 
+    code.save("shelf.png", digits=True)  # or .svg
+    code.save(file, kind="png", digits=True)
     numpy.asarray(symbol)  # of bool, True where dark
     Image.frombytes("1", (bitmap.width, bitmap.height), bitmap.bits, "raw", "1;I")
 
-`python3 -m liblabels ean13 400638133393 > code.png` writes a symbol in a shell.
+`python3 -m liblabels ean13 400638133393 > code.png` writes a symbol in a shell; `--help` says how it writes many.
 
 Data and lines are bytes, bytearray or memoryview, or str, which is encoded as UTF-8. What the library
 refuses raises `Refused` with the text of labels(1), which a pool of processes passes on; a wrong option raises
-ValueError. The module keeps no state, and other threads run during a call.
+ValueError. Numbers are refused, since they lose zeros: read a table with `pandas.read_csv(name, dtype=str)`, which
+leaves nan only for empty cells. The module keeps no state, and other threads run during a call.
 
 The library is liblabels.so.1, or the file that the environment variable LABELS_LIBRARY names. Where
 it is not installed the import raises OSError.
 """
 
+import base64
 import ctypes
+import io
 import os
+import re
 from collections.abc import Callable, Iterator
 from dataclasses import dataclass, field
 from pathlib import Path
-from typing import Any
+from typing import Any, Protocol
 
-from . import _binding, _pictures
+from . import _binding, _layout, _pictures
 from ._binding import FORMATS, LEVELS, LIBRARY, SYMBOLOGIES, Data
+from ._layout import Layout, layout
 from ._pictures import Bitmap
 from ._reading import Reading, read
 
@@ -67,6 +78,10 @@ __all__ = [
 ]
 __version__ = "1.2.0"
 _DIGITS = bytes.maketrans(b"\0\1", b"01")
+_MEDIA_TYPES = {"png": "image/png", "svg": "image/svg+xml"}  # of each kind of file
+# What a number of pandas is as text: a column with an empty cell has 4006381333931.0 and nan.
+_NUMBER_OF_PANDAS = re.compile(rb"(?:\d\.0|\bnan)$")
+_CURE = "this looks like a number of pandas: read the table with dtype=str"
 
 
 class Refused(ValueError):
@@ -86,6 +101,13 @@ class Refused(ValueError):
 
     def __str__(self) -> str:
         return str(self.args[1])
+
+
+class _BinaryFile(Protocol):
+    """A file that is open for bytes."""
+
+    def write(self, data: bytes, /) -> object:
+        ...
 
 
 @dataclass(frozen=True)
@@ -166,9 +188,9 @@ class Symbol:
         """Returns the symbol as SVG, its modules `module` of a unit wide: "mm", "cm", "in", "pt", "px", or none.
 
         `light` is the colour behind it, as "white"; without one what is behind it shows. With `digits` EAN and UPC
-        have longer guard bars, and their digits below, in a font of the program that shows them: ten modules more. The
-        digits need the quiet zones. Raises ValueError for another unit, for a module that is not above 0, and for
-        digits without quiet zones.
+        have longer guard bars, and their digits below, and Code 128 has its text there, in a font of the program that
+        shows them: ten modules more, and for a long text ten for each line. They need the quiet zones. Raises
+        ValueError for another unit, for a module that is not above 0, and for digits without quiet zones or of QR.
 
         >>> symbol("ean8", "7351353", height=5).svg(0.33, "mm")[:83]
         '<svg xmlns="http://www.w3.org/2000/svg" width="26.73mm" height="1.65mm" viewBox="0 '
@@ -176,27 +198,27 @@ class Symbol:
         if digits and not quiet_zones:
             raise ValueError("digits need quiet_zones")
         left, _, top, _ = self.quiet_zones if quiet_zones else (0, 0, 0, 0)
-        guards, printed = self._printed() if digits else ((), ())
-        guarded = [range(first, last) for first, last in guards]
+        below = self._below() if digits else _layout.Below()
+        guarded = [range(first, last) for first, last in below.guards]
         bars = [(x, y, w, h + 5 * any(left + x in guard for guard in guarded)) for x, y, w, h in self.bars()]
-        texts = [((begin + end) / 2, text) for begin, end, text in printed]
-        return _pictures.svg_of(bars, self.size(quiet_zones), (left, top), module, unit, light, texts)
+        return _pictures.svg_of(bars, self.size(quiet_zones), (left, top), module, unit, light, below.lines)
 
-    def _printed(self) -> tuple[tuple[tuple[int, int], ...], tuple[tuple[int, int, str], ...]]:
-        """The longer bars of EAN and UPC, and the digits below with the modules between which they are."""
-        told = layout(self.symbology)
-        return told.guards, tuple((begin, end, self.data[a:b].decode()) for a, b, begin, end in told.digits)
+    def _below(self) -> _layout.Below:
+        """The longer bars of EAN and UPC, and the digits or the text below."""
+        return _layout.below(self.symbology, self.data, self.size()[0])
 
     def png(self, scale: int = 1, dpi: float | None = None, digits: bool = False) -> bytes:
         """Returns the symbol as PNG with its quiet zones, its modules `scale` dots wide, 1 to 100.
 
         Without digits it is that of the symbol's `bitmap`. With `digits` EAN and UPC have longer guard bars, and their
-        digits below, which takes ten modules more. Raises ValueError for a scale that is not 1 to 100, and what
-        `Bitmap.png` raises.
+        digits below, and Code 128 has its text there: ten modules more, and for a long text ten for each line. A
+        control character is a frame there. Raises ValueError for a scale that is not 1 to 100, for digits of QR, and
+        what `Bitmap.png` raises.
 
         >>> symbol("qr", "HELLO").png(scale=4)[:8]
         b'\\x89PNG\\r\\n\\x1a\\n'
         """
+        below = self._below() if digits else None
         drawn = bitmap(
             self.symbology,
             self.data,
@@ -206,25 +228,55 @@ class Symbol:
             min_version=self.version or 1,
             mask=self.mask,
         )
-        guards, printed = self._printed() if digits else ((), ())
-        return (_pictures.with_digits(drawn, scale, guards, printed) if printed else drawn).png(dpi)
+        return (_pictures.with_text(drawn, scale, below) if below else drawn).png(dpi)
 
-    def save(self, file: str | os.PathLike[str], **options: Any) -> None:
-        """Writes the symbol to a file whose name ends with .svg or .png, with the options of `svg` or of `png`.
+    def save(
+        self,
+        file: str | os.PathLike[str] | _BinaryFile | io.TextIOBase,
+        kind: str | None = None,
+        **options: Any,
+    ) -> None:
+        """Writes the symbol to a file as PNG or SVG, with the options of `png` or of `svg`.
 
-        Raises ValueError for another ending, and what these raise.
+        `file` is a name, or a file that is open for writing. The end of its name says which `kind` it is, .png or
+        .svg; where it does not, give "png" or "svg". Raises ValueError for another kind and for PNG in a file that
+        takes text, and what `png`, `svg` and the file system raise.
 
+        >>> file = io.BytesIO()
+        >>> symbol("qr", "HELLO").save(file, kind="png", scale=4)
+        >>> file.getvalue() == symbol("qr", "HELLO").png(4)
+        True
         >>> symbol("qr", "HELLO").save("code.gif")
         Traceback (most recent call last):
         ValueError: the name of a file has to end with .svg or .png: code.gif
         """
-        ending = Path(file).suffix.lower()
-        if ending == ".svg":
-            Path(file).write_text(self.svg(**options), encoding="utf-8")
-        elif ending == ".png":
-            Path(file).write_bytes(self.png(**options))
+        picture = self._picture(kind or _kind_of(file), options)
+        if isinstance(file, (str, os.PathLike)):
+            Path(file).write_bytes(picture)
+        elif not isinstance(file, io.TextIOBase):
+            file.write(picture)
+        elif picture.startswith(_pictures.PNG_HEAD):
+            raise ValueError("PNG has to go into a binary file: open it with mode 'wb'")
         else:
-            raise ValueError(f"the name of a file has to end with .svg or .png: {os.fspath(file)}")
+            file.write(picture.decode())
+
+    def data_uri(self, kind: str, **options: Any) -> str:
+        """Returns the symbol as a data URI, for a web page: as "png" or "svg", with the options of `png` or of `svg`.
+
+        Raises ValueError for another kind, and what these raise.
+
+        >>> symbol("qr", "HELLO").data_uri("svg", light="white")[:26]
+        'data:image/svg+xml;base64,'
+        """
+        coded = base64.b64encode(self._picture(kind, options)).decode()
+        return f"data:{_MEDIA_TYPES[kind.lower()]};base64,{coded}"
+
+    def _picture(self, kind: str, options: dict[str, Any]) -> bytes:
+        """The bytes of a file of a kind."""
+        kind = kind.lower()
+        if kind not in _MEDIA_TYPES:
+            raise ValueError(f"unknown kind {kind!r}: one of {', '.join(_MEDIA_TYPES)}")
+        return self.png(**options) if kind == "png" else self.svg(**options).encode()
 
     @property
     def __array_interface__(self) -> dict[str, object]:
@@ -236,52 +288,51 @@ class Symbol:
         return self.svg(4, light="white")
 
 
-@dataclass(frozen=True)
-class Layout:
-    """Where EAN and UPC symbols have longer bars and printed digits (ISO/IEC 15420), in modules, from the left edge of
-    the left quiet zone on.
-
-    Attributes:
-        guards: from which module on and before which one bars are longer, by five modules.
-        digits: which digits of the data are printed together, from which one on and before which one, and from which
-            module on and before which one they are, in the middle.
-    """
-
-    guards: tuple[tuple[int, int], ...]
-    digits: tuple[tuple[int, int, int, int], ...]
+def _kind_of(file: object) -> str:
+    """The kind of a file, which the end of its name says; raises ValueError if it says none."""
+    name = getattr(file, "name", None) if hasattr(file, "write") else file
+    if not isinstance(name, (str, os.PathLike)):
+        raise ValueError("a file without a name needs kind='png' or kind='svg'")
+    kind = Path(name).suffix.lower().removeprefix(".")
+    if kind not in _MEDIA_TYPES:
+        raise ValueError(f"the name of a file has to end with .svg or .png: {os.fspath(name)}")
+    return kind
 
 
 def _line_of(text: Data) -> bytes:
     return _binding.encoded(text).removesuffix(b"\n")
 
 
-def _expect_drawn(answer: _binding.Answer) -> None:
+def _expect_drawn(answer: _binding.Answer, raw: bytes) -> None:
     if answer.code != _binding.OK:
-        raise Refused(answer.code, answer.message.decode("ascii"), answer.at)
+        refused = Refused(answer.code, answer.message.decode("ascii"), answer.at)
+        if answer.code == _binding.NOT_A_DIGIT and _NUMBER_OF_PANDAS.search(raw):
+            refused.add_note(_CURE)
+        raise refused
 
 
-def _picture(call: Callable[..., int], room: int, *asked: object) -> bytes | None:
+def _picture(call: Callable[..., int], room: int, raw: bytes, *asked: object) -> bytes | None:
     """The picture that a call draws, in a room of some bytes or a larger one, or None for a line that is skipped."""
     answer = _binding.Answer()
     while True:
         out = ctypes.create_string_buffer(room)
-        code = call(*asked, out, room, ctypes.byref(answer))
+        code = call(*asked, raw, len(raw), out, room, ctypes.byref(answer))
         if code == _binding.SKIPPED:
             return None
         if code != _binding.NO_ROOM:
-            _expect_drawn(answer)
+            _expect_drawn(answer, raw)
             return ctypes.string_at(out, answer.length)
         room = answer.length
 
 
-def _symbol(call: Callable[..., int], *asked: object) -> Symbol | None:
+def _symbol(call: Callable[..., int], raw: bytes, *asked: object) -> Symbol | None:
     """The symbol that a call draws, or None for a line that is skipped."""
     room = _binding.SymbolRoom()
-    code = call(*asked, *room.places())
+    code = call(*asked, raw, len(raw), *room.places())
     if code == _binding.SKIPPED:
         return None
     if code != _binding.OK:
-        _expect_drawn(room.answer)
+        _expect_drawn(room.answer, raw)
     (
         symbology,
         width,
@@ -315,18 +366,18 @@ def _symbol(call: Callable[..., int], *asked: object) -> Symbol | None:
     return symbol
 
 
-def _bitmap(call: Callable[..., int], *asked: object) -> Bitmap | None:
+def _bitmap(call: Callable[..., int], raw: bytes, *asked: object) -> Bitmap | None:
     """The bitmap that a call draws, or None for a line that is skipped."""
     answer = _binding.Answer()
     dots = _binding.Dots()
-    code = call(*asked, None, 0, 0, ctypes.byref(dots), ctypes.byref(answer))
+    code = call(*asked, raw, len(raw), None, 0, 0, ctypes.byref(dots), ctypes.byref(answer))
     if code == _binding.SKIPPED:
         return None
     if code != _binding.NO_ROOM:
-        _expect_drawn(answer)
+        _expect_drawn(answer, raw)
     bits = ctypes.create_string_buffer(answer.length)
-    call(*asked, bits, 0, len(bits), ctypes.byref(dots), ctypes.byref(answer))
-    _expect_drawn(answer)
+    call(*asked, raw, len(raw), bits, 0, len(bits), ctypes.byref(dots), ctypes.byref(answer))
+    _expect_drawn(answer, raw)
     return Bitmap(dots.width, dots.height, bits.raw)
 
 
@@ -357,7 +408,7 @@ def line(
     """
     options = _binding.options_of("pbm", 1, height, level, min_version, mask, escapes)
     raw = _line_of(text)
-    return _symbol(LIBRARY.labels_line, options, raw, len(raw))
+    return _symbol(LIBRARY.labels_line, raw, options)
 
 
 def symbol(
@@ -379,7 +430,7 @@ def symbol(
     options = _binding.options_of("pbm", 1, height, level, min_version, mask, False)
     number = _binding.index_of(SYMBOLOGIES, "symbology", symbology)
     raw = _binding.encoded(data)
-    drawn = _symbol(LIBRARY.labels_symbol, options, number, raw, len(raw))
+    drawn = _symbol(LIBRARY.labels_symbol, raw, options, number)
     assert drawn is not None  # no data is a line that is skipped
     return drawn
 
@@ -404,12 +455,13 @@ def draw(
     b'P1\\n29 29\\n'
     >>> draw("ean13", 4006381333931)
     Traceback (most recent call last):
-    TypeError: data has to be str or bytes, not int
+    TypeError: data has to be str or bytes, not int: pandas reads a table without losing digits with dtype=str
     """
+    scale = _binding.scale_of_program(scale)
     options = _binding.options_of(format, scale, height, level, min_version, mask, False)
     number = _binding.index_of(SYMBOLOGIES, "symbology", symbology)
     raw = _binding.encoded(data)
-    picture = _picture(LIBRARY.labels_draw, _binding.first_room(options), options, number, raw, len(raw))
+    picture = _picture(LIBRARY.labels_draw, _binding.first_room(options), raw, options, number)
     assert picture is not None  # no data is a line that is skipped
     return picture
 
@@ -435,7 +487,7 @@ def bitmap(
     options = _binding.options_of("pbm", drawn, height, level, min_version, mask, False)
     number = _binding.index_of(SYMBOLOGIES, "symbology", symbology)
     raw = _binding.encoded(data)
-    picture = _bitmap(LIBRARY.labels_bitmap, options, number, raw, len(raw))
+    picture = _bitmap(LIBRARY.labels_bitmap, raw, options, number)
     assert picture is not None  # no data is a line that is skipped
     return picture.enlarged(more)
 
@@ -457,7 +509,7 @@ def bitmap_line(
     drawn, more = _binding.scales_of(scale)
     options = _binding.options_of("pbm", drawn, height, level, min_version, mask, escapes)
     raw = _line_of(text)
-    picture = _bitmap(LIBRARY.labels_bitmap_line, options, raw, len(raw))
+    picture = _bitmap(LIBRARY.labels_bitmap_line, raw, options)
     return picture and picture.enlarged(more)
 
 
@@ -479,24 +531,10 @@ def draw_line(
     >>> draw_line("ean8,height=2 7351353\\n", scale=2)[:9]
     b'P1\\n162 4\\n'
     """
+    scale = _binding.scale_of_program(scale)
     options = _binding.options_of(format, scale, height, level, min_version, mask, escapes)
     raw = _line_of(text)
-    return _picture(LIBRARY.labels_draw_line, _binding.first_room(options), options, raw, len(raw))
-
-
-def layout(symbology: str) -> Layout:
-    """Returns where symbols of a symbology, one of SYMBOLOGIES, have longer bars and printed digits.
-
-    Code 128 and QR have neither. Raises ValueError for an unknown symbology.
-
-    >>> layout("ean8")
-    Layout(guards=((7, 10), (38, 43), (71, 74)), digits=((0, 4, 10, 38), (4, 8, 43, 71)))
-    """
-    told = _binding.Layout()
-    LIBRARY.labels_symbology_layout(_binding.index_of(SYMBOLOGIES, "symbology", symbology), ctypes.byref(told))
-    guards = [(span.left, span.right) for span in told.guard[: told.guards]]
-    digits = [(one.first, one.last, one.span.left, one.span.right) for one in told.group[: told.groups]]
-    return Layout(tuple(guards), tuple(digits))
+    return _picture(LIBRARY.labels_draw_line, _binding.first_room(options), raw, options)
 
 
 def version() -> str:

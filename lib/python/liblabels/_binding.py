@@ -1,6 +1,7 @@
 """The calls of liblabels by ctypes: its structs, its options, and the data that is handed to it."""
 
 import ctypes
+import numbers
 import operator
 import os
 import struct
@@ -14,16 +15,17 @@ Data = str | bytes | bytearray | memoryview
 
 FORMATS = ("pbm", "ascii")
 
-# The codes of labels.h that are no refusal.
+# Codes of labels.h that are no refusal, and that of data that is no number.
 OK = 0
 NO_ROOM = 1
+NOT_A_DIGIT = 5
 SKIPPED = 14
 NOT_READ = 17
 MAX_MODULES = 3249
 MAX_DATA = 652
 _MASK_AUTO = 8
 _MOST_DRAWN = 8  # the largest scale of the library
-_MOST_SCALE = 100
+MOST_SCALE = 100
 
 
 class Options(ctypes.Structure):
@@ -209,9 +211,18 @@ def within(name: str, number: int, lowest: int, highest: int) -> int:
     return number
 
 
+def scale_of_program(scale: int) -> int:
+    """Returns a scale that labels(1) has; raises ValueError, which says what takes others."""
+    scale = operator.index(scale)
+    if _MOST_DRAWN < scale <= MOST_SCALE:
+        range_of_program = f"1 to {_MOST_DRAWN} as labels(1) has it"
+        raise ValueError(f"scale is {scale}, and has to be {range_of_program}: png, save and bitmap take {MOST_SCALE}")
+    return within("scale", scale, 1, _MOST_DRAWN)
+
+
 def scales_of(scale: int) -> tuple[int, int]:
     """Returns the scale at which the library draws, and how many times its dots are enlarged after that."""
-    scale = within("scale", scale, 1, _MOST_SCALE)
+    scale = within("scale", scale, 1, MOST_SCALE)
     return (scale, 1) if scale <= _MOST_DRAWN else (1, scale)
 
 
@@ -240,8 +251,17 @@ def encoded(data: Data) -> bytes:
     if isinstance(data, str):
         return str.encode(data)
     if not isinstance(data, (bytes, bytearray, memoryview)):
-        raise TypeError(f"data has to be str or bytes, not {type(data).__name__}")
+        raise TypeError(f"data has to be str or bytes, {_other_data(data)}")
     return data if type(data) is bytes else bytes(memoryview(data))
+
+
+def _other_data(data: object) -> str:
+    """What data is if it is no text, and what helps. Numbers mostly come from tables that pandas has read."""
+    if isinstance(data, float) and data != data:
+        return "not nan, an empty cell in pandas: skip such rows, and read the table with dtype=str"
+    if isinstance(data, numbers.Number):
+        return f"not {type(data).__name__}: pandas reads a table without losing digits with dtype=str"
+    return f"not {type(data).__name__}"
 
 
 def first_room(options: Options) -> int:

@@ -6,15 +6,17 @@ import zlib
 from collections.abc import Iterable, Sequence
 from dataclasses import dataclass, field
 
-from . import _digits
+from . import _glyphs
+from ._layout import Below, Text
 
 Rectangle = tuple[int, int, int, int]
 
 UNITS = ("", "px", "mm", "cm", "in", "pt")
 _DARK_IS_0 = bytes(255 - byte for byte in range(256))
 _METRES_OF_AN_INCH = 0.0254
-_BELOW_BARS = 10  # modules that digits take there, and how high the font of SVG is
+_BELOW_BARS = 10  # modules that a line of text takes there, and how high the font of SVG is
 _LONGER = 5  # modules of guard bars
+_PICTURES_OF_CONTROLS = {code: 0x2400 + code for code in range(32)} | {127: 0x2421}  # of Unicode
 _NO_FILTER, _LESS_ABOVE = b"\0", b"\2"  # rows of PNG: as they are, and less the row above, so that an equal one is 0
 PNG_HEAD = b"\x89PNG\r\n\x1a\n"
 
@@ -30,6 +32,12 @@ def dark_runs(modules: bytes, width: int) -> Iterable[tuple[int, int, int]]:
             first = of_row.find(1, end)
 
 
+def _svg_of_line(line: Sequence[Text], foot: int) -> str:
+    """The texts of a line that ends at `foot`, in modules. Control characters are their pictures."""
+    texts = [((begin + end) / 2, html.escape(text.translate(_PICTURES_OF_CONTROLS))) for begin, end, text in line]
+    return "".join(f'<text x="{middle:g}" y="{foot - 1}">{text}</text>' for middle, text in texts)
+
+
 def svg_of(
     bars: Iterable[Rectangle],
     size: tuple[int, int],
@@ -37,13 +45,13 @@ def svg_of(
     module: float,
     unit: str,
     light: str | None,
-    texts: Sequence[tuple[float, str]],
+    lines: Sequence[Sequence[Text]] = (),
 ) -> str:
     """Returns dark rectangles as SVG.
 
     `bars` are column, row, width and height of each, in modules from `corner` on; `size` is that of the whole picture
     in modules. A module is `module` of `unit`, one of UNITS, wide. `light` is the colour behind them, None for none.
-    `texts` are put below, where there are any: the middle of each, in modules, and its digits.
+    `lines` of texts are put below, each text in the middle between two modules.
 
     Raises ValueError for another unit, and for a module that is not above 0.
     """
@@ -53,11 +61,11 @@ def svg_of(
         raise ValueError(f"module is {module}, and has to be above 0")
     left, top = corner
     width, height = size
-    below = ""
-    if texts:
-        height += _BELOW_BARS
-        below = f'<g font-family="OCR-B, OCRB, monospace" font-size="{_BELOW_BARS}" text-anchor="middle">'
-        below += "".join(f'<text x="{middle:g}" y="{height - 1}">{text}</text>' for middle, text in texts) + "</g>"
+    below = "".join(_svg_of_line(line, height + _BELOW_BARS * place) for place, line in enumerate(lines, 1))
+    if below:
+        height += _BELOW_BARS * len(lines)
+        font = f'font-family="OCR-B, OCRB, monospace" font-size="{_BELOW_BARS}"'
+        below = f'<g {font} text-anchor="middle" xml:space="preserve">{below}</g>'
     path = "".join(f"M{left + x} {top + y}h{w}v{h}h-{w}z" for x, y, w, h in bars)
     behind = "" if light is None else f'<path fill="{html.escape(light)}" d="M0 0h{width}v{height}h-{width}z"/>'
     return (
@@ -152,20 +160,27 @@ def bitmap_of(width: int, rows: Sequence[int]) -> Bitmap:
     return Bitmap(width, len(rows), b"".join((row << -width % 8).to_bytes(size, "big") for row in rows))
 
 
-def with_digits(
-    bars: Bitmap, scale: int, guards: Iterable[tuple[int, int]], texts: Iterable[tuple[int, int, str]]
-) -> Bitmap:
-    """Returns bars of modules of `scale` dots with longer guard bars and with digits below.
+def turned(picture: Bitmap, turns: int) -> Bitmap:
+    """Returns a picture after so many quarter turns clockwise."""
+    width, rows = picture.width, [f"{row:0{picture.width}b}" for row in picture.rows()]
+    for _ in range(turns):
+        width, rows = len(rows), ["".join(column) for column in zip(*reversed(rows))]
+    return bitmap_of(width, [int(row, 2) for row in rows])
 
-    `guards` are bars from one module on and before another one, `texts` are digits that are in the middle between two.
-    """
+
+def with_text(bars: Bitmap, scale: int, below: Below) -> Bitmap:
+    """Returns bars of modules of `scale` dots with longer guard bars and with what is printed below."""
     rows = bars.rows()
-    guarded = sum((2 ** ((end - begin) * scale) - 1) << (bars.width - end * scale) for begin, end in guards)
-    below = [rows[-1] & guarded] * (_LONGER * scale) + [0] * ((_BELOW_BARS - _LONGER) * scale)
-    for begin, end, text in texts:
-        left = (begin + end - _digits.WIDTH * len(text)) * scale // 2
-        for place, digit in enumerate(text, 1):
-            shift = bars.width - left - place * _digits.WIDTH * scale
-            for y, row in enumerate(_digits.rows_of(int(digit), scale), scale):
-                below[y] |= row << shift
-    return bitmap_of(bars.width, rows + below)
+    guarded = sum((2 ** ((end - begin) * scale) - 1) << (bars.width - end * scale) for begin, end in below.guards)
+    high = _BELOW_BARS * scale
+    printed = [rows[-1] & guarded] * (_LONGER * scale) + [0] * (high * len(below.lines) - _LONGER * scale)
+    texts = [(first, *text) for first, line in zip(range(scale, len(printed), high), below.lines) for text in line]
+    has_letters = any(character.isalpha() for *_, text in texts for character in text)
+    for first, begin, end, text in texts:
+        left = (begin + end - _glyphs.WIDTH * len(text)) * scale // 2
+        for place, character in enumerate(text, 1):
+            shift = bars.width - left - place * _glyphs.WIDTH * scale
+            form = _glyphs.ZERO_OF_LETTERS if has_letters and character == "0" else character
+            for y, row in enumerate(_glyphs.rows_of(form, scale), first):
+                printed[y] |= row << shift
+    return bitmap_of(bars.width, rows + printed)

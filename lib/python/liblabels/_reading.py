@@ -5,14 +5,16 @@ import importlib
 import io
 import os
 import re
-from collections.abc import Mapping, Sequence
+from collections.abc import Iterator, Mapping, Sequence
 from dataclasses import dataclass
 from pathlib import Path
 from typing import Protocol, overload, runtime_checkable
 
-from . import _binding
+from . import _binding, _layout, _pictures
 from ._binding import LIBRARY, SYMBOLOGIES
 from ._pictures import PNG_HEAD, Bitmap
+
+Part = tuple[int, int, int, int]  # left, top, width and height
 
 _MOST = 2**32 - 1  # the largest number of a call
 _FIRST_LIGHT = 128
@@ -171,13 +173,9 @@ def _bits_of(picture: object) -> Bitmap:
     raise TypeError(f"a picture is of numpy, of Pillow, a Bitmap, a Path or bytes, not {type(picture).__name__}")
 
 
-def _found(picture: object) -> Reading | None:
-    bits = _bits_of(picture)
-    width = _binding.within("width", bits.width, 0, _MOST)
-    height = _binding.within("height", bits.height, 0, _MOST)
-    if not bits.bits:
-        return None
-    region = _binding.Region(_size_of_row(width), 0, 0, width, height, _DARK)
+def _read(bits: Bitmap, part: Part) -> Reading | None:
+    """What a part of a picture is read as."""
+    region = _binding.Region(_size_of_row(bits.width), *part, _DARK)
     found = _binding.Found()
     answer = _binding.Answer()
     out = ctypes.create_string_buffer(_binding.MAX_DATA)
@@ -188,6 +186,68 @@ def _found(picture: object) -> Reading | None:
         return None
     assert code == _binding.OK, answer.message
     return Reading(SYMBOLOGIES[found.symbology], found.scale, found.turns, out.raw[: answer.length])
+
+
+def _alike(lines: Sequence[int]) -> int:
+    """How many lines from the first on are the same."""
+    return next((place for place, line in enumerate(lines) if line != lines[0]), len(lines))
+
+
+def _size_of_start(row: int, width: int) -> int:
+    """How many dots at the start of a row have one colour."""
+    exchanged = row ^ ((1 << width) - 1)
+    return width - min(row, exchanged).bit_length()
+
+
+def _size_of_end(row: int, width: int) -> int:
+    """How many dots at the end of a row have one colour."""
+    changes = (row ^ (row >> 1)) & ((1 << (width - 1)) - 1)
+    return (changes & -changes).bit_length() or width
+
+
+def _parts_of_bars(bits: Bitmap) -> Iterator[Part]:
+    """Yields the parts at the edges of a picture, but not all of it, in which all rows are the same, or all columns:
+    if it has bars with text below them, one of these parts is the bars."""
+    width, height, rows = bits.width, bits.height, bits.rows()
+    top, bottom = _alike(rows), _alike(rows[::-1])
+    if top < height:
+        yield 0, 0, width, top
+        yield 0, height - bottom, width, bottom
+    left = min(_size_of_start(row, width) for row in rows)
+    right = min(_size_of_end(row, width) for row in rows)
+    if left < width:
+        yield 0, 0, left, height
+        yield width - right, 0, right, height
+
+
+def _has_only_its_text(picture: Bitmap, high: int, reading: Reading) -> bool:
+    """Whether a picture of bars that are `high` dots high has nothing but their text below, as `png` draws it."""
+    if reading.symbology == "qr" or reading.scale > _binding.MOST_SCALE:
+        return False
+    below = _layout.below(reading.symbology, reading.data, picture.width // reading.scale)
+    bars = Bitmap(picture.width, high, picture.bits[: _size_of_row(picture.width) * high])
+    return _pictures.with_text(bars, reading.scale, below) == picture
+
+
+def _read_with_text(bits: Bitmap) -> Reading | None:
+    """What bars with their text below are read as."""
+    for part in _parts_of_bars(bits):
+        reading = _read(bits, part)
+        if reading is not None:
+            _, _, width, height = part
+            high = width if reading.turns % 2 else height
+            if _has_only_its_text(_pictures.turned(bits, reading.turns), high, reading):
+                return reading
+    return None
+
+
+def _found(picture: object) -> Reading | None:
+    bits = _bits_of(picture)
+    width = _binding.within("width", bits.width, 0, _MOST)
+    height = _binding.within("height", bits.height, 0, _MOST)
+    if not bits.bits:
+        return None
+    return _read(bits, (0, 0, width, height)) or _read_with_text(bits)
 
 
 Picture = Array | Image | Bitmap | os.PathLike[str] | bytes | bytearray
@@ -215,9 +275,9 @@ def read(symbology: object, image: object = None, scale: int | None = None) -> R
     - a Path of such a file, or a `Bitmap`.
 
     It is the symbol in its quiet zone, and nothing else: each module a square of dots, the zone as wide as
-    `Symbol.quiet_zones` says, above and below bars none, and the height of bars a whole number of modules. The
-    symbology and the scale are found, and a picture that is not read upright is turned. No upright picture is read
-    by two symbologies, nor at two scales.
+    `Symbol.quiet_zones` says, above and below bars none, and the height of bars a whole number of modules. Below bars
+    may be their digits or their text, dot for dot as `Symbol.png` draws them. The symbology and the scale are found,
+    and a picture that is not read upright is turned. No upright picture is read by two symbologies, nor at two scales.
 
     Where a symbology is told, one of SYMBOLOGIES, the data alone is returned, and only that of an upright symbol of
     it, at this scale if one is told.

@@ -19,7 +19,7 @@ from labeltools.common.process import (
     standard_output,
 )
 from labeltools.common.report import places_text, Ranges, report
-from labeltools.common.text import counted, joined, Text
+from labeltools.common.text import counted, joined, shell_line, Text
 from labeltools.designs.svg_design import is_file
 from labeltools.drawing.forms import FORMS
 from labeltools.layout.area import PURPOSES
@@ -305,11 +305,10 @@ def check_journal(options: PrintOptions, journal: Journal) -> None:
         names = ", ".join(sorted(journal.printers())) or Text("nothing")
         what = Text("{} has no label of {}", journal.path, options.again)
         raise ToolError(what, Text("--again: the journal has these printers: {}", names))
-    if journal.has_readers:
-        what = Text(
-            "{} can be read by users who may not write it, and who can stop it", journal.path
-        )
-        write_message(TOOL, sentence(what, Text("put it into a folder of your own")))
+    if journal.has_others:
+        what = Text("other users may read or write {}, and stop it", journal.path)
+        line = shell_line(["chmod", "go=", journal.path])
+        write_message(TOOL, sentence(what, Text("{} makes it private", line)))
     if OUTPUT in journal.printers() and not options.queue and not options.is_stream:
         output = standard_output().fileno()
         state = os.fstat(output)

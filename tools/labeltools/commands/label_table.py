@@ -3,15 +3,13 @@
 import argparse
 import gc
 import re
-import shlex
 import sys
 from contextlib import suppress
 from dataclasses import fields, replace
-from pathlib import Path
 from typing import Any, Callable, Sequence, TypeVar
 
 from labeltools.common.arguments import flag, Parser, value, words_of, wrong_argument
-from labeltools.common.budget import Budget
+from labeltools.common.budget import Budget, TABLE
 from labeltools.common.messages import (
     BadArguments,
     Origin,
@@ -21,9 +19,18 @@ from labeltools.common.messages import (
     ToolError,
     write_message,
 )
-from labeltools.common.process import CommandTalk, read_input, standard_output
+from labeltools.common.process import CommandTalk, read_file, read_input, standard_output
 from labeltools.common.report import listed
-from labeltools.common.text import either, joined, NOTHING, remedies_of, Remedy, Text
+from labeltools.common.text import (
+    either,
+    joined,
+    NOTHING,
+    remedies_of,
+    Remedy,
+    shell_line,
+    shell_word,
+    Text,
+)
 from labeltools.lines.file import LinesFile, read_lines
 from labeltools.lines.symbologies import EAN13, SYMBOLOGIES
 from labeltools.sheets.file_options import FileOptions
@@ -322,7 +329,7 @@ def proposed(words: Sequence[str], arguments: argparse.Namespace) -> Text:
     """
     if arguments.table in (None, "-"):
         return NOTHING
-    name, data = read_input(arguments.table)
+    name, data = read_input(arguments.table, TABLE)
     options = TableOptions(file=made(FileOptions, arguments))
     budget = Budget(name, len(data))
     old = None if arguments.encoding else old_encoding(data, name, options, budget)
@@ -391,7 +398,7 @@ def say_of_others(guess: Guess) -> None:
 
 def words_for(guess: Guess, places: Sequence[int]) -> str:
     """Returns the columns at some places as a command has them, the first ones of many."""
-    words = [shlex.quote(column_word(guess.names, at)) for at in places]
+    words = [shell_word(column_word(guess.names, at)) for at in places]
     return ", ".join(words[:MOST_NAMED] + [".."] * (len(words) > MOST_NAMED))
 
 
@@ -417,7 +424,7 @@ def command_for(
         is_asked = guess.header > 1 or column_word(guess.names, code).isdecimal()
         options["header-row"] = guess.header if is_asked else 0
         options["no-header"] = not guess.header
-    return shlex.join([TOOL, *words_of(options), *words])
+    return shell_line([TOOL, *words_of(options), *words])
 
 
 def more_options(guess: Guess, arguments: argparse.Namespace) -> dict[str, str]:
@@ -439,7 +446,7 @@ def older_lines(path: str) -> LinesFile:
     """Returns the lines of an older file; one that is empty has none. Raises `ToolError` for a file
     that is not of label-table, such as an older table.
     """
-    lines = read_lines(Path(path).read_bytes(), path)
+    lines = read_lines(read_file(path), path)
     if any(record.symbology not in SYMBOLOGIES for record in lines.records):
         hint = Text("give the file that label-table made of a table")
         raise ToolError(Text("{} has lines that are not of label-table", path), hint)
@@ -452,7 +459,7 @@ def run() -> int:
     arguments = understood(sys.argv[1:])
     output = standard_output()
     options = table_options(arguments)
-    name, data = read_input(arguments.table)
+    name, data = read_input(arguments.table, TABLE)
     talk = TableTalk()
     lines = lines_of_table(data, name, options, talk)
     talk.finish()

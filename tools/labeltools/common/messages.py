@@ -8,15 +8,13 @@ from contextlib import suppress
 from pathlib import Path
 from typing import NamedTuple
 
-from labeltools.common.text import joined, NOTHING, Text, translated
+from labeltools.common.text import joined, NOTHING, Text, translated, UNSEEN
 
 BAD_ARGUMENTS = 2
 UNEXPECTED = 4  # the status of a tool that ends by an exception which nobody expected
 FAULT = Text("this is a fault of label-print: nothing of it was sent; report it")
 OURS = Path(__file__).parents[1]
 MOST_LETTERS = 40  # of a cell that a message quotes
-# the classes of characters in Unicode that change what a terminal shows, or that cut a message
-UNSEEN = ("Cc", "Cf", "Cs", "Zl", "Zp")
 OF_SYSTEM = {
     FileNotFoundError: Text("is its name right?"),
     PermissionError: Text("may you read and write there?"),

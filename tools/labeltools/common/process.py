@@ -11,6 +11,7 @@ from importlib import import_module
 from io import RawIOBase, TextIOWrapper
 from typing import Any, BinaryIO, Callable, Iterator, NoReturn
 
+from labeltools.common.budget import Budget, Kind, LINES
 from labeltools.common.messages import (
     BadArguments,
     fault_of,
@@ -27,7 +28,6 @@ from labeltools.common.text import NOTHING, Text, translated
 
 STANDARD_ERROR = 2
 SHOWN = 60  # letters of what is waited for
-MOST_INPUT = 1 << 29  # bytes
 BLOCK = 1 << 22  # bytes that are read at once
 WRITER = 10.0  # seconds in which a FIFO has a writer, if it gets one
 QUIET, BETWEEN = 1.0, 0.3  # seconds before progress is shown, and until it is shown again
@@ -67,16 +67,19 @@ class CommandTalk(Talk):
             print(f"{self.tool}: {shown}", end="\r", file=sys.stderr, flush=True)
 
 
-def read_input(path: str | None) -> tuple[str, bytes]:
+def read_input(path: str | None, kind: Kind = LINES) -> tuple[str, bytes]:
     """Returns the name and bytes of a file, or of standard input where it is None or `-`.
 
-    Raises `ToolError` if it is empty, and `OSError`.
+    Raises `ToolError` if it is empty or has more than its kind, and `OSError`.
     """
     is_standard = path is None or path == "-"
     if is_standard and sys.stdin is None:
         raise ToolError(Text("standard input is closed"))
     name = Text("standard input") if is_standard else str(path)
-    data = read_all(sys.stdin.buffer, name) if is_standard else read_file(str(path))
+    if is_standard:
+        data = read_all(sys.stdin.buffer, name, kind)
+    else:
+        data = read_file(str(path), kind)
     if not data:
         hint = Text("did the command that wrote it report an error?")
         hint = hint.in_window(Text("is it the right file?"))
@@ -84,9 +87,9 @@ def read_input(path: str | None) -> tuple[str, bytes]:
     return name, data
 
 
-def read_file(path: str) -> bytes:
+def read_file(path: str, kind: Kind = LINES) -> bytes:
     """Returns the bytes of a file; of a FIFO it waits for a writer, but not for ever. Raises as
-    `read_input`.
+    `read_input`, but for one that is empty.
     """
     with open(path, "rb", opener=lambda name, how: os.open(name, how | os.O_NONBLOCK)) as file:
         if stat.S_ISFIFO(os.fstat(file.fileno()).st_mode):
@@ -95,25 +98,22 @@ def read_file(path: str) -> bytes:
             if not writer.poll(WRITER * 1000):
                 raise ToolError(Text("{}: no program writes to it", path))
         os.set_blocking(file.fileno(), True)
-        return read_all(file, path)
+        return read_all(file, path, kind)
 
 
-def read_all(file: BinaryIO, name: str) -> bytes:
-    """Returns what is in a file, up to its end; raises `ToolError` if that is more than any input
-    has, of a file before it is read: one with holes has bytes that nobody sent.
+def read_all(file: BinaryIO, name: str, kind: Kind) -> bytes:
+    """Returns what is in a file, up to its end; raises `TooMuch` if that is more than its kind has,
+    of a file before it is read: one with holes has bytes that nobody sent.
     """
-    size = 0
     with suppress(OSError):  # it is no file of the system
-        size = os.fstat(file.fileno()).st_size
-    if size <= MOST_INPUT:
-        found = []
-        left = MOST_INPUT
-        while left >= 0 and (data := file.read(BLOCK)):
-            found.append(data)
-            left -= len(data)
-        if left >= 0:
-            return b"".join(found)
-    raise ToolError(Text("{} has more than {} MB", name, MOST_INPUT >> 20))
+        Budget(name, os.fstat(file.fileno()).st_size, kind)
+    found = []
+    size = 0
+    while data := file.read(BLOCK):
+        found.append(data)
+        size += len(data)
+        Budget(name, size, kind)
+    return b"".join(found)
 
 
 def standard_output() -> BinaryIO:

@@ -5,10 +5,15 @@ xgettext finds them: `--keyword=Text --keyword=counted:1,2`.
 
 import re
 import shlex
+import unicodedata
 from dataclasses import dataclass
 from typing import Iterable, Iterator
 
 from labeltools.common.language import ngettext, one_text
+
+# the classes of characters in Unicode that change what a terminal shows, or that cut a message
+UNSEEN = ("Cc", "Cf", "Cs", "Zl", "Zp")
+IN_DOUBLE_QUOTES = re.compile('[$`"!\\\\]')  # what a shell reads there
 
 
 class Text(str):
@@ -100,11 +105,37 @@ class Remedy:
         return f"--{self.option}{sign}{self:value}" if self.value else f"--{self.option}"
 
     def __format__(self, form: str) -> str:
-        if form != "value":
-            return str(self)
-        safe = shlex.quote(self.value)
-        has_letter = any(map(str.isalnum, self.value))
-        return safe if has_letter or safe != self.value else f"'{self.value}'"
+        return shell_word(self.value) if form == "value" else str(self)
+
+
+def shell_word(value: str) -> str:
+    """Returns a value as one word of a shell, in quotes where these help to read it: such as a
+    person would type, if they are safe, and else the shell's own.
+
+    >>> print(*map(shell_word, ("EAN", "Old ones", "Prix d'achat", "d'un $", ",", "=1")))
+    EAN 'Old ones' "Prix d'achat" 'd'"'"'un $' ',' '=1'
+    """
+    if any(unicodedata.category(sign) in UNSEEN for sign in value):
+        return f"$'{''.join(map(bash_escape, value))}'"
+    if "'" in value and not IN_DOUBLE_QUOTES.search(value):
+        return f'"{value}"'
+    quoted = shlex.quote(value)
+    is_sign = not value.startswith("-") and not any(map(str.isalnum, value))
+    is_bare = quoted == value and (is_sign or value.startswith("="))  # which zsh would look up
+    return f"'{value}'" if is_bare else quoted
+
+
+def shell_line(words: Iterable[str]) -> str:
+    """Returns words as a command of a shell."""
+    return " ".join(map(shell_word, words))
+
+
+def bash_escape(sign: str) -> str:
+    """Returns a character as it stands between `$'` and `'`."""
+    if unicodedata.category(sign) not in UNSEEN and sign not in "'\\!":
+        return sign
+    known = "surrogateescape" if "\udc80" <= sign <= "\udcff" else "surrogatepass"
+    return "".join(f"\\x{byte:02x}" for byte in sign.encode("utf-8", known))
 
 
 def either(remedies: Iterable[Remedy]) -> Text:

@@ -179,7 +179,7 @@ class FramedDesign:
 
 def base_of(text: Fitted) -> float:
     """Returns where the base line of a text is below its top."""
-    return text.glyphs.base if text.glyphs else text.layout.get_baseline() / UNIT
+    return text.glyphs.base if text.glyphs else float(text.layout.get_baseline() / UNIT)
 
 
 def styled_text(

@@ -17,7 +17,7 @@ import re
 from collections import Counter
 from dataclasses import dataclass, replace
 from functools import lru_cache
-from typing import Any, Callable, Iterator, Mapping, NamedTuple
+from typing import Any, Callable, Iterable, Iterator, Mapping, NamedTuple
 from xml.etree.ElementTree import Element
 
 import cairo
@@ -256,14 +256,20 @@ def located(design: SvgDesign, places: list[Place]) -> Iterator[Place]:
     """
     names = [f"#place-{number}" for number in range(len(places))]
     edges = (f"{','.join(names)}{{{side}:{THIN}!important}}" for side in ("height", "width"))
-    handles = [handle_of(design.page.file, design.page.data, sheet) for sheet in ("", *edges)]
     area = design.area(1.0)
-    for name, place in zip(names, places):
-        whole, upper, left = (
-            handle.get_geometry_for_layer(name, area).out_logical_rect for handle in handles
-        )
-        placed = located_place(design.page.file, place, whole, upper, left)
-        yield replace(placed, colour=colour_of(handles[0], name, area, placed))
+    # one after the other: each keeps all of the page in memory
+    file, data = design.page.file, design.page.data
+    upper, left = (sides_of(handle_of(file, data, sheet), names, area) for sheet in edges)
+    handle = handle_of(file, data)
+    whole = sides_of(handle, names, area)
+    for name, place, *rectangles in zip(names, places, whole, upper, left):
+        placed = located_place(file, place, *rectangles)
+        yield replace(placed, colour=colour_of(handle, name, area, placed))
+
+
+def sides_of(handle: Any, names: Iterable[str], area: Any) -> list[Any]:
+    """Returns the rectangles of some elements."""
+    return [handle.get_geometry_for_layer(name, area).out_logical_rect for name in names]
 
 
 def located_place(file: str, place: Place, whole: Any, upper: Any, left: Any) -> Place:

@@ -22,6 +22,7 @@ from xml.etree.ElementTree import Element
 
 import cairo
 
+from labeltools.common.budget import Budget, DOTS, PAGE, PAGE_MEMORY, PAGE_SECONDS, PIXELS
 from labeltools.common.messages import OF_SYSTEM, ToolError
 from labeltools.common.text import NOTHING, Remedy, Text
 from labeltools.layout.pango import gi_library
@@ -32,14 +33,9 @@ BEGIN = '<svg xmlns="http://www.w3.org/2000/svg"'
 LINKS = ("href", "{http://www.w3.org/1999/xlink}href")
 DPI = 96.0  # of CSS, in which lengths without a unit are; librsvg takes 90 where nothing is said
 PX = 25.4 / DPI  # millimetres
-MOST_BYTES = 8_000_000
-MOST_SECONDS = 5  # of a processor, in which a page has to be drawn
-MOST_MEMORY = 500_000_000  # bytes that this may take
 TRIAL = str(Path(__file__).with_name("trial.py"))
 MOST_SEEN = 4_000_000  # dots of a page that is looked at, on which each is drawn first
-MOST_DOTS = 40_000_000  # of a drawing: A4 at 600 dpi has 35 million
 KEPT = 4  # drawings that are known to take little
-MOST_PIXELS = 25  # millions, of its pictures: each takes 16 bytes when it is drawn
 LARGEST = 4000.0  # millimetres of a page
 PACKED = b"\x1f\x8b"  # what .svgz begins with
 WITHIN = re.compile("#|data:image/(?:png|jpeg);base64,")
@@ -59,7 +55,6 @@ ELEMENTS = frozenset(
 # what stands in a rectangle of its own, or of others, and is no place
 HOLDERS = ("clipPath", "defs", "marker", "mask", "pattern", "symbol")
 PLAIN = Text("export it as a picture, or with texts as paths")
-SMALLER = Text("make its pictures smaller")
 SAVE_AGAIN = Text("save it as SVG once more")
 
 
@@ -95,7 +90,7 @@ class SvgPage:
 
     def check_dots(self, wide: int, high: int) -> None:
         """Raises `ToolError` for a drawing in more dots than any printer's label has."""
-        if wide * high > MOST_DOTS:
+        if wide * high > DOTS.most(len(self.data)):
             what = Text("{} has {} by {} dots, which are too many to draw", self.file, wide, high)
             hint = Text("give a smaller {}, or {}", Remedy("dpi"), Remedy("to", "pdf"))
             raise ToolError(what, hint.in_window(Text("make it smaller")))
@@ -121,21 +116,21 @@ def read_page(file: str) -> SvgPage:
 
 def data_of(file: str) -> bytes:
     """Returns the bytes of a file; raises `ToolError`. A FIFO is empty, and is not waited for."""
+    most = PAGE.bytes.most(0)
     try:
         with open(
             file, "rb", opener=lambda name, how: os.open(name, how | os.O_NONBLOCK)
         ) as opened:
-            data = opened.read(MOST_BYTES + 1) or b""
+            data = opened.read(most + 1) or b""
         if data.startswith(PACKED):
-            data = zlib.decompressobj(zlib.MAX_WBITS + 16).decompress(data, MOST_BYTES + 1)
+            data = zlib.decompressobj(zlib.MAX_WBITS + 16).decompress(data, most + 1)
     except OSError as error:
         what = Text("{}: {}", Remedy("design", file), error.strerror)
         what = what.in_window(Text("{}: {}", file, error.strerror))
         raise ToolError(what, OF_SYSTEM.get(type(error), NOTHING)) from error
     except zlib.error as error:
         raise ToolError(Text("{} is not SVG: {}", file, error), SAVE_AGAIN) from error
-    if len(data) > MOST_BYTES:
-        raise ToolError(Text("{} has more than {} MB", file, MOST_BYTES // 1_000_000), SMALLER)
+    Budget(file, len(data), PAGE)
     return data
 
 
@@ -146,10 +141,10 @@ def check_cost(file: str, data: bytes, way: str, *sides: int) -> None:
     no fork, in which librsvg waits for threads that this process has, and it has not.
     """
     rsvg()
-    limits = (MOST_SECONDS, MOST_MEMORY)
-    command = (sys.executable, "-I", TRIAL, *map(str, limits), way, *map(str, sides))
+    seconds, memory = (share.most(len(data)) for share in (PAGE_SECONDS, PAGE_MEMORY))
+    command = (sys.executable, "-I", TRIAL, *map(str, (seconds, memory)), way, *map(str, sides))
     if subprocess.run(command, input=data, stderr=subprocess.DEVNULL, check=False).returncode:
-        most = (MOST_SECONDS, MOST_MEMORY // 1_000_000)
+        most = (seconds, memory // PAGE_MEMORY.unit)
         raise ToolError(Text("{} cannot be drawn in {} seconds and {} MB", file, *most), PLAIN)
 
 
@@ -193,7 +188,7 @@ def check_elements(file: str, root: Element) -> None:
     tags = dict.fromkeys(map(tag_of, filled))
     if unknown := [tag for tag in tags if not tag.startswith("{") and tag not in ELEMENTS]:
         raise ToolError(Text("{}: {} cannot be drawn", file, ", ".join(unknown)), PLAIN)
-    pixels = 0
+    budget = Budget(file, 0, PAGE)
     for element in root.iter():
         links = [*filter(None, map(element.get, LINKS))]
         sheets = [element.text or ""] * (tag_of(element) == "style")
@@ -203,10 +198,7 @@ def check_elements(file: str, root: Element) -> None:
         elif not all(map(WITHIN.match, links)) or any(map(OUTSIDE.search, styles)):
             raise refused_link(file, tag_of(element), any(map(DRAWING.match, links)))
         elif tag_of(element) == "image":
-            pixels += sum(pixels_of(file, link.partition(",")[2]) for link in links)
-    if pixels > MOST_PIXELS * 1_000_000:
-        what = Text("{}: pictures have more than {} million pixels", file, MOST_PIXELS)
-        raise ToolError(what, SMALLER)
+            budget.take(PIXELS, sum(pixels_of(file, one.partition(",")[2]) for one in links))
 
 
 def refused_link(file: str, tag: str, is_drawing: bool) -> ToolError:

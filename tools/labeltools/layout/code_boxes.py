@@ -64,5 +64,5 @@ def price_size(frame: Frame, need: Need) -> int:
     box = frame.boxes.get("price")
     if not need.price or box is None:
         return size
-    wide = min(getattr(need, style) for style in styles_from(frame.price_style))
+    wide = min(map(need.price_width, styles_from(frame.price_style)))
     return min(size, math.floor(box.width / wide / HINTING))

@@ -59,6 +59,11 @@ class Need(NamedTuple):
         """What is of the code alone."""
         return self.symbology, self.width, self.height
 
+    def price_width(self, style: str) -> float:
+        """Returns the width of its price in a style."""
+        width: float = getattr(self, style)
+        return width
+
     @property
     def kind(self) -> Symbology:
         """The symbology."""
@@ -78,7 +83,8 @@ class Frame:
     `sizes` are those of letters; `module` is that of bars, `bars` their height, `digits` the height
     below them; `lines`, `text_lines` and `details_lines` are the most of each; `is_whole` is
     whether most titles are, and `room_of_titles` the width of all lines of a title, in letters of
-    its size, or infinite where each has one line and is whole; `title_line` that of one line; `price_style` is one of `PRICE_STYLES`.
+    its size, or infinite where each has one line and is whole; `title_line` that of one line;
+    `price_style` is one of `PRICE_STYLES`.
     """
 
     kind: str

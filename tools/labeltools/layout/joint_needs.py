@@ -9,7 +9,6 @@ from functools import cached_property
 from typing import Callable, Mapping, NamedTuple, Sequence
 
 from labeltools.layout.area import Area, LARGEST_QR, MODULE
-from labeltools.layout.price import LEAST_RAISED
 from labeltools.layout.frame import (
     common_value,
     DIGITS_ROOM,
@@ -20,6 +19,7 @@ from labeltools.layout.frame import (
     Need,
     PRICE_STYLES,
 )
+from labeltools.layout.price import LEAST_RAISED
 
 # as parts of a label's size: letters of texts, and white between two parts
 TEXT_PART = 1 / 18
@@ -235,7 +235,7 @@ class JointNeeds:
         style = max(allowed, key=lambda one: allowed[one] * PRICE_STYLES[one])
         return style, allowed[style]
 
-    def score(self, kind: str, title: int, price: int, code: int) -> float:
+    def score(self, kind: str, title: int, price: float, code: int) -> float:
         """Returns what an arrangement is worth by the letters of titles and of the price, and
         without a price by the height of its code.
         """

@@ -14,7 +14,7 @@ from labeltools.common.messages import Origin, Talk
 from labeltools.common.text import joined, Remedy, Text
 from labeltools.layout.area import Area
 from labeltools.layout.code_boxes import code_boxes
-from labeltools.layout.frame import Frame, HINTING, Need, PRICE_STYLES, styles_from
+from labeltools.layout.frame import Frame, HINTING, Need, styles_from
 from labeltools.layout.frame_search import frame_of
 from labeltools.layout.letters import Letters
 from labeltools.layout.price import price_widths
@@ -162,7 +162,8 @@ def need_of(label: PrintLabel, letters: Letters) -> Need:
     """Returns what a label needs."""
     whole = label.record.label
     price = letters.of(whole.price).extent(whole.price, True)
-    prices = price_widths(whole.price, letters)
+    prices = [rounded(width, ROUNDED_PRICE) for width in price_widths(whole.price, letters)]
+    _, with_raised, narrow, narrow_raised = prices
     of_title, of_text = letters.of(label.title), letters.of(label.text)
     text = label.text.split("\n") if label.text else []
     return Need(
@@ -176,7 +177,9 @@ def need_of(label: PrintLabel, letters: Letters) -> Need:
         rounded(max((of_text.extent(line, False).width for line in text), default=0.0)),
         rounded(price.width, ROUNDED_PRICE),
         rounded(price.height, ROUNDED_PRICE),
-        *(rounded(width, ROUNDED_PRICE) for width in prices[1:]),
+        with_raised,
+        narrow,
+        narrow_raised,
         rounded(letters.of(whole.was + whole.unit).extent(whole.was, False).width),
         rounded(letters.of(whole.was + whole.unit).extent(whole.unit, False).width),
         need_of(label, letters.others) if letters.others is not letters else None,
@@ -267,9 +270,14 @@ def alone(need: Need) -> Need:
     """Returns a need that fits by itself where this one does: on the last level a title has one
     line, however long it is.
     """
-    widths = {style: rounded(getattr(need, style)) for style in PRICE_STYLES}
-    plain = alone(need.plain) if need.plain else None
-    return need._replace(title=(1.0,) if need.title else (), plain=plain, **widths)
+    return need._replace(
+        title=(1.0,) if need.title else (),
+        price=rounded(need.price),
+        raised=rounded(need.raised),
+        narrow=rounded(need.narrow),
+        narrow_raised=rounded(need.narrow_raised),
+        plain=alone(need.plain) if need.plain else None,
+    )
 
 
 def layout_in(frame: Frame, need: Need, area: Area) -> Layout | None:
@@ -291,7 +299,7 @@ def layout_in(frame: Frame, need: Need, area: Area) -> Layout | None:
             boxes[kind] = box
     size = frame.sizes["price"]
     price = boxes.get("price")
-    wide = min(getattr(need, style) for style in styles_from(frame.price_style))
+    wide = min(map(need.price_width, styles_from(frame.price_style)))
     is_small = price is not None and HINTING * size * wide > price.width + size / 4
     return Layout(frame, need.kind, module, boxes, is_small)
 
@@ -339,9 +347,8 @@ def largest_of(needs: Sequence[Need]) -> Need:
     most = {name: max(getattr(need, name) for need in needs) for name in NUMBERS}
     plains = [need.plain for need in needs if need.plain]
     plain = largest_of(plains) if plains else None
-    return needs[0]._replace(
-        title=max((need.title for need in needs), key=sum), plain=plain, **most
-    )
+    title = max((need.title for need in needs), key=sum)
+    return needs[0]._replace(**most)._replace(title=title, plain=plain)
 
 
 def smallest_for(need: Need, area: Area, width: int) -> Size | None:

@@ -15,9 +15,7 @@ KEPT = 2048  # prices whose parts are kept
 CENTS = 0.57  # letters of cents
 CURRENCY = 0.33  # letters of a currency
 BETWEEN = 0.07  # white between two parts
-LEAST_RAISED = (
-    5.4  # millimetres: the smallest letters with raised cents, which are 2.3 mm high then
-)
+LEAST_RAISED = 5.4  # millimetres: the smallest letters with raised cents, then 2.3 mm high
 SHORT = frozenset({"kr", "Kč", "zł", "Ft", "lei", "лв", "лв.", "din", "Fr.", "KM", "ден"})
 AMOUNT = re.compile(
     r"([^\d\s]{0,3})\s?((?:\d{1,3}(?:([., '’\u00a0\u202f])\d{3}(?:\3\d{3})*)?|\d+)([.,]))(\d\d)"
@@ -57,16 +55,16 @@ class Raised(NamedTuple):
 
 
 @lru_cache(KEPT)
-def parts_of(price: str) -> PriceParts | None:
+def price_parts(price: str) -> PriceParts | None:
     """Returns the parts of a price; None where it has no two decimals, or anything else beside a
     currency.
 
-    >>> parts_of("1.249,00 €")
+    >>> price_parts("1.249,00 €")
     PriceParts(before='', whole='1.249,', cents='00', after='€')
-    >>> parts_of("$3.50")
+    >>> price_parts("$3.50")
     PriceParts(before='$', whole='3.', cents='50', after='')
-    >>> [parts_of(one) for one in ("12 €", "1.250", "1,259 €", "2 für 3,00 €", "1.2.34", "3,50 €/kg")]
-    [None, None, None, None, None, None]
+    >>> {price_parts(text) for text in ("12 €", "1.250", "1,259 €", "2 für 3,00 €", "1.2.34")}
+    {None}
     """
     found = AMOUNT.fullmatch(price)
     if not found:
@@ -86,7 +84,7 @@ def is_currency(text: str) -> bool:
 @lru_cache(KEPT)
 def raised(price: str, letters: Letters) -> Raised | None:
     """Returns a price with raised cents; None where it has none."""
-    found = parts_of(price)
+    found = price_parts(price)
     if found is None:
         return None
     top = -letters.sign("0", True).top

@@ -5,10 +5,10 @@ import sys
 from codecs import BOM_UTF8
 from dataclasses import dataclass
 from itertools import filterfalse
-from pathlib import Path
 from typing import Iterable, Iterator
 
 from labeltools.common.messages import Origin, ToolError
+from labeltools.common.process import read_file
 from labeltools.common.report import few, LeftOut, Ranges, ranges_of, ranges_text
 from labeltools.common.text import Text
 from labeltools.lines.file import LineRecord
@@ -120,7 +120,7 @@ def codes_named(argument: str) -> set[bytes]:
     """Returns the code that an argument is, or those of the lines of a file, as in @damaged.txt."""
     if not argument.startswith(FILE):
         return {argument.encode("utf-8", "surrogateescape")}
-    data = Path(argument[len(FILE) :]).read_bytes().removeprefix(BOM_UTF8)
+    data = read_file(argument[len(FILE) :]).removeprefix(BOM_UTF8)
     found = {line.strip() for line in data.splitlines()}
     found.discard(b"")
     if not found:

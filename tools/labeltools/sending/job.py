@@ -1,6 +1,5 @@
 """A job of CUPS: how it is sent, and what becomes of it."""
 
-import shlex
 import time
 from collections.abc import Callable, Iterator, Mapping, Sized
 from dataclasses import dataclass, field
@@ -9,7 +8,7 @@ from typing import Any, IO
 from urllib.parse import unquote
 
 from labeltools.common.messages import ToolError
-from labeltools.common.text import joined, NOTHING, Text
+from labeltools.common.text import joined, NOTHING, shell_line, Text
 from labeltools.printing.job import Job
 from labeltools.sending.answers import NO_PAPER, OPEN_COVER, Trouble
 from labeltools.sending.cups import cups_library, refusals
@@ -125,7 +124,7 @@ class SentJob:
             return JobState(why, said, True, not why, is_begun=is_begun)
         found = trouble_of(self.queue, printer)
         if state == HELD and found is None:
-            line = shlex.join(["lp", "-i", f"{self.queue}-{self.number}", "-H", "resume"])
+            line = shell_line(["lp", "-i", f"{self.queue}-{self.number}", "-H", "resume"])
             held = Text("job {} is held", self.number)
             found = Trouble(joined(": ", filter(None, (held, said))), lets_go_on(line))
         trouble = Text("{}: {}", self.queue, found.what) if found else NOTHING
@@ -169,7 +168,7 @@ class SentJob:
 
     def unseen(self) -> Unseen:
         """Returns that CUPS does not answer, and how to see what became of the job."""
-        line = shlex.join(["lpstat", "-W", "all", "-o", self.queue])
+        line = shell_line(["lpstat", "-W", "all", "-o", self.queue])
         what = Text("CUPS does not answer any more: labels may be on paper")
         hint = Text("look there; once CUPS answers, {} shows the job", line)
         return Unseen(what, hint)
@@ -280,12 +279,12 @@ def trouble_of(queue: str, printer: Mapping[str, Any]) -> Trouble | None:
     """Returns what keeps a queue from printing, by its attributes in CUPS; None if nothing does."""
     reasons = printer.get("printer-state-reasons", ())
     if any(reason.startswith("paused") for reason in reasons):
-        return Trouble(Text("it is paused"), lets_go_on(shlex.join(["cupsenable", queue])))
+        return Trouble(Text("it is paused"), lets_go_on(shell_line(["cupsenable", queue])))
     for name, trouble in REASONS.items():
         if any(reason.startswith(name) for reason in reasons):
             return trouble
     if printer.get("printer-state") == PRINTER_STOPPED:
-        return Trouble(Text("it has stopped"), lets_go_on(shlex.join(["cupsenable", queue])))
+        return Trouble(Text("it has stopped"), lets_go_on(shell_line(["cupsenable", queue])))
     return None
 
 

@@ -9,7 +9,8 @@ that none has. One that was `sending` when its lane ended may be on paper or not
 
 A lane locks a byte far behind the end of the file for as long as it runs, and one more while it
 reads and writes. A lane that gives a label up leaves its number with it. Who may only read a file
-can lock it too, and so stop all lanes: so nobody may read a journal who may not write it.
+can lock it too, and so stop all lanes: so nobody may read a journal who may not write it, and such
+a lock is no lane's.
 
 A last line that was cut off is taken out: the label of `sending` was not sent, that of `taken` is
 in doubt. Only a line of `sending` that has all its fields stays: an editor may have left out its
@@ -21,6 +22,7 @@ import fcntl
 import os
 import re
 import stat
+import struct
 import time
 from contextlib import contextmanager, suppress
 from pathlib import Path
@@ -40,6 +42,7 @@ STUCK = 60.0  # seconds that a lane may wait for another one
 PAUSE = 0.001  # seconds between two looks whether it ends
 FAR = 1 << 62  # of a file: bytes that are locked and never written
 READERS, WRITERS = 0o044, 0o022  # others than the owner
+LOCK = struct.Struct("hhqqi4x")  # the kind of a lock, what its byte is counted from, and who has it
 NO_JOURNAL = Text("give a file that label-print --journal has made, or a new name")
 NOT_WRITTEN = Text("make it writable")
 NO_LOCKS = Text("put the journal on a disk that locks files")
@@ -72,7 +75,7 @@ class Journal:
         self.file = os.open(path, flags, 0o600)
         if not stat.S_ISREG(os.fstat(self.file).st_mode):
             raise ToolError(Text("{} is not a journal", path), NO_JOURNAL)
-        self.has_readers = not is_closed_to_readers(self.file)
+        close_to_readers(self.file)
         self.entries: dict[bytes, Entry] = {}  # of codes as they stand in the file
         self.end = 0
         self.lines = 0
@@ -82,6 +85,11 @@ class Journal:
             self.read()
             self.lane = self.free_lane()
         self.before = dict(self.entries)
+
+    @property
+    def has_others(self) -> bool:
+        """Whether other users than its owner may read or write it."""
+        return bool(os.fstat(self.file).st_mode & (READERS | WRITERS))
 
     def claim(self, record: LineRecord, again: str | None = None) -> bool:
         """Writes that the label of a line is sent, and returns whether it is for this lane: False
@@ -143,10 +151,7 @@ class Journal:
         """Returns whether the lane of an entry is sending it now."""
         if entry.event != SENDING or entry.lane == self.lane:
             return False
-        if not self.is_free(FAR + entry.lane):
-            return True
-        fcntl.lockf(self.file, fcntl.LOCK_UN, 1, FAR + entry.lane)
-        return False
+        return is_locked_to_write(self.file, FAR + entry.lane)
 
     def free_lane(self) -> int:
         """Takes the first number that no other lane has, and no label waits with; returns it."""
@@ -289,16 +294,22 @@ class Journal:
         self.lines += 1
 
 
-def is_closed_to_readers(file: int) -> bool:
-    """Takes a file away from those who may read it and not write it, and returns whether none of
-    them may; not every disk can do so.
-    """
+def close_to_readers(file: int) -> None:
+    """Takes a file away from those who may read it and not write it; not every disk can do so."""
     mode = stat.S_IMODE(os.fstat(file).st_mode)
     left = mode & ~(READERS & ~(mode & WRITERS) << 1)
     with suppress(OSError):
         if left != mode:
             os.fchmod(file, left)
-    return stat.S_IMODE(os.fstat(file).st_mode) == left
+
+
+def is_locked_to_write(file: int, byte: int) -> bool:
+    """Returns whether another process has locked a byte as only those can who may write the file: a
+    lock of a lane, and not of somebody who may only read it.
+    """
+    asked = LOCK.pack(fcntl.F_WRLCK, os.SEEK_SET, byte, 1, 0)
+    kind: int = LOCK.unpack(fcntl.fcntl(file, fcntl.F_GETLK, asked))[0]
+    return kind == fcntl.F_WRLCK
 
 
 def is_in_place(path: str, file: int) -> bool:

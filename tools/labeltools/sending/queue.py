@@ -3,14 +3,13 @@ labels are printed dot for dot.
 """
 
 import os
-import shlex
 from collections.abc import Mapping, Sequence
 from dataclasses import dataclass, field
 from pathlib import Path
 from urllib.parse import urlsplit
 
 from labeltools.common.messages import BAD_ARGUMENTS, ToolError
-from labeltools.common.text import either, joined, NOTHING, Remedy, Text
+from labeltools.common.text import either, joined, NOTHING, Remedy, shell_line, shell_word, Text
 from labeltools.drawing.forms import PDF
 from labeltools.paper.stock import Size
 from labeltools.printing.job import DRAWING_DPI, Job
@@ -166,7 +165,7 @@ class Queue:
         """Returns how a label printer takes labels whose queue has the driver of another one."""
         device, ways = direct_ways(self.device)
         labels = f"{self.name}-labels"
-        line = shlex.join(["lpadmin", "-p", labels, "-E", "-v", device, "-m", "raw"])
+        line = shell_line(["lpadmin", "-p", labels, "-E", "-v", device, "-m", "raw"])
         to = Remedy("print", labels)
         return Text(
             "for a label printer give {}, or make a queue without a driver and give {}: {}",
@@ -274,7 +273,7 @@ def lp_line(job: Job, name: str) -> str:
     dpi = job.plan.dpi
     options = Queue(name, 0, {dpi: f"{dpi}dpi"}).options(job)
     words = ["raw"] if options is RAW else [f"{name}={value}" for name, value in options.items()]
-    given = [shlex.join(["lp", "-d", name]), *map(shlex.quote, words)]
+    given = [shell_line(["lp", "-d", name]), *map(shell_word, words)]
     return " -o ".join(given) + f" FILE.{job.form.name}"
 
 

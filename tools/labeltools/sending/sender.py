@@ -1,6 +1,5 @@
 """Sends labels: one loop for every way out, with a journal or without one."""
 
-import shlex
 from contextlib import suppress
 from functools import partial
 from pathlib import Path
@@ -10,7 +9,7 @@ from labeltools.common.files import save
 from labeltools.common.messages import fault_of, sentence, Talk, ToolError, UNEXPECTED
 from labeltools.common.process import standard_output
 from labeltools.common.report import MOST_RANGES, places_text
-from labeltools.common.text import counted, joined, NOTHING, Remedy, Text
+from labeltools.common.text import counted, joined, NOTHING, Remedy, shell_word, Text
 from labeltools.layout.layout import LaidOut
 from labeltools.lines.file import LineRecord
 from labeltools.printing.press import Batch, Prepared, Press
@@ -236,7 +235,7 @@ class Sender:
                 Remedy("after", "N"),
             ).in_window(look)
         words = "--only ROWS" if self.is_clear else f"--only-code {FILE}FILE"
-        again = f"{words} --again {shlex.quote(self.outlet.name)}"
+        again = f"{words} --again {shell_word(self.outlet.name)}"
         return Text(
             "{} may be missing: look there, and print what is missing with {}", labels, again
         )
@@ -358,7 +357,7 @@ def may_be_on_paper(printer: str, words: str) -> Text:
     choose them.
     """
     reason = Text("may be on paper, from {}: look for it", printer)
-    again = f"{words} --again {shlex.quote(printer)}"
+    again = f"{words} --again {shell_word(printer)}"
     hint = Text(
         "if it is there, change sending to taken in its line of the journal; if not, print only "
         "it with {}",
@@ -369,4 +368,4 @@ def may_be_on_paper(printer: str, words: str) -> Text:
 
 def by_code(code: bytes) -> str:
     """Returns the words that choose the label of a code of a journal, and no other one."""
-    return f"--only-code {shlex.quote(code.decode())}"
+    return f"--only-code {shell_word(code.decode())}"

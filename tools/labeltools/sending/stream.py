@@ -24,6 +24,7 @@ from queue import Queue
 from threading import Thread
 from typing import Any, BinaryIO, Iterator, Sequence
 
+from labeltools.common.budget import Budget, LINE_OF_STREAM, SINGLE_LINE
 from labeltools.common.messages import (
     fault_of,
     sentence,
@@ -48,7 +49,7 @@ from labeltools.sending.sender import Sender
 
 SKIPPED = (b'#{"labels"', b'#{"end"')
 MOST_AHEAD = 1000  # lines of a FIFO that wait to be printed
-LONGEST_LINE = 1 << 16  # bytes that are read; labels(1) refuses far shorter ones
+LONGEST_LINE = LINE_OF_STREAM.most(0)  # bytes: of a longer one no more is kept
 LOOK = 5.0  # seconds between two looks whether a FIFO has its name still
 CUT_OFF = Text("cut off before its line end")
 TOOL = "label-print"  # begins what is a message and no answer
@@ -280,7 +281,10 @@ class Stream:
     def laid_out(self, parts: Sequence[InputLine]) -> tuple[LineRecord, Prepared]:
         """Returns a line with its label; raises `Refused`."""
         numbers, lines_read = zip(*parts)
+        budget = Budget(Text("line {}", numbers[-1]), LONGEST_LINE, SINGLE_LINE)
         try:
+            for line in lines_read[:-1]:  # a long one of data is refused for that
+                budget.allow(LINE_OF_STREAM, len(line))
             lines = drawn_lines(
                 b"".join(lines_read), self.name, self.options.is_escaped, Silence(), numbers
             )

@@ -8,6 +8,7 @@ from dataclasses import dataclass
 from itertools import count, islice
 from typing import NamedTuple
 
+from labeltools.common.budget import Budget, CSV, LINE as WHOLE_LINE, LINE_ENDS, MEGABYTE
 from labeltools.common.column_names import name_of, row_with_names
 from labeltools.common.messages import BAD_ARGUMENTS, named, quoted, RowError, ToolError
 from labeltools.common.text import Remedy, Text
@@ -15,9 +16,7 @@ from labeltools.sheets.encoding import decoded
 from labeltools.sheets.file_options import CsvOptions
 from labeltools.sheets.rows import Row
 
-LARGEST_FILE = 40 << 20  # bytes
-LONGEST_LINE = 1 << 20  # letters
-MOST_LINE_ENDS = 1_200_000  # a spreadsheet has at most 1,048,576 rows
+LOOKED_AFTER = 256  # rows, between two looks at the clock
 ROWS_LOOKED_AT = 1000  # for the delimiter
 NAMES_LOOKED_AT = 50  # for the row of names
 MARKS = "\t;,|"  # delimiters that are found by themselves
@@ -27,6 +26,7 @@ DELIMITERS = {"tab": "\t", "none": ONE_COLUMN}
 # the first line in which some exports name the delimiter for Excel; no spreadsheet shows it as a
 # row
 SEPARATOR_LINE = re.compile(r'"?sep=([^"\r\n])"?[;,\t]*(?:\r\n|\r|\n|\Z)', re.IGNORECASE)
+LINE_END = re.compile("[\r\n]+")
 LINE = re.compile(r"[^\r\n]*(?:\r\n|\r|\n)|[^\r\n]+")
 FIGURES = re.compile(r"\s*[0-9][0-9 .,'’-]*")  # a code or a price
 BETWEEN = Text("It is between cells")
@@ -112,10 +112,14 @@ class CsvTable:
     begin: int
     delimiter: str
     options: CsvOptions
+    budget: Budget
 
     def records(self) -> Iterator[Record]:
-        """Yields the rows of the text."""
-        return parsed(self.text, self.begin, self.delimiter)
+        """Yields the rows of the text, as far as the budget allows."""
+        for record in parsed(self.text, self.begin, self.delimiter):
+            if record.number % LOOKED_AFTER == 1:
+                self.budget.look()
+            yield record
 
     def rows(self) -> Iterator[Row]:
         """Yields the rows from the row of names on; one whose cells may have moved has a
@@ -148,29 +152,21 @@ class CsvTable:
         return Shape(head.number, named, width, max(rest, 0), asked if has_names else range(width))
 
 
-def csv_table(data: bytes, name: str, options: CsvOptions) -> CsvTable:
-    """Returns a table of text; raises `ToolError` where its encoding or its delimiter is not
-    sure.
+def csv_table(data: bytes, options: CsvOptions, budget: Budget) -> CsvTable:
+    """Returns a table of text; raises `ToolError` where its encoding or its delimiter is not sure,
+    or if it takes too much.
     """
-    if len(data) > LARGEST_FILE:
-        raise ToolError(
-            Text("{} has more than {} MB", name, LARGEST_FILE >> 20),
-            Text("split it into several tables"),
-        )
-    text = decoded(data, name, options.file.encoding)
-    if text.count("\n") + text.count("\r") - text.count("\r\n") > MOST_LINE_ENDS:
-        raise ToolError(
-            Text("{} has more than {} line ends", name, MOST_LINE_ENDS), Text("is it a table?")
-        )
-    if max(map(len, LINE.findall(text)), default=0) > LONGEST_LINE:
-        raise ToolError(Text("{} has a line of more than 1 MB", name), Text("is it a table?"))
+    budget.allow(CSV, len(data))
+    text = decoded(data, budget.name, options.file.encoding)
+    budget.allow(LINE_ENDS, text.count("\n") + text.count("\r") - text.count("\r\n"))
+    budget.allow(WHOLE_LINE, max(map(len, LINE.findall(text)), default=0))
     begin = 1 if text.startswith("\ufeff") else 0
     given = DELIMITERS.get(options.file.delimiter or "", options.file.delimiter)
     separator = SEPARATOR_LINE.match(text, begin)
     if separator:
         begin = separator.end()
         given = given or separator[1]
-    return CsvTable(text, begin, delimiter_of(text, begin, given, options), options)
+    return CsvTable(text, begin, delimiter_of(text, begin, given, options), options, budget)
 
 
 def delimiter_of(text: str, begin: int, given: str | None, options: CsvOptions) -> str:
@@ -246,7 +242,7 @@ def parsed(text: str, begin: int, delimiter: str) -> Iterator[Record]:
     """Yields the rows with the numbers that a spreadsheet shows; after a quote that does not match,
     the last one.
     """
-    csv.field_size_limit(LONGEST_LINE)
+    csv.field_size_limit(MEGABYTE)
     lines = (line[0] for line in LINE.finditer(text, begin))
     reader = csv.reader(lines, delimiter=delimiter, strict=True)
     again = LINE.finditer(text, begin)  # for the lines of faulty rows, `passed` of which are behind
@@ -280,14 +276,19 @@ def is_of_rows(cells: Sequence[str], delimiter: str) -> bool:
     False
     """
     for place, cell in enumerate(cells):
-        first, *_, last = re.split("[\r\n]+", cell) * 2
-        rows = [*cells[:place], *first.split(delimiter)], [
-            *last.split(delimiter),
-            *cells[place + 1 :],
-        ]
+        first, *_, last = LINE_END.split(cell) * 2
+        is_whole = (
+            place + first.count(delimiter) + 1 == len(cells) and last.count(delimiter) == place
+        )
+        if first == cell or not is_whole:
+            continue
+        rows = (
+            [*cells[:place], *first.split(delimiter)],
+            [*last.split(delimiter), *cells[place + 1 :]],
+        )
         figures = [[FIGURES.fullmatch(text) is not None for text in row] for row in rows]
-        if first != cell and any(figures[0]) and figures[0] == figures[1]:
-            return len(figures[0]) == len(cells)
+        if any(figures[0]) and figures[0] == figures[1]:
+            return True
     return False
 
 

@@ -244,7 +244,6 @@ class OdsReader(Reader[tuple[OdsSheet, Row]]):
 
     def __init__(self, archive: Archive, formatter: Formatter) -> None:
         super().__init__()
-        self.budget = archive.budget
         self.formatter = formatter
         self.styles = styles_of(archive)
         self.path: list[str] = []  # around the rows
@@ -396,7 +395,7 @@ class OdsReader(Reader[tuple[OdsSheet, Row]]):
                 made[style] = self.cell_by(style)
             if cell := made[style]:
                 self.add_letters(len(cell) if isinstance(cell, str) else 1)
-                with_empty_cells(self.cells, place + at).append(cell)
+                with_empty_cells(self.cells, place + at, self.budget).append(cell)
 
     def end_row(self) -> None:
         """Finds the row that is read, as often as it is repeated, but none that is empty and not
@@ -408,11 +407,14 @@ class OdsReader(Reader[tuple[OdsSheet, Row]]):
             merges = tuple(self.merges)
             beside = merges, self.links, self.hidden_places
             row = Row(self.number, self.cells, None, is_hidden, *beside)
-            rows = rows_from(row, self.letters, repeat)
-            self.found.append((self.sheet, next(rows)))
-            self.budget.take(CELLS, (repeat - 1) * len(self.cells))
-            self.found += ((self.sheet, one) for one in rows)
+            self.found += ((self.sheet, one) for one in self.repeated(row, repeat))
         self.number += repeat
+
+    def repeated(self, row: Row, repeat: int) -> Iterator[Row]:
+        """Yields a row as often as it is there, as far as the budget allows."""
+        for number, one in enumerate(rows_from(row, self.letters, repeat)):
+            self.budget.take(CELLS, len(row.cells) if number else 0)
+            yield one
 
     def line_text(self, line: CellLine, style: str, form: Lettering) -> str | Fault:
         """Returns the text of a line of a cell of a style."""

@@ -17,7 +17,7 @@ from typing import Generic, NamedTuple, TypeVar
 from xml.parsers.expat import ExpatError, ParserCreate
 from zipfile import BadZipFile, ZIP_DEFLATED, ZIP_STORED, ZipFile
 
-from labeltools.common.budget import Budget, LETTERS, PARTS, TooMuch
+from labeltools.common.budget import Budget, CELLS, LETTERS, PARTS, TooMuch
 from labeltools.common.messages import BAD_ARGUMENTS, quoted, ToolError
 from labeltools.common.text import counted, give, Remedy, Text
 from labeltools.sheets.cells import Cell
@@ -26,14 +26,11 @@ from labeltools.sheets.rows import Merge, Row
 MOST_ROWS = 1048576
 MOST_COLUMNS = 16384
 MOST_MERGES = 256  # of those that cross one row
-LARGEST_PART = 1 << 28  # bytes
 LARGEST_ROW = 1 << 20  # bytes, or letters
-LARGEST_TEXTS = 1 << 27  # letters of all shared strings
 PIECE = 1 << 16
 LONGEST_KIND = 100  # bytes of the kind of a workbook
 DEEPEST = 100
 MOST_PARTS = 1 << 14  # of the zip
-MOST_OTHERS = 1 << 21  # elements that are no part of a row
 MOST_NAMES = 4096
 LARGEST_EXPONENT = 307  # of a number
 MOST_DIGITS = 10  # of a count
@@ -106,10 +103,6 @@ def opened(data: bytes, budget: Budget) -> Archive:
     for part in archive.infolist():
         if part.compress_type not in (ZIP_STORED, ZIP_DEFLATED):
             raise ValueError("packed as no spreadsheet is")
-        if part.file_size > LARGEST_PART:
-            raise ToolError(
-                Text("has a part of more than 256 MB, {}", quoted(part.filename)), SAVE_AGAIN
-            )
     return archive
 
 
@@ -187,11 +180,12 @@ class Reader(Generic[F]):
     def __init__(self) -> None:
         self.found: list[F] = []
         self.texts: list[str] = []
-        self.depth = self.size = self.others = 0
+        self.depth = self.size = 0
         self.is_inside = False
 
     def read(self, archive: Archive, part: str) -> Iterator[F]:
         """Yields what is found in a part."""
+        self.budget = archive.budget
         parser = self.parser = ParserCreate()
         parser.buffer_text = True
         parser.StartDoctypeDeclHandler = refuse_document_type
@@ -201,9 +195,9 @@ class Reader(Generic[F]):
         for piece in chain(pieces(archive, part), [b""]):
             self.size += len(piece)
             self.feed(piece)
-            if self.size > LARGEST_ROW or self.others > MOST_OTHERS:
+            if self.size > LARGEST_ROW:
                 raise ToolError(TOO_LARGE, SAVE_AGAIN)
-            archive.budget.take(PARTS, len(self.found))
+            self.budget.take(PARTS, len(self.found))
             yield from self.found
             self.found.clear()
 
@@ -226,7 +220,6 @@ class Reader(Generic[F]):
         self.depth -= 1
         if not self.is_inside:
             self.size = 0
-            self.others += 1
 
     def begun(self, name: str, attributes: Attributes) -> None:
         """Takes an element that begins, by its name without a prefix."""
@@ -395,10 +388,12 @@ def merges_at(merges: list[Merge], number: int) -> list[Merge]:
     return [merge for merge in merges if merge.last_row >= number]
 
 
-def with_empty_cells(cells: list[Cell], place: int) -> list[Cell]:
-    """Returns a row with empty cells up to a place."""
+def with_empty_cells(cells: list[Cell], place: int, budget: Budget) -> list[Cell]:
+    """Returns a row with empty cells up to a place, as far as the budget allows."""
     if place > len(cells):
-        cells += [""] * (min(place, MOST_COLUMNS) - len(cells))
+        lacking = min(place, MOST_COLUMNS) - len(cells)
+        budget.take(CELLS, lacking)
+        cells += [""] * lacking
     return cells
 
 

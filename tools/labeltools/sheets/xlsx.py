@@ -7,7 +7,7 @@ from dataclasses import dataclass, field
 from decimal import Decimal
 from typing import NamedTuple
 
-from labeltools.common.budget import CELLS
+from labeltools.common.budget import CELLS, TEXTS
 from labeltools.common.messages import RowError, Talk, ToolError
 from labeltools.common.text import Text
 from labeltools.sheets import number_format
@@ -37,7 +37,6 @@ from labeltools.sheets.workbook import (
     elements,
     exact_of,
     F,
-    LARGEST_TEXTS,
     merges_at,
     MOST_COLUMNS,
     NOT_SAVED,
@@ -46,7 +45,6 @@ from labeltools.sheets.workbook import (
     range_corners,
     rows_from,
     SAVE_AGAIN,
-    TOO_LARGE,
     TRUE,
     whole_number,
     with_empty_cells,
@@ -131,7 +129,6 @@ class SharedStrings(Strings[str | XlsxRuns]):
 
     ends = "<si>", "</si>", "</sst>"
     plain = PLAIN_STRINGS
-    letters = 0
 
     def is_between(self) -> bool:
         """Returns whether the next element is a string."""
@@ -140,9 +137,7 @@ class SharedStrings(Strings[str | XlsxRuns]):
     def take(self, found: re.Match[str]) -> None:
         """Takes strings that are plain."""
         texts = PLAIN_STRING.findall(of_bytes(found[0]))
-        self.letters += len(found[0])
-        if self.letters > LARGEST_TEXTS:
-            raise ToolError(TOO_LARGE, SAVE_AGAIN)
+        self.budget.take(TEXTS, len(found[0]))
         self.found += map(without_escapes, texts)
 
     def begun(self, name: str, attributes: Attributes) -> None:
@@ -155,9 +150,7 @@ class SharedStrings(Strings[str | XlsxRuns]):
         super().ended(name)
         if name == "si":
             self.is_inside = False
-            self.letters += sum(len(text) for text, _ in self.runs)
-            if self.letters > LARGEST_TEXTS:
-                raise ToolError(TOO_LARGE, SAVE_AGAIN)
+            self.budget.take(TEXTS, sum(len(text) for text, _ in self.runs))
             self.found.append(self.string())
 
 
@@ -511,7 +504,7 @@ class SheetReader(Strings[Row]):
         if place < len(cells):
             raise out_of_order(self.number)
         cell = self.cell_by(kind, style)
-        with_empty_cells(cells, place).append(cell)
+        with_empty_cells(cells, place, self.budget).append(cell)
         if isinstance(cell, str):
             self.letters += len(cell)
         if self.formula and (found := HYPERLINK.fullmatch(self.formula)):

@@ -1,6 +1,6 @@
 """What the amounts of two columns prove about each other: that one has a tax more, or is a cost."""
 
-from collections.abc import Set
+from collections.abc import Sequence, Set
 from decimal import Decimal
 
 from labeltools.tables.column_samples import ColumnSample
@@ -13,6 +13,7 @@ ROUNDED_OFF = Decimal("0.012")  # what rounding may change in a price
 PART_OF_PRICE = Decimal("0.0001")  # which part of a high price it may change
 LEAST_PAID = Decimal("0.67")  # what customers pay of what the maker advises
 LAST_DIGITS = (0, 5, 9)  # of the prices of shops, in cents
+STEPS = 20  # in which shops reduce or raise prices: by multiples of 5 %
 Pairs = Set[tuple[Decimal, Decimal]]
 
 
@@ -41,6 +42,31 @@ def is_taxed(column: ColumnSample, whole: ColumnSample) -> bool:
 def is_with(bare: Decimal, whole: Decimal, rate: Decimal) -> bool:
     """Returns whether a price is another one with a tax, rounded."""
     return abs(bare * rate - whole) <= max(ROUNDED_OFF, PART_OF_PRICE * whole)
+
+
+def is_reduced(column: ColumnSample, advised: ColumnSample) -> bool:
+    """Returns whether the amounts of a column may be those of another one with a discount, or these
+    may have something on top: nearly all by multiples of 5 %. So does a tax of such a rate look,
+    but shops have round prices with the tax in them, and seldom without it.
+    """
+    pairs = [(low, high) for low, high in amounts_of(column, advised) if low != high]
+    least = (1 - MOST_WRONG) * len(pairs)
+    if sum(is_step(high, low) for low, high in pairs) >= least:
+        return True
+    rounds = [round_share(amounts) for amounts in zip(*pairs)]
+    return rounds == sorted(rounds, reverse=True) and (
+        sum(is_step(low, high) for low, high in pairs) >= least
+    )
+
+
+def is_step(amount: Decimal, other: Decimal) -> bool:
+    """Returns whether an amount is another one and some multiple of 5 % of it, more or less."""
+    return is_with(amount, other, Decimal(round(other / amount * STEPS)) / STEPS)
+
+
+def round_share(amounts: Sequence[Decimal]) -> float:
+    """Returns the part of some amounts that end as the prices of shops do."""
+    return sum(amount * 100 % 10 in LAST_DIGITS for amount in amounts) / len(amounts)
 
 
 def is_never_above(column: ColumnSample, other: ColumnSample) -> bool:

@@ -2,13 +2,15 @@
 price at all, and what is proved by check digits and amounts. What no fact decides, scores do.
 """
 
-from collections.abc import Iterable, Mapping, Sequence
-from itertools import permutations
+from collections.abc import Iterable, Iterator, Mapping, Sequence
+from itertools import islice, permutations
+from typing import TypeVar
 
 from labeltools.tables.amounts import (
     is_always_below,
     is_never_above,
     is_paid_beside,
+    is_reduced,
     is_taxed,
 )
 from labeltools.tables.cell_kinds import (
@@ -32,7 +34,9 @@ CODES = ("codes", "own-numbers")
 TITLES = ("titles", "parts", "articles", "descriptions")
 NO_PRICES = ("cost", "net", "totals")
 PAID = ("prices", "taxed", "paid", "sold", "currencies", "beside-prices")  # of a plain price
+MOST_COMPARED = 64  # columns, each with every other one: the time grows with their square
 Samples = Mapping[int, ColumnSample]
+T = TypeVar("T")
 
 
 def code_candidates(columns: Samples) -> Sequence[int]:
@@ -41,10 +45,16 @@ def code_candidates(columns: Samples) -> Sequence[int]:
     share is none, and codes are not meant twice.
     """
     found = {at: one for at, one in columns.items() if may_be_codes(one)}
-    pairs = [both for both in permutations(found, 2) if is_again(*(found[at] for at in both))]
+    pairs = [both for both in pairs_of(found) if is_again(*(found[at] for at in both))]
     again = {at for at, it in pairs if at > it or (it, at) not in pairs}
     left = [at for at in found if at not in again]
     return [at for at in left if found[at].has_codes or not is_plain_name(found[at])] or left
+
+
+def pairs_of(columns: Iterable[T]) -> Iterator[tuple[T, T]]:
+    """Yields each of some columns with each other one, but of very many only those of the first."""
+    for one, other in permutations(islice(columns, MOST_COMPARED), 2):
+        yield one, other
 
 
 def may_be_codes(column: ColumnSample) -> bool:
@@ -95,7 +105,7 @@ def said_again(columns: Samples) -> Sequence[int]:
     usual prices where another one, of no sale, is never above them.
     """
     ranks = {at: (not is_plain_price(one), at) for at, one in columns.items()}
-    pairs = permutations(columns.items(), 2)
+    pairs = pairs_of(columns.items())
     again = {
         at
         for (at, one), (to, it) in pairs
@@ -234,8 +244,8 @@ def price_candidates(columns: Samples) -> tuple[Sequence[int], int | None]:
     priced = {at: one for at, one in amounts.items() if not one.says("cost", "sale")}
     pairs = [
         (at, it)
-        for at, it in permutations({**priced, **taxes}, 2)
-        if at in priced and is_taxed(columns[at], columns[it])
+        for at, it in pairs_of({**priced, **taxes})
+        if at in priced and is_surely_taxed(columns[at], columns[it])
     ]
     bare = {at for at, _ in pairs}
     whole = {it for _, it in pairs} - bare
@@ -256,6 +266,18 @@ def price_candidates(columns: Samples) -> tuple[Sequence[int], int | None]:
         or any(is_always_below(cost, columns[paid[0]]) for cost in costs)
     )
     return paid, paid[0] if is_proved else None
+
+
+def is_surely_taxed(column: ColumnSample, whole: ColumnSample) -> bool:
+    """Returns whether amounts prove that a column is another one with a tax. They prove nothing
+    where names say that it is advised or usual, or that the other one is what customers pay; nor
+    where it may be a price before a discount, unless its name says that it has the tax.
+    """
+    if whole.says("advised", "regular"):
+        return False
+    if column.says("sold", "taxed") and not whole.says("sold", "taxed"):
+        return False
+    return is_taxed(column, whole) and (bool(whole.says("taxed")) or not is_reduced(column, whole))
 
 
 def is_price_asked(columns: Samples, chosen: int) -> bool:

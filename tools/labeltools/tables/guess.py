@@ -45,7 +45,8 @@ from labeltools.tables.table import head_of
 from labeltools.tables.table_options import TableOptions
 from labeltools.tables.variants import variants_in
 
-SAMPLE = 300  # rows that are looked at
+SAMPLE = 300  # rows that are looked at,
+MOST_CELLS = 100_000  # and cells: of a table with very many columns fewer rows
 LONGEST = 1000  # letters of a cell, whose kind these show
 OWN = CodeReading([ANY_TEXT])
 
@@ -87,7 +88,7 @@ def guess_of(
     budget = budget or Budget(name, len(data))
     start = head_of(data, name, options, talk, budget)
     file, head = options.file, start.head.row
-    below = list(islice(start.rows, SAMPLE))
+    below = list(islice(start.rows, max(1, min(SAMPLE, MOST_CELLS // max(1, len(head.cells))))))
     if file.has_header is None and file.header_row is None:
         top = guessed_header([head, *below])
         named = replace(file, has_header=True, header_row=top.number)

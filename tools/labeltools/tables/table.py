@@ -6,7 +6,7 @@ from functools import reduce
 from itertools import chain
 from typing import Iterator, NamedTuple
 
-from labeltools.common.budget import Budget, CELLS
+from labeltools.common.budget import Budget
 from labeltools.common.column_names import said_of_empty
 from labeltools.common.messages import BAD_ARGUMENTS, quoted, RowError, Talk, ToolError
 from labeltools.common.report import listed
@@ -47,8 +47,7 @@ OF_WORKBOOKS = ("sheet", "hidden", "date_as", "links")
 SO = Text("Read it all the same")
 MOST_HELD = 1000  # rows that are wrong, before the first one that is right
 SUMS = WORDS["sums"]  # what is in front of a sum below a table
-BETWEEN = 256  # rows between two calls of `go_on`, or two looks at the budget
-MANY = 1 << 16  # cells, behind which it is looked at, too
+BETWEEN = 256  # rows between two calls of `go_on`
 
 
 @dataclass(frozen=True)
@@ -105,7 +104,7 @@ def head_of(
     """
     budget = budget or Budget(name, len(data))
     formatter = Formatter(local_signs(options.file.decimal), options.file.date_as, local_date())
-    rows = affordable(table_rows(data, options, formatter, talk, budget), budget)
+    rows = table_rows(data, options, formatter, talk, budget)
     wanted = options.file.header_row
     below = (row for row in rows if wanted or not row.is_blank())
     first = next((row for row in below if row.number >= (wanted or 0)), None)
@@ -122,18 +121,6 @@ def head_of(
     if options.file.has_header is False:
         return Start(Head(first, ()), chain([first], rows), formatter)
     return Start(Head(first, column_names(first)), rows, formatter)
-
-
-def affordable(rows: Iterator[Row], budget: Budget) -> Iterator[Row]:
-    """Yields rows as far as a budget allows; raises `TooMuch`."""
-    cells = 0
-    for number, row in enumerate(rows):
-        cells += len(row.cells)
-        if cells > MANY or number % BETWEEN == 0:
-            budget.take(CELLS, cells)
-            budget.look()
-            cells = 0
-        yield row
 
 
 def table_rows(
@@ -157,7 +144,7 @@ def table_rows(
             raise ToolError(what, Text("leave out {}", remedy), BAD_ARGUMENTS)
     if is_csv:
         how = CsvOptions(options.file, options.columns.asked, options.codes.is_free)
-        return csv_table(data, name, how).rows()
+        return csv_table(data, how, budget).rows()
     return rows_of_workbook(data, options.file.sheet, formatter, talk, budget)
 
 

@@ -44,8 +44,9 @@ class Memory:
 def write_own(path: Path, data: bytes) -> None:
     """Writes a file that its owner alone may read, in a folder of such files; raises `OSError`."""
     path.parent.mkdir(0o700, parents=True, exist_ok=True)
+    path.parent.chmod(0o700)  # it may be older
     with open(path, "wb", opener=lambda name, how: os.open(name, how, OWN)) as file:
-        os.fchmod(file.fileno(), OWN)  # it may be older
+        os.fchmod(file.fileno(), OWN)
         file.write(data)
 
 

@@ -14,10 +14,11 @@ from typing import Any
 
 from labeltools.commands import label_print as print_command, label_table as table_command
 from labeltools.common.arguments import words_of
+from labeltools.common.budget import TABLE
 from labeltools.common.messages import Cancelled, Origin, Talk, ToolError
 from labeltools.common.process import read_input
 from labeltools.common.report import LeftOut
-from labeltools.common.text import counted, NOTHING, Remedy, Text
+from labeltools.common.text import counted, NOTHING, Remedy, shell_line, Text
 from labeltools.lines.file import first_remark, label_lines, last_remark, LineRecord, read_lines
 from labeltools.printing.job import planned
 from labeltools.printing.press import labels_of, Prepared
@@ -109,7 +110,7 @@ class Table:
         """Reads a table by further words of label-table, None for those that are kept; its names
         are in the row `header` (0: in none) where that is known. Raises `ToolError` and `OSError`.
         """
-        _, self.data = read_input(str(path))
+        _, self.data = read_input(str(path), TABLE)
         self.path = path
         before = FILES.all().get(path.name, "") if text is None else ""
         try:
@@ -192,7 +193,7 @@ class Table:
         rows = set(self.lines.left_out)
         more = [one for one in found.left_out if one.origin and one.origin.number not in rows]
         commands = ["label-table", *to_read], ["label-print", *to_print]
-        command = " | ".join(map(shlex.join, commands)) + f" > labels.{job.form.name}"
+        command = " | ".join(map(shell_line, commands)) + f" > labels.{job.form.name}"
         notes = sorted((*self.of_file, *self.said, *more, *found.remarks), key=row_of_note)
         return MadeLabels(self.lines, found, notes, len(rows) + len(more), command)
 
