@@ -19,6 +19,7 @@ import support
 from jobs import Dots
 
 CUPSD = "/usr/sbin/cupsd"
+PROGRAMS = Path("/usr/lib/cups")  # filters and the like
 SAMPLES = "/usr/share/cups/drv/sample.drv"
 SETTINGS = """Listen {socket}
 DefaultAuthType None
@@ -143,7 +144,8 @@ KINDS = {
 class Scheduler:
     """A scheduler that runs, and its folder."""
 
-    def __init__(self) -> None:
+    def __init__(self, has_own_programs: bool = False) -> None:
+        """Starts it, with copies of CUPS's filters in its folder if it `has_own_programs`."""
         support.needs(CUPSD, "ppdc", "lpadmin")
         self.place = tempfile.TemporaryDirectory()
         self.folder = Path(self.place.name)
@@ -154,6 +156,8 @@ class Scheduler:
         self.name = f"{self.folder}/socket"  # which nobody else can have, unlike a port
         (self.folder / "cupsd.conf").write_text(SETTINGS.format(socket=self.name))
         lines = [f"{name} {self.folder}/{name}" for name in (*FILES, *LOGS)]
+        if has_own_programs:
+            lines.append(f"ServerBin {self.own_programs()}")
         (self.folder / "cups-files.conf").write_text("\n".join([*lines, "FileDevice Yes", ""]))
         self.processes: list[Any] = []
         self.before = os.environ.get("CUPS_SERVER")
@@ -167,6 +171,17 @@ class Scheduler:
         process = subprocess.Popen([*WITH_TEST, *words], stdout=subprocess.PIPE, **how)
         self.processes.append(process)
         return process
+
+    def own_programs(self) -> Path:
+        """Makes a folder of the programs of CUPS, whose filters may be replaced."""
+        own = self.folder / "programs"
+        (own / "filter").mkdir(parents=True)
+        for path in PROGRAMS.iterdir():
+            if path.name != "filter":
+                (own / path.name).symlink_to(path)
+        for path in (PROGRAMS / "filter").iterdir():
+            (own / "filter" / path.name).symlink_to(path)
+        return own
 
     def come(self) -> None:
         """Starts cupsd, which has the queues and jobs of before."""

@@ -6,7 +6,6 @@ import os
 import re
 import stat
 import sys
-from dataclasses import replace
 from pathlib import Path
 from typing import Any, Callable, Sequence
 
@@ -26,22 +25,17 @@ from labeltools.drawing.forms import FORMS
 from labeltools.layout.area import PURPOSES
 from labeltools.lines.file import LineRecord
 from labeltools.paper.stock import forget, list_stock
-from labeltools.printing.job import DRAWING_DPI, form_of, Job, planned, PrintOptions, refuse
+from labeltools.printing.job import AS_GIVEN, DRAWING_DPI, Job, planned, PrintOptions, refuse
 from labeltools.printing.press import check_count, labels_of, Prepared
 from labeltools.printing.selection import ranges_in, selection_of
-from labeltools.sending.job import SentJob, Unseen
 from labeltools.sending.journal import Journal
-from labeltools.sending.marks import unmark
 from labeltools.sending.network import address_of
 from labeltools.sending.outlets import Files, Outlet, OUTPUT, StandardOutput
-from labeltools.sending.papers import AS_GIVEN
-from labeltools.sending.queue import lp_line, Queue, queue_of
 from labeltools.sending.sender import (
     direct_outlet,
     expected,
     labels_text,
     NOTHING_OUT,
-    print_on,
     Sender,
 )
 
@@ -243,25 +237,23 @@ def run() -> int:
         refuse(options.lines, one_word)
         print(stock_lines(options.list_stock))
         return 0
-    queue = None
     if options.queue and not options.is_stream and not options.is_sent_singly:
-        queue = queue_of(options.queue)
-    if queue and options.dpi is None:
-        is_sheet = bool(options.stock or options.cell) and not form_of(options).is_roll
-        options = replace(options, dpi=queue.dpi_for(is_sheet) or None)
+        from labeltools.commands.queue_run import print_on_queue  # with CUPS, which takes time
+
+        return print_on_queue(options)
     job = planned(options)
     forget()
-    check_way(job, queue)
+    check_way(job)
     if options.is_stream:
         from labeltools.sending import stream
 
         return stream.answer_lines(job, sender_of(job, direct_way(job), ()))
+    return give_out(labels_in(job, CommandTalk(TOOL)), CommandTalk(TOOL))
+
+
+def labels_in(job: Job, talk: CommandTalk) -> Prepared:
+    """Returns the labels of the lines of a file; reports what there is to say of them."""
     gc.disable()  # no label leaves a cycle behind, and to look for them takes time
-    return print_lines(job, queue, CommandTalk(TOOL))
-
-
-def print_lines(job: Job, queue: Queue | None, talk: CommandTalk) -> int:
-    """Prints the lines of a file; returns 1 where a label is left out or doubtful."""
     found = all_labels(job, talk)
     for message in [*report(found.left_out, found.tables), *(one.reason for one in found.remarks)]:
         write_message(TOOL, message)
@@ -269,10 +261,7 @@ def print_lines(job: Job, queue: Queue | None, talk: CommandTalk) -> int:
     if after := job.options.after:
         place = places_text([found.prints[0].label.record.origin], len(found.tables) > 1)
         write_message(TOOL, Text("--after {}: the first label is {}", after, place))
-    if queue is None:
-        return give_out(found, talk)
-    is_printed = follow(*print_on(found, queue, talk, is_once=True), talk)
-    return 1 if found.left_out or not is_printed else 0
+    return found
 
 
 def all_labels(job: Job, talk: CommandTalk) -> Prepared:
@@ -290,25 +279,6 @@ def all_labels(job: Job, talk: CommandTalk) -> Prepared:
         raise ToolError(Text("{}: {}", known.what, NOTHING_OUT), status=known.status) from error
 
 
-def follow(sent: SentJob, text: Text, talk: CommandTalk) -> bool:
-    """Reports what became of a job of CUPS, and returns whether it was printed. A signal ends only
-    the watching: the job goes on.
-    """
-    with hold_signals() as came:
-        try:
-            state = sent.follow(talk.wait, came)
-        except Unseen as error:
-            write_message(TOOL, joined("; ", (text, error.what, error.hint)))
-            return False
-        told = state.told
-        if state.is_over:
-            unmark(sent)
-        elif came:
-            told = Text("it goes on: cancel {} ends it", sent.number)
-        write_message(TOOL, joined("; ", (text, told)))
-    return state.is_printed
-
-
 def stock_lines(wanted: str) -> str:
     """Returns the sheets that have some words; raises `ToolError` if there is none."""
     hint = Text("try a part of the name, or the size of a cell, such as 70x37")
@@ -318,19 +288,20 @@ def stock_lines(wanted: str) -> str:
     raise ToolError(Text("{}: {}", what, hint))
 
 
-def check_way(job: Job, queue: Queue | None) -> None:
-    """Raises `ToolError` where a queue does not print a job, or standard output is closed or would
-    show a drawing.
-    """
-    needless = job.options.is_paper_as_given and (queue is None or job.form.is_roll)
-    only = Text("{} is only for a PDF on a queue of CUPS", AS_GIVEN)
-    refuse(needless, only, Text("leave it out"))
-    if queue is not None:
-        queue.options(job)
-    elif job.options.queue is None and not job.is_each:
+def check_way(job: Job) -> None:
+    """Raises `ToolError` where standard output is closed or would show a drawing."""
+    check_given(job)
+    if job.options.queue is None and not job.is_each:
         if standard_output().isatty() and not job.form.is_roll:
             hint = Text("add > labels.{}", job.form.name)
             raise ToolError(Text("standard output is a terminal"), hint, BAD_ARGUMENTS)
+
+
+def check_given(job: Job, is_queue: bool = False) -> None:
+    """Raises `ToolError` where a paper is as given of which no driver says anything."""
+    needless = job.options.is_paper_as_given and (not is_queue or job.form.is_roll)
+    only = Text("{} is only for a PDF on a queue of CUPS", AS_GIVEN)
+    refuse(needless, only, Text("leave it out"))
 
 
 def direct_way(job: Job) -> Outlet:
@@ -429,7 +400,9 @@ def summary_of(job: Job, sender: Sender, known: int) -> Text:
     if known:
         there = counted("{} label in {} already", "{} labels in {} already", known, options.journal)
         text = joined("; ", (text, there))
-    line = lp_line(job, "NAME")
-    if line and not options.is_sent_singly:
-        text = Text("{}; print the file with: {}", text, line)
+    if not options.is_sent_singly:
+        from labeltools.sending.queue import lp_line  # which takes time
+
+        if line := lp_line(job, "NAME"):
+            return Text("{}; print the file with: {}", text, line)
     return text

@@ -28,6 +28,7 @@ EDGE = 5.0  # millimetres at the edge of a page of several labels where most pri
 DRAWING_DPI = 600
 MOST_DPI = 2400
 RECEIPT_DOTS = 576  # across paper of 80 mm
+AS_GIVEN = Remedy("paper-as-given", says=Text("Print on this paper"))
 NO_GRID = Text("a grid needs --columns, --rows and --cell")
 NO_PAPER = Text(
     "one of {}, {}, {} and a {} of SVG is needed",

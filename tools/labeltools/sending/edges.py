@@ -11,8 +11,9 @@ from labeltools.designs.svg_layout import SvgLayout
 from labeltools.layout.layout import LaidOut
 from labeltools.paper.box import Box
 from labeltools.paper.plan import Dots
+from labeltools.printing.job import AS_GIVEN
 from labeltools.printing.press import Prepared
-from labeltools.sending.papers import AS_GIVEN, PrinterPaper, Unsaid
+from labeltools.sending.papers import PrinterPaper, Unsaid
 
 HIDDEN = 0.2  # of a label that may be on the white edge: drivers round to points
 KEEP_AWAY = Text("Keep labels away from the edge")

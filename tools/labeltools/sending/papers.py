@@ -12,6 +12,7 @@ from labeltools.common.messages import BAD_ARGUMENTS, ToolError
 from labeltools.common.text import joined, Remedy, Text
 from labeltools.paper.plan import Edges, MILLIMETRES, POINTS
 from labeltools.paper.stock import Size, size_text
+from labeltools.printing.job import AS_GIVEN
 
 POINT = MILLIMETRES / POINTS
 NEAR = 0.5  # by which a page may differ from a paper: drivers round to points
@@ -39,7 +40,6 @@ GENERAL = (18.0, 36.0, 18.0, 36.0)  # points: foomatic writes these edges where 
 PWG = re.compile(r"(custom_min|custom_max|.*)_([0-9.]+)x([0-9.]+)(mm|in)", re.ASCII)
 UNITS = {"mm": 1.0, "in": MILLIMETRES}
 SIDES = ("left", "top", "right", "bottom")
-AS_GIVEN = Remedy("paper-as-given", says=Text("Print on this paper"))
 SHEETS = Text(
     "for labels on sheets give {}, or {} with {} and {}",
     *map(Remedy, ("stock", "cell", "columns", "rows")),

@@ -15,9 +15,10 @@ from labeltools.common.messages import ToolError
 from labeltools.common.text import counted, joined, Text, translated, whole, windowed
 from labeltools.printing.press import Prepared
 from labeltools.sending.job import AWAY, JobState, SentJob, UnknownJob
+from labeltools.sending.on_queue import print_on
 from labeltools.sending.printers import choices_of, Printer, QUEUE
 from labeltools.sending.queue import Queue, queue_of
-from labeltools.sending.sender import print_on, save_to, send_to, Sender, Unfinished
+from labeltools.sending.sender import save_to, send_to, Sender, Unfinished
 from labeltools.window.bar import Answer, ERROR, Event, INFO, SUCCESS, WARNING
 from labeltools.window.gtk import GLib, Gtk
 from labeltools.window.memory import PRINTERS
