@@ -8,7 +8,7 @@ ghost use Rattle.qrmatrix.specs.Reading.{read_matrix};
 ghost use Rattle.qrmatrix.specs.Symbol.{is_dark};
 
 use labelcore::{Fault, LabelOptions};
-use qrdata::{Codewords, choose, codewords};
+use qrdata::{Words, choose, codewords};
 use qrmatrix::Matrix;
 
 /// Returns the QR symbol of the bytes, in the smallest version that holds them at the label's level. Its modules read
@@ -29,7 +29,7 @@ pub fn matrix_of(label: &LabelOptions, bytes: &[u8]) -> Result<Matrix, Fault>
     ensures side { IfOk result (λ matrix. matrix.side ≤ 57) }
 {
     let plan = choose(label.min_version(), label.level(), bytes)?;
-    let mut written = Codewords::new();
+    let mut written = Words::new();
     codewords(&plan, &mut written);
     Ok(Matrix::draw(plan.version(), plan.level(), label.mask(), &written))
 }

@@ -16,7 +16,7 @@ use device::{IoFault, Sink};
 use labelcore::{Fault, Format, LabelOptions, Options, RunOptions, Symbology};
 use linear::{Code128, Ean8, Ean13, Linear, Row, Sides, UpcA};
 use picture::{Bars, Framed, Grid, QuietZone, Scaled, write_ascii, write_pbm};
-use qrdata::{Codewords, choose, codewords};
+use qrdata::{Words, choose, codewords};
 use qrmatrix::{Matrix, QUIET_ZONE};
 
 /// Draws one symbol: writes the image of `bytes` in a symbology, under the options of a run and of a label, and flushes
@@ -142,7 +142,7 @@ pub fn matrix_of(label: &LabelOptions, bytes: &[u8]) -> Result<Matrix, Fault>
     ensures numbers { IfOk result (λ matrix. IsMatrixOf label.now bytes.now matrix) }
 {
     let plan = choose(label.min_version(), label.level(), bytes)?;
-    let mut written = Codewords::new();
+    let mut written = Words::new();
     codewords(&plan, &mut written);
     Ok(Matrix::draw(plan.version(), plan.level(), label.mask(), &written))
 }

@@ -17,7 +17,7 @@ mod segmentation;
 mod version;
 
 pub use bits::{Bits, MAX_BITS, are_bytes, power_of_two};
-pub use blocks::{Codewords, Lengths, MAX_CODEWORDS, push_codewords, push_lengths};
+pub use blocks::{Lengths, MAX_CODEWORDS, Words, push_codewords, push_lengths};
 pub use codeword_sequence::codewords;
 pub use level::Level;
 pub use mask::Mask;

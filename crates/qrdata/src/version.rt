@@ -98,18 +98,18 @@ impl Version {
     }
 
     /// Returns the number of codewords of a symbol: data and error correction codewords.
-    pub fn total_codewords(self) -> usize
+    pub fn total_words(self) -> usize
         ensures { result ≡ total_codewords self }
     {
         SIZES[usize::from(self.number) - 1].total
     }
 
     /// Returns the number of data codewords of a symbol at a level, those of all its blocks.
-    pub fn data_codewords(self, level: Level) -> usize
+    pub fn data_words(self, level: Level) -> usize
         ensures { result ≡ data_codewords self level }
     {
         self.prove_range();
-        self.total_codewords() - self.block_count(level) * self.ec_codewords_per_block(level)
+        self.total_words() - self.block_count(level) * self.ec_codewords_per_block(level)
     }
 
     /// Returns the number of data bits of a symbol at a level.
@@ -119,7 +119,7 @@ impl Version {
         ensures few { result ≤ 2192 }
     {
         self.prove_range();
-        8 * self.data_codewords(level)
+        8 * self.data_words(level)
     }
 
     /// Returns the number of blocks of a symbol at a level.
@@ -145,7 +145,7 @@ impl Version {
     {
         self.prove_range();
         let blocks = self.block_count(level);
-        let codewords = self.data_codewords(level);
+        let codewords = self.data_words(level);
         let mut lengths = Lengths::new();
         let size = codewords / blocks;
         let longer = codewords % blocks;

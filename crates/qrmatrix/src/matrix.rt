@@ -11,7 +11,7 @@ ghost use Rattle.qrmatrix.specs.Private.Squares.{IsWithin};
 use crate::penalty::penalty;
 use crate::square::{SIDE, Square};
 use crate::unmasked::Unmasked;
-use qrdata::{Codewords, Level, Mask, Version, are_bytes};
+use qrdata::{Level, Mask, Version, Words, are_bytes};
 use std::marker::Model;
 
 /// The width of the quiet zone on each side of a symbol, in modules (ISO/IEC 18004, 9.1).
@@ -41,7 +41,7 @@ impl Matrix {
     /// Draws the codewords of a symbol under the given mask, or else under the mask of the lowest penalty,
     /// the first of several (ISO/IEC 18004, 7.7 to 7.10). The modules read back as the version, the level and the
     /// codewords.
-    pub fn draw(version: Version, level: Level, mask: Option<Mask>, codewords: &Codewords) -> Matrix
+    pub fn draw(version: Version, level: Level, mask: Option<Mask>, codewords: &Words) -> Matrix
         requires { length codewords.now.items ≡ total_codewords version }
         ensures { IsSymbolOf version level mask codewords.now.items result }
     {

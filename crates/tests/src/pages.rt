@@ -6,7 +6,7 @@ use labelcore::{Fault, Format, Item, LineBuf, Options, Scratch, Symbology, parse
 use linear::{Ean8, Linear, Refusal, Row};
 use linear_reading::LinearReading;
 use picture::{Bars, Framed, QuietZone, Scaled, write_pbm};
-use qrdata::{Codewords, Level, Version, choose, codewords};
+use qrdata::{Level, Version, Words, choose, codewords};
 use qrmatrix::Matrix;
 use reading::{
     BitRegion, Bits, Dots, labels_are_read, modules_are_read, read, read_modules,
@@ -85,9 +85,9 @@ fn page_of_reading(rt: HostRuntime) {
 #[test]
 fn page_of_gf256(rt: HostRuntime) {
     let block = [32, 91, 11, 120, 209, 114, 220, 77, 67, 64, 236, 17, 236];
-    let mut ec_codewords = [0; 13];
-    Generator::new(13).ec_codewords(&block, &mut ec_codewords);
-    assert!(rt; ec_codewords == [168, 72, 22, 82, 217, 54, 156, 0, 46, 15, 180, 122, 16]);
+    let mut parity = [0; 13];
+    Generator::new(13).parity(&block, &mut parity);
+    assert!(rt; parity == [168, 72, 22, 82, 217, 54, 156, 0, 46, 15, 180, 122, 16]);
     assert!(rt; mul(2, 128) == 29 && pow_alpha(8) == 29);
 }
 
@@ -98,7 +98,7 @@ fn page_of_qrdata(rt: HostRuntime) {
         Err(_) => panic!(rt; "it does not fit"),
     };
     assert!(rt; plan.version().number() == 1 && plan.bits() == 74);
-    let mut symbol = Codewords::new();
+    let mut symbol = Words::new();
     codewords(&plan, &mut symbol);
     assert!(rt; symbol.len() == 26 && symbol[0] == 32 && symbol[1] == 91);
 }
@@ -109,7 +109,7 @@ fn page_of_qrmatrix(rt: HostRuntime) {
         Ok(plan) => plan,
         Err(_) => panic!(rt; "it does not fit"),
     };
-    let mut symbol = Codewords::new();
+    let mut symbol = Words::new();
     codewords(&plan, &mut symbol);
     let matrix = Matrix::draw(plan.version(), plan.level(), None, &symbol);
     assert!(rt; matrix.side() == 21 && matrix.mask().number() == 0 && matrix.penalty() == 297);
@@ -121,7 +121,7 @@ fn page_of_qr_reading(rt: HostRuntime) {
         Ok(plan) => plan,
         Err(_) => panic!(rt; "it does not fit"),
     };
-    let mut symbol = Codewords::new();
+    let mut symbol = Words::new();
     codewords(&plan, &mut symbol);
     let matrix = Matrix::draw(plan.version(), plan.level(), None, &symbol);
     let data = qr_reading::read(&matrix.rows()[..matrix.side()]);

@@ -1,6 +1,6 @@
 use Rattle.std.proofs.Common.{arith}
 use Rattle.qrdata.proofs.VersionLaws.{IsSound-of}
-use Rattle.qrdata.proofs.version.Version.data_codewords.Goals as goal
+use Rattle.qrdata.proofs.version.Version.data_words.Goals as goal
 
 pub overflow_sub-result : goal.overflow_sub-result
 overflow_sub-result c =
