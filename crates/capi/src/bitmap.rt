@@ -90,9 +90,9 @@ fn put_bitmap(
         Err(reason) => return no_bitmap(declined_at(*reason)),
     };
     match *item {
-        Item::Skipped => no_bitmap(declined(SKIPPED)),
-        Item::Refused(fault) => no_bitmap(refused(&fault, message)),
-        Item::Drawn(symbology, label, bytes) => {
+        Item::Skip => no_bitmap(declined(SKIPPED)),
+        Item::Refuse(fault) => no_bitmap(refused(&fault, message)),
+        Item::Draw(symbology, label, bytes) => {
             bitmap_is_read(run, &label, symbology, bytes);
             match symbology {
                 Symbology::Qr => square_bitmap(run, &label, bytes, bits, stride, message),

@@ -79,9 +79,9 @@ fn put_image(asked: &Result<Asked<'_>, Reason>, out: &mut [u8], message: &mut [u
         Err(reason) => return declined_at(*reason),
     };
     match *item {
-        Item::Skipped => declined(SKIPPED),
-        Item::Refused(fault) => refused(&fault, message),
-        Item::Drawn(symbology, label, bytes) => {
+        Item::Skip => declined(SKIPPED),
+        Item::Refuse(fault) => refused(&fault, message),
+        Item::Draw(symbology, label, bytes) => {
             symbol_image(run, &label, symbology, bytes, out, message)
         }
     }

@@ -160,9 +160,9 @@ fn put_modules(
         Err(reason) => return told_nothing(declined_at(*reason)),
     };
     match *item {
-        Item::Skipped => told_nothing(declined(SKIPPED)),
-        Item::Refused(fault) => told_nothing(refused(&fault, message)),
-        Item::Drawn(symbology, label, bytes) => {
+        Item::Skip => told_nothing(declined(SKIPPED)),
+        Item::Refuse(fault) => told_nothing(refused(&fault, message)),
+        Item::Draw(symbology, label, bytes) => {
             modules_are_read(run, &label, symbology, bytes);
             match symbology {
                 Symbology::Qr => square_modules(&label, bytes, modules, message, full),

@@ -33,9 +33,9 @@ pub fn finish_line<O: Sink, E: Sink>(
 {
     let mut scratch = Scratch::new();
     match parse(options, line, &mut scratch) {
-        Item::Skipped => Ok(Status::Clean),
-        Item::Refused(fault) => refuse(number, &fault, out, err),
-        Item::Drawn(symbology, label, bytes) => {
+        Item::Skip => Ok(Status::Clean),
+        Item::Refuse(fault) => refuse(number, &fault, out, err),
+        Item::Draw(symbology, label, bytes) => {
             match draw(&options.run, &label, symbology, bytes, out) {
                 Ok(Ok(())) => Ok(Status::Clean),
                 Ok(Err(fault)) => refuse(number, &fault, out, err),
