@@ -198,7 +198,10 @@ fn offer_bitmap<G: Grid + Drop>(
       message_after = message;
     }) stride result (enlargement (with_quiet_zone (G.picture grid) zone) run.now.scale) }
 {
-    let picture = Scaled::new(Framed::new(grid, zone), usize::from(run.scale()));
+    let picture = Scaled::new(
+        Framed::new(grid, zone.left, zone.right, zone.top, zone.bottom),
+        usize::from(run.scale()),
+    );
     let width = picture.width();
     let height = picture.height();
     let size = width.div_ceil(8);

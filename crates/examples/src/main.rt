@@ -12,7 +12,7 @@ use filter::Status;
 use in_memory::draw_labels;
 use labelcore::{Format, Options};
 use negative::Negative;
-use picture::{Framed, QuietZone, write_ascii};
+use picture::{Framed, write_ascii};
 use pieces::draw_in_two;
 use qrdata::Level;
 use qrmatrix::QUIET_ZONE;
@@ -73,13 +73,9 @@ fn show_symbol(rt: &HostRuntime) -> io::Result<()> {
     let Ok(symbol) = matrix_of(&options.label, b"01234567") else {
         return println!(rt; "the data does not fit");
     };
-    let zone = QuietZone {
-        left: QUIET_ZONE,
-        right: QUIET_ZONE,
-        top: QUIET_ZONE,
-        bottom: QUIET_ZONE,
-    };
-    let picture = Negative::new(Framed::new(symbol, zone));
+    let picture = Negative::new(Framed::new(
+        symbol, QUIET_ZONE, QUIET_ZONE, QUIET_ZONE, QUIET_ZONE,
+    ));
     match write_ascii(&picture, &mut StdSink::new(rt.stdout())) {
         Ok(()) => Ok(()),
         Err(_) => println!(rt; "a write failed"),

@@ -5,16 +5,16 @@ ghost use Rattle.labelcore.specs.LineItem.{drawn, outcome_of};
 ghost use Rattle.labelcore.specs.OptionValues.{LabelValues};
 ghost use Rattle.labelcore.specs.declared.symbology.Symbology.{Symbology as Symbologies};
 ghost use Rattle.labelcore.specs.declared.symbology.Symbology.TheVariants.{Qr};
-ghost use Rattle.picture.specs.Picture.{bars, symbol_picture};
+ghost use Rattle.picture.specs.Picture.{bars, symbol_picture, zone_with};
 ghost use Rattle.filter.specs.Filter.{DrawsOutcome};
 ghost use Rattle.filter.specs.Output.{image_of, text_of};
 ghost use Rattle.filter.specs.Readback.{IsRead};
-ghost use Rattle.filter.specs.Private.{HasModules, IsMatrixOf, beside, image_in};
+ghost use Rattle.filter.specs.Private.{HasModules, IsMatrixOf, image_in};
 ghost use Rattle.filter.specs.Symbol.{linear_symbol, quiet_zone, symbol_of};
 
 use device::{IoFault, Sink};
 use labelcore::{Fault, Format, LabelOptions, Options, RunOptions, Symbology};
-use linear::{Code128, Ean8, Ean13, Linear, Row, Sides, UpcA};
+use linear::{Code128, Ean8, Ean13, Linear, Row, UpcA};
 use picture::{Bars, Framed, Grid, QuietZone, Scaled, write_ascii, write_pbm};
 use qrdata::{Words, choose, codewords};
 use qrmatrix::{Matrix, QUIET_ZONE};
@@ -154,10 +154,10 @@ pub fn zone_of(symbology: Symbology) -> QuietZone
     ensures low { symbology ≢ Qr → result.top + result.bottom ≡ 0 }
 {
     match symbology {
-        Symbology::Ean13 => zone_beside(Ean13::QUIET_ZONE),
-        Symbology::Ean8 => zone_beside(Ean8::QUIET_ZONE),
-        Symbology::UpcA => zone_beside(UpcA::QUIET_ZONE),
-        Symbology::Code128 => zone_beside(Code128::QUIET_ZONE),
+        Symbology::Ean13 => zone_beside(Ean13::QUIET_LEFT, Ean13::QUIET_RIGHT),
+        Symbology::Ean8 => zone_beside(Ean8::QUIET_LEFT, Ean8::QUIET_RIGHT),
+        Symbology::UpcA => zone_beside(UpcA::QUIET_LEFT, UpcA::QUIET_RIGHT),
+        Symbology::Code128 => zone_beside(Code128::QUIET_LEFT, Code128::QUIET_RIGHT),
         Symbology::Qr => QuietZone {
             left: QUIET_ZONE,
             right: QUIET_ZONE,
@@ -168,12 +168,12 @@ pub fn zone_of(symbology: Symbology) -> QuietZone
 }
 
 /// Returns the quiet zone beside a row, with nothing above and below it.
-fn zone_beside(sides: Sides) -> QuietZone
-    ensures { result ≡ beside sides }
+fn zone_beside(left: usize, right: usize) -> QuietZone
+    ensures { result ≡ zone_with left right 0 0 }
 {
     QuietZone {
-        left: sides.left,
-        right: sides.right,
+        left,
+        right,
         top: 0,
         bottom: 0,
     }
@@ -190,7 +190,10 @@ fn write_picture<G: Grid + Drop, O: Sink>(
     requires height { zone.top + (G.picture grid).height + zone.bottom ≤ 500 }
     ensures { WritesText O.Sink out.old out.new (image_in zone run.now (G.picture grid)) result }
 {
-    let picture = Scaled::new(Framed::new(grid, zone), usize::from(run.scale()));
+    let picture = Scaled::new(
+        Framed::new(grid, zone.left, zone.right, zone.top, zone.bottom),
+        usize::from(run.scale()),
+    );
     write_text(run.format(), &picture, out)
 }
 

@@ -8,7 +8,7 @@ ghost use Rattle.linear.specs.Private.Data.{IsCode128Data};
 ghost use Rattle.linear.specs.Private.Lists.{Appends};
 
 use crate::limits::MAX_BYTES;
-use crate::linear::{Linear, Sides};
+use crate::linear::Linear;
 use crate::refusal::Refusal;
 use crate::row::{Row, push_modules};
 use crate::switching::{data_values, start_set, start_value};
@@ -125,12 +125,13 @@ impl Linear for Code128 {
 
     ghost turned_limit = { 1 };
 
-    ghost QUIET_ZONE = { record { left = 10; right = 10 } };
+    ghost QUIET_LEFT = { 10 };
 
-    const QUIET_ZONE: Sides = Sides {
-        left: 10,
-        right: 10,
-    };
+    ghost QUIET_RIGHT = { 10 };
+
+    const QUIET_LEFT: usize = 10;
+
+    const QUIET_RIGHT: usize = 10;
 
     fn encode(data: &[u8], row: &mut Row) -> Result<(), Refusal> {
         row.clear();

@@ -9,7 +9,7 @@ ghost use Rattle.linear.specs.Private.Data.{AreDigits, IsHalf};
 ghost use Rattle.linear.specs.Private.Lists.{Appends};
 
 use crate::digits::full_digits;
-use crate::linear::{Linear, Sides};
+use crate::linear::Linear;
 use crate::refusal::Refusal;
 use crate::row::{Row, push_modules};
 use crate::tables::{CENTRE_GUARD, LEFT_SETS, NORMAL_GUARD, SET_A, SET_B, SET_C};
@@ -114,9 +114,13 @@ impl Linear for Ean8 {
 
     ghost turned_limit = { 3 };
 
-    ghost QUIET_ZONE = { record { left = 7; right = 7 } };
+    ghost QUIET_LEFT = { 7 };
 
-    const QUIET_ZONE: Sides = Sides { left: 7, right: 7 };
+    ghost QUIET_RIGHT = { 7 };
+
+    const QUIET_LEFT: usize = 7;
+
+    const QUIET_RIGHT: usize = 7;
 
     fn encode(data: &[u8], row: &mut Row) -> Result<(), Refusal> {
         row.clear();
@@ -157,9 +161,13 @@ impl Linear for Ean13 {
 
     ghost turned_limit = { 1 };
 
-    ghost QUIET_ZONE = { record { left = 11; right = 7 } };
+    ghost QUIET_LEFT = { 11 };
 
-    const QUIET_ZONE: Sides = Sides { left: 11, right: 7 };
+    ghost QUIET_RIGHT = { 7 };
+
+    const QUIET_LEFT: usize = 11;
+
+    const QUIET_RIGHT: usize = 7;
 
     fn encode(data: &[u8], row: &mut Row) -> Result<(), Refusal> {
         row.clear();
@@ -188,9 +196,13 @@ impl Linear for UpcA {
 
     ghost turned_limit = { 3 };
 
-    ghost QUIET_ZONE = { record { left = 9; right = 9 } };
+    ghost QUIET_LEFT = { 9 };
 
-    const QUIET_ZONE: Sides = Sides { left: 9, right: 9 };
+    ghost QUIET_RIGHT = { 9 };
+
+    const QUIET_LEFT: usize = 9;
+
+    const QUIET_RIGHT: usize = 9;
 
     fn encode(data: &[u8], row: &mut Row) -> Result<(), Refusal> {
         row.clear();

@@ -18,7 +18,7 @@ pub use code128::{Code128, check_value};
 pub use digits::{Digits, full_digits, with_check_digit};
 pub use ean::{Ean8, Ean13, NumberSet, UpcA};
 pub use limits::{MAX_MODULES, MAX_VALUES};
-pub use linear::{Linear, Sides};
+pub use linear::Linear;
 pub use refusal::Refusal;
 pub use row::Row;
 pub use switching::{CodeSet, start_value};

@@ -5,7 +5,7 @@ use gf256::{Generator, mul, pow_alpha};
 use labelcore::{Fault, Format, Item, LineBuf, Options, Scratch, Symbology, parse};
 use linear::{Ean8, Linear, Refusal, Row};
 use linear_reading::LinearReading;
-use picture::{Bars, Framed, QuietZone, Scaled, write_pbm};
+use picture::{Bars, Framed, Scaled, write_pbm};
 use qrdata::{Level, Version, Words, choose, codewords};
 use qrmatrix::Matrix;
 use reading::{
@@ -38,7 +38,7 @@ fn page_of_linear(rt: HostRuntime) {
     let refusal = Refusal::WrongCheckDigit { given: 0, right: 7 };
     assert!(rt; Ean8::encode(b"73513530", &mut row) == Err(refusal));
     assert!(rt; row.is_empty());
-    assert!(rt; Ean8::QUIET_ZONE.left == 7);
+    assert!(rt; Ean8::QUIET_LEFT == 7);
 }
 
 #[test]
@@ -131,13 +131,7 @@ fn page_of_qr_reading(rt: HostRuntime) {
 #[test]
 fn page_of_picture(rt: HostRuntime) {
     let row = [true, false, true];
-    let zone = QuietZone {
-        left: 1,
-        right: 1,
-        top: 0,
-        bottom: 0,
-    };
-    let picture = Scaled::new(Framed::new(Bars::new(&row, 1), zone), 2);
+    let picture = Scaled::new(Framed::new(Bars::new(&row, 1), 1, 1, 0, 0), 2);
     let mut sink = MemSink::<64>::new(64, 64);
     assert!(rt; write_pbm(&picture, &mut sink).is_ok());
     assert!(rt; sink.bytes() == b"P1\n10 2\n0011001100\n0011001100\n".as_slice());
