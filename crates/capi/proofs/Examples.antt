@@ -95,7 +95,7 @@ default_numbers = refl
 -- options, then the symbology, then the data
 asked_for : (asked defaults 4 (65 ∷ []) ≡ Ok (record {
   run = default_options.run;
-  item = drawn (record { symbology = Qr; options = default_options.label; bytes = 65 ∷ [] });
+  item = drawn (record { symbology = Qr; options = default_options; bytes = 65 ∷ [] });
 }))
     × ((asked (record defaults { scale = 9 }) 5 [] ≡ Err (record { code = 2; at = 2 }))
     × ((asked defaults 5 [] ≡ Err (record { code = 3; at = 0 })) × (asked defaults 4 [] ≡ Err (record { code = 4; at = 0 }))))

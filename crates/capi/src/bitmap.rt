@@ -92,7 +92,7 @@ fn put_bitmap(
     match *item {
         Item::Skip => no_bitmap(declined(SKIPPED)),
         Item::Refuse(fault) => no_bitmap(refused(&fault, message)),
-        Item::Draw(symbology, label, bytes) => {
+        Item::Draw(symbology, Options { label, .. }, bytes) => {
             bitmap_is_read(run, &label, symbology, bytes);
             match symbology {
                 Symbology::Qr => square_bitmap(run, &label, bytes, bits, stride, message),

@@ -162,7 +162,7 @@ fn put_modules(
     match *item {
         Item::Skip => told_nothing(declined(SKIPPED)),
         Item::Refuse(fault) => told_nothing(refused(&fault, message)),
-        Item::Draw(symbology, label, bytes) => {
+        Item::Draw(symbology, Options { label, .. }, bytes) => {
             modules_are_read(run, &label, symbology, bytes);
             match symbology {
                 Symbology::Qr => square_modules(&label, bytes, modules, message, full),

@@ -121,7 +121,7 @@ told_of = (refl, refl, refl)
 
 -- what a line asks for that is drawn
 asked : Symbology → List ℕ → Request
-asked symbology bytes = record { symbology = symbology; options = settings.label; bytes = bytes }
+asked symbology bytes = record { symbology = symbology; options = settings; bytes = bytes }
 
 unlike_faults : UnknownSymbology ≡ NoData → ⊥
 unlike_faults same = cc

@@ -197,7 +197,7 @@ item_readable run skipped h has = tt
 item_readable run (refused fault) h has = tt
 item_readable run (drawn asked) h has =
     let some : asked.bytes ≢ [] = λ none. omega (arith, ap length none, has.0) in
-    symbol_readable run asked.options h.0 asked.symbology asked.bytes some h.1
+    symbol_readable run asked.options.label h.0 asked.symbology asked.bytes some h.1
 
 -- the modules of what is drawn of a line of bytes are read
 outcome_readable : (options : Options) → AreInRange options.run options.label → (line : List ℕ) → AreBytes line

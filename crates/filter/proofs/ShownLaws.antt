@@ -30,29 +30,31 @@ use Rattle.filter.specs.Shown.{HasFault, IsShown, Shown, Shows, full_data, image
 use Rattle.filter.specs.Shown.{told}
 
 -- what is drawn of a request, or why it is not
-abbrev IsOf : LabelValues → Symbology → List ℕ → Result Symbol Fault → Type 0
-IsOf label symbology bytes (Ok symbol) =
+abbrev IsOf : Options → Symbology → List ℕ → Result Symbol Fault → Type 0
+IsOf options symbology bytes (Ok symbol) =
     (symbol.symbology ≡ symbology) × (full_data symbology bytes ≡ Ok symbol.full)
-IsOf label symbology bytes (Err fault) =
-    HasFault (record { symbology = symbology; options = label; bytes = bytes }) fault
+IsOf options symbology bytes (Err fault) =
+    HasFault (record { symbology = symbology; options = options; bytes = bytes }) fault
 
-linear_is : (label : LabelValues) (symbology : Symbology) (bytes : List ℕ) (row : List ℕ → List Bool)
+linear_is : (options : Options) (symbology : Symbology) (bytes : List ℕ) (row : List ℕ → List Bool)
     (found : Result (List ℕ) Refusal) → full_data symbology bytes ≡ result_map_both (λ full. full) fault_of found
-    → IsOf label symbology bytes (linear_symbol symbology row label found)
-linear_is label symbology bytes row (Ok full) e = (refl, e)
-linear_is label symbology bytes row (Err refusal) e = inl e
+    → IsOf options symbology bytes (linear_symbol symbology row options.label found)
+linear_is options symbology bytes row (Ok full) e = (refl, e)
+linear_is options symbology bytes row (Err refusal) e = inl e
 
-symbol_is : (label : LabelValues) (symbology : Symbology) (bytes : List ℕ)
-    → IsOf label symbology bytes (symbol_of label symbology bytes)
+symbol_is : (options : Options) (symbology : Symbology) (bytes : List ℕ)
+    → IsOf options symbology bytes (symbol_of options.label symbology bytes)
 unfolding symbol_of
-symbol_is label Ean13 bytes = linear_is label Ean13 bytes ean13_row (full_digits 12 bytes) refl
-symbol_is label Ean8 bytes = linear_is label Ean8 bytes ean8_row (full_digits 7 bytes) refl
-symbol_is label UpcA bytes = linear_is label UpcA bytes upca_row (full_digits 11 bytes) refl
-symbol_is label Code128 bytes = linear_is label Code128 bytes code128_row (full_code128 bytes) refl
-symbol_is label Qr bytes = at (chosen_version label.min_version label.level bytes) refl
+symbol_is options Ean13 bytes = linear_is options Ean13 bytes ean13_row (full_digits 12 bytes) refl
+symbol_is options Ean8 bytes = linear_is options Ean8 bytes ean8_row (full_digits 7 bytes) refl
+symbol_is options UpcA bytes = linear_is options UpcA bytes upca_row (full_digits 11 bytes) refl
+symbol_is options Code128 bytes = linear_is options Code128 bytes code128_row (full_code128 bytes) refl
+symbol_is options Qr bytes = at (chosen_version options.label.min_version options.label.level bytes) refl
   where
+    label = options.label
+
     at : (found : Option ℕ) → chosen_version label.min_version label.level bytes ≡ found
-        → IsOf label Qr bytes (ok_or found (DoesNotFit label.level) >>= (λ version. Ok (record {
+        → IsOf options Qr bytes (ok_or found (DoesNotFit label.level) >>= (λ version. Ok (record {
           symbology = Qr;
           full = bytes;
           modules = qr_modules label bytes version;
@@ -79,7 +81,7 @@ module _ (run : RunValues) where
     told_is : is_refusal (of_line (line_number before) (outcome_of_item asked)) ≡ is_told shown
 
   next_drawn : (asked : Request) (before : ℕ) (later : List Event) (images : List (List ℕ)) (found : Result Symbol Fault)
-      → symbol_of asked.options asked.symbology asked.bytes ≡ found
+      → symbol_of asked.options.label asked.symbology asked.bytes ≡ found
       → AreRead run.format run.scale images (drawn_symbols (of_line (line_number before) (outcome_of found) ∷ later))
       → IsNext (drawn asked) before later images
   unfolding drawn_symbols AreRead
@@ -134,7 +136,7 @@ module _ (run : RunValues) where
     told_is = refl;
   }
   next (drawn asked) before later images read =
-      next_drawn asked before later images (symbol_of asked.options asked.symbology asked.bytes) refl read
+      next_drawn asked before later images (symbol_of asked.options.label asked.symbology asked.bytes) refl read
 
 module _ (options : Options) where
   -- what is sent of all lines

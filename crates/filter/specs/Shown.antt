@@ -42,9 +42,9 @@ full_data Qr bytes = Ok bytes
 abbrev pub HasFault : Request → Fault → Type 0
 HasFault asked fault =
     (full_data asked.symbology asked.bytes ≡ Err fault)
-    ⊎ ((asked.symbology ≡ Qr) × (fault ≡ DoesNotFit asked.options.level)
-    × ((version : ℕ) (codewords : List ℕ) → asked.options.min_version ≤ version → version ≤ 10
-    → data_in version asked.options.level codewords ≢ Some asked.bytes))
+    ⊎ ((asked.symbology ≡ Qr) × (fault ≡ DoesNotFit asked.options.label.level)
+    × ((version : ℕ) (codewords : List ℕ) → asked.options.label.min_version ≤ version → version ≤ 10
+    → data_in version asked.options.label.level codewords ≢ Some asked.bytes))
 
 -- what is sent of what a line asks for: nothing of an empty line or a comment, the message of its fault, or an image
 -- that is read as its full data

@@ -35,8 +35,8 @@ pub fn finish_line<O: Sink, E: Sink>(
     match parse(options, line, &mut scratch) {
         Item::Skip => Ok(Status::Clean),
         Item::Refuse(fault) => refuse(number, &fault, out, err),
-        Item::Draw(symbology, label, bytes) => {
-            match draw(&options.run, &label, symbology, bytes, out) {
+        Item::Draw(symbology, own, bytes) => {
+            match draw(&options.run, &own.label, symbology, bytes, out) {
                 Ok(Ok(())) => Ok(Status::Clean),
                 Ok(Err(fault)) => refuse(number, &fault, out, err),
                 Err(_) => Err(RunFault::WriteOut),

@@ -148,7 +148,7 @@ fn page_of_labelcore(rt: HostRuntime) {
     line.extend(b"ean8 7351353");
     let mut scratch = Scratch::new();
     let data = b"7351353".as_slice();
-    assert!(rt; parse(&options, &line, &mut scratch) == Item::Draw(Symbology::Ean8, label, data));
+    assert!(rt; parse(&options, &line, &mut scratch) == Item::Draw(Symbology::Ean8, options, data));
     line.clear();
     line.push(b'x');
     assert!(rt; parse(&options, &line, &mut scratch) == Item::Refuse(Fault::UnknownSymbology));

@@ -45,7 +45,7 @@ returns-in-Refuse-clause-status g c text at =
 pub returns-in-Ok-Ok : goal.returns-in-Ok-Ok
 returns-in-Ok-Ok g c =
     let options = c.args.options.now in
-    let o = outcome_of (symbol_of c.in-Draw.label c.in-Draw.symbology c.in-Draw.bytes.now) in
+    let o = outcome_of (symbol_of c.in-Draw.own.label c.in-Draw.symbology c.in-Draw.bytes.now) in
     let h = c.in-Ok-Ok.ensures.drawn in
     let clean = drawn_line c.args.number o (sym h.refusal ∙ c.in-Ok-Ok.field-0-is) in
     let took = g.E.Sink.took c.args.err.now c.args.err.now in
@@ -65,7 +65,7 @@ returns-in-Ok-Ok g c =
 pub returns-in-Ok-Err : goal.returns-in-Ok-Err
 returns-in-Ok-Err g c =
     let options = c.args.options.now in
-    let o = outcome_of (symbol_of c.in-Draw.label c.in-Draw.symbology c.in-Draw.bytes.now) in
+    let o = outcome_of (symbol_of c.in-Draw.own.label c.in-Draw.symbology c.in-Draw.bytes.now) in
     let h = c.in-Ok-Err.ensures.drawn in
     let is = refused_outcome o c.in-Ok-Err.fault (sym h.refusal ∙ c.in-Ok-Err.field-0-is) in
     let none = subst (g.O.Sink.took c.args.out.now c.draw.new.out) (ap (image_of options.run) is) h.writes.bytes in
@@ -89,7 +89,7 @@ returns-in-Ok-Err g c =
 pub returns-in-Err : goal.returns-in-Err
 returns-in-Err g c =
     let options = c.args.options.now in
-    let o = outcome_of (symbol_of c.in-Draw.label c.in-Draw.symbology c.in-Draw.bytes.now) in
+    let o = outcome_of (symbol_of c.in-Draw.own.label c.in-Draw.symbology c.in-Draw.bytes.now) in
     let writes = c.in-Err.ensures.drawn.writes in
     let out = g.O.Sink.took c.args.out.now c.draw.new.out in
     let err = g.E.Sink.took c.args.err.now c.args.err.now in
