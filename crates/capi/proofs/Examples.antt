@@ -10,7 +10,7 @@ use Rattle.labelcore.specs.declared.fault.Fault.TheVariants.{BadEscape}
 use Rattle.labelcore.specs.declared.options.Format.TheVariants.{Pbm, Ascii}
 use Rattle.labelcore.specs.declared.options.Options.{Options}
 use Rattle.labelcore.specs.declared.symbology.Symbology.TheVariants.{Ean13, Ean8, UpcA, Code128, Qr}
-use Rattle.qrdata.specs.declared.level.Level.TheVariants.{L, M, Q, H}
+use Rattle.labelcore.specs.declared.level.Level.TheVariants.{L, M, Q, H}
 use Rattle.linear.specs.Modules.{modules}
 use Rattle.linear.specs.Tables.{number_set_a, left_half_sets}
 use Rattle.picture.specs.Picture.{Picture}

@@ -7,7 +7,7 @@ use Rattle.command.specs.End.{exit_status, line_of}
 use Rattle.filter.specs.declared.status.RunFault.TheVariants.{Read, WriteOut, WriteMessages}
 use Rattle.filter.specs.declared.status.Status.TheVariants.{Clean, Refused}
 use Rattle.labelcore.specs.declared.options.Format.TheVariants.{Pbm, Ascii}
-use Rattle.qrdata.specs.declared.level.Level.TheVariants.{M, H}
+use Rattle.labelcore.specs.declared.level.Level.TheVariants.{M, H}
 use Rattle.labelcore.specs.declared.options.Options.{Options}
 use Rattle.labelcore.specs.Names.{level_named}
 use Rattle.labelcore.specs.OptionValues.{LabelValues}

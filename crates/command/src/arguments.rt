@@ -9,8 +9,7 @@ ghost use Rattle.command.specs.Private.Checked.{HoldsNumber, HoldsValues};
 use crate::command_line::command;
 use clap::error::ErrorKind;
 use clap::{ArgMatches, Command};
-use labelcore::{Format, Options, level_of};
-use qrdata::Level;
+use labelcore::{Format, Level, Options, level_of};
 use std::alloc::Global;
 
 /// What the arguments ask for where they ask for a run.
@@ -93,8 +92,7 @@ fn options_named(matches: &ArgMatches<'_>) -> Option<Options>
     let level = level_in(matches)?;
     let scale = small_number(matches, "scale").unwrap_or(defaults.run.scale());
     let height = number(matches, "height").unwrap_or(defaults.label.height());
-    let lowest = defaults.label.min_version().number();
-    let min_version = small_number(matches, "min-version").unwrap_or(lowest);
+    let min_version = small_number(matches, "min-version").unwrap_or(defaults.label.min_version());
     let mask = small_number(matches, "mask");
     let escapes = matches.get_flag("escapes");
     Options::new(format, scale, height, level, min_version, mask, escapes)

@@ -26,7 +26,7 @@ use Rattle.qrmatrix.specs.Square.{value_at}
 use Rattle.filter.specs.OneReading.{IsAlone}
 use Rattle.picture.specs.Reading.{pbm_pixels, ascii_pixels, sample}
 use Rattle.labelcore.specs.declared.options.Format.TheVariants.{Pbm, Ascii}
-use Rattle.qrdata.specs.declared.level.Level.TheVariants.{M}
+use Rattle.labelcore.specs.declared.level.Level.TheVariants.{M}
 use Rattle.labelcore.specs.declared.options.Options.{Options}
 use Rattle.std.specs.Fmt.{digits}
 use Rattle.labelcore.specs.LineItem.{Request, drawn, head_read, refused, request, skipped, symbology_named}

@@ -38,7 +38,6 @@ use Rattle.linear.specs.Code128Reading.{read_code128}
 use Rattle.linear.specs.Digits.{full_digits}
 use Rattle.linear.specs.Ean.{ean13_row, ean8_row, upca_row}
 use Rattle.linear.specs.EanReading.{read_ean13, read_ean8, read_upca}
-use Rattle.linear.specs.declared.refusal.Refusal.{Refusal}
 use Rattle.linear.proofs.Code128Laws.{code128_read_back}
 use Rattle.linear.proofs.EanLaws.{ean13_read_back, ean8_read_back, upca_read_back}
 use Rattle.linear.proofs.RowLengthLaws.{code128_short, ean13_short, ean8_short, upca_short}
@@ -46,7 +45,7 @@ use Rattle.qrdata.specs.Codewords.{symbol_codewords}
 use Rattle.qrdata.specs.Fewest.{chosen_segments, chosen_version}
 use Rattle.qrdata.specs.Reading.{data_in}
 use Rattle.qrdata.specs.Versions.{side_of}
-use Rattle.qrdata.specs.declared.level.Level.{Level}
+use Rattle.labelcore.specs.declared.level.Level.{Level}
 use Rattle.qrdata.proofs.CodewordByteLaws.{AreBytes-symbol_codewords}
 use Rattle.qrdata.proofs.DataReadingLaws.{data_in-symbol_codewords, length-read}
 use Rattle.qrdata.proofs.FewestBitsLaws.{chosen_segments-is}
@@ -131,7 +130,7 @@ module _ (run : RunValues) (label : LabelValues) (range : AreInRange run label) 
   -- bars of a row that is read and short
   linear_readable : (symbology : Symbology) (row : List ℕ → List Bool) (reading : List Bool → Option (List ℕ))
       → ((rows : List (List Bool)) → read_modules symbology rows ≡ option_and_then reading (common_row rows))
-      → reading [] ≡ None → (found : Result (List ℕ) Refusal) → IfOk found (λ full. reading (row full) ≡ Some full)
+      → reading [] ≡ None → (found : Result (List ℕ) Fault) → IfOk found (λ full. reading (row full) ≡ Some full)
       → IfOk found (λ full. length (row full) ≤ 1795)
       → HasReadable (outcome_of (linear_symbol symbology row label found))
   linear_readable symbology row reading rule none (Err refusal) read short = tt

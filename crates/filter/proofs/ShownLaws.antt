@@ -7,13 +7,11 @@ use Rattle.filter.proofs.Words.{drawn_symbols, events_after, outcome, outcome_of
 use Rattle.filter.proofs.Words.{Clean, Refused, qr_modules, linear_symbol, ok_or, status_of, is_refusal, if◌then◌else◌}
 use Rattle.std.specs.List.{AllZip, filter_map, list_any}
 use Rattle.std.specs.Result.{result_map_both}
-use Rattle.labelcore.specs.Faults.{fault_of}
 use Rattle.labelcore.specs.LineItem.{item}
 use Rattle.labelcore.specs.Settings.{◌>>=◌}
 use Rattle.labelcore.specs.Lines.{lines}
 use Rattle.labelcore.specs.declared.fault.Fault.TheVariants.{DoesNotFit}
 use Rattle.labelcore.specs.declared.symbology.Symbology.{Symbology}
-use Rattle.linear.specs.declared.refusal.Refusal.{Refusal}
 use Rattle.linear.specs.Code128.{code128_row, full_code128}
 use Rattle.linear.specs.Digits.{full_digits}
 use Rattle.linear.specs.Ean.{ean13_row, ean8_row, upca_row}
@@ -37,7 +35,7 @@ IsOf options symbology bytes (Err fault) =
     HasFault (record { symbology = symbology; options = options; bytes = bytes }) fault
 
 linear_is : (options : Options) (symbology : Symbology) (bytes : List ℕ) (row : List ℕ → List Bool)
-    (found : Result (List ℕ) Refusal) → full_data symbology bytes ≡ result_map_both (λ full. full) fault_of found
+    (found : Result (List ℕ) Fault) → full_data symbology bytes ≡ found
     → IsOf options symbology bytes (linear_symbol symbology row options.label found)
 linear_is options symbology bytes row (Ok full) e = (refl, e)
 linear_is options symbology bytes row (Err refusal) e = inl e

@@ -4,7 +4,6 @@ use Rattle.std.specs.Prelude.{◌≡◌, ◌≢◌, ◌≤◌, ◌⊎◌, ℕ, �
 use Rattle.std.specs.Prelude.{Option, Some, None, ⊤}
 use Rattle.std.specs.List.{AllZip, filter_map, list_any}
 use Rattle.std.specs.Result.{result_map_both}
-use Rattle.labelcore.specs.Faults.{fault_of}
 use Rattle.labelcore.specs.LineItem.{Outcome, Request, skipped, refused, drawn, item}
 use Rattle.labelcore.specs.Lines.{lines}
 use Rattle.labelcore.specs.Message.{message}
@@ -32,10 +31,10 @@ pub data Shown : Type 0 where
 
 -- the full data of a symbology, or why there is none
 abbrev pub full_data : Symbology → List ℕ → Result (List ℕ) Fault
-full_data Ean13 bytes = result_map_both (λ full. full) fault_of (full_digits 12 bytes)
-full_data Ean8 bytes = result_map_both (λ full. full) fault_of (full_digits 7 bytes)
-full_data UpcA bytes = result_map_both (λ full. full) fault_of (full_digits 11 bytes)
-full_data Code128 bytes = result_map_both (λ full. full) fault_of (full_code128 bytes)
+full_data Ean13 bytes = full_digits 12 bytes
+full_data Ean8 bytes = full_digits 7 bytes
+full_data UpcA bytes = full_digits 11 bytes
+full_data Code128 bytes = full_code128 bytes
 full_data Qr bytes = Ok bytes
 
 -- the data has no full data, or is for a QR symbol, and no symbol from the least version to version 10 is read as it

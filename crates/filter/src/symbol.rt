@@ -122,10 +122,7 @@ fn linear_row<L: Linear>(bytes: &[u8], row: &mut Row) -> Result<(), Fault>
     ensures refused { (symbology : Symbologies) (label : LabelValues) → IfErr result (λ fault.
         linear_symbol symbology L.row_of label (L.full_data bytes.now) ≡ Err fault) }
 {
-    match L::encode(bytes, row) {
-        Ok(()) => Ok(()),
-        Err(refusal) => Err(Fault::from(refusal)),
-    }
+    L::encode(bytes, row)
 }
 
 /// Returns the QR symbol of `bytes`.

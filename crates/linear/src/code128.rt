@@ -9,10 +9,10 @@ ghost use Rattle.linear.specs.Private.Lists.{Appends};
 
 use crate::limits::MAX_BYTES;
 use crate::linear::Linear;
-use crate::refusal::Refusal;
 use crate::row::{Row, push_modules};
 use crate::switching::{data_values, start_set, start_value};
 use crate::tables::{CHARACTERS, STOP};
+use labelcore::Fault;
 
 /// Returns the check value of a start value and the values after it, from 0 to 102.
 pub fn check_value(start: u8, values: &[u8]) -> u8
@@ -87,16 +87,16 @@ fn push_code128(row: &mut Row, data: &[u8])
 ///
 /// `DataTooLong`, or else `NotAscii` with the place of the first byte from 128 on.
 #[tactic(auto, using(crate::proofs::Code128Laws::all_ascii_from_None))]
-fn check_data(data: &[u8]) -> Result<(), Refusal>
+fn check_data(data: &[u8]) -> Result<(), Fault>
     ensures answer { MatchResult result (λ _. full_code128 «data».now ≡ Ok «data».now)
         (λ refusal. full_code128 «data».now ≡ Err refusal) }
     ensures valid { OnOk result (IsCode128Data «data».now) }
 {
     if data.len() > MAX_BYTES {
-        return Err(Refusal::DataTooLong);
+        return Err(Fault::DataTooLong);
     }
     if let Some(index) = first_not_ascii(data) {
-        return Err(Refusal::NotAscii(index + 1));
+        return Err(Fault::NotAscii(index + 1));
     }
     Ok(())
 }
@@ -133,7 +133,7 @@ impl Linear for Code128 {
 
     const QUIET_RIGHT: usize = 10;
 
-    fn encode(data: &[u8], row: &mut Row) -> Result<(), Refusal> {
+    fn encode(data: &[u8], row: &mut Row) -> Result<(), Fault> {
         row.clear();
         check_data(data)?;
         push_code128(row, data);

@@ -10,9 +10,9 @@ ghost use Rattle.linear.specs.Private.Lists.{Appends};
 
 use crate::digits::full_digits;
 use crate::linear::Linear;
-use crate::refusal::Refusal;
 use crate::row::{Row, push_modules};
 use crate::tables::{CENTRE_GUARD, LEFT_SETS, NORMAL_GUARD, SET_A, SET_B, SET_C};
+use labelcore::Fault;
 
 /// A number set: each digit has a pattern of seven modules in each of the three.
 #[derive(Clone, Copy)]
@@ -122,7 +122,7 @@ impl Linear for Ean8 {
 
     const QUIET_RIGHT: usize = 7;
 
-    fn encode(data: &[u8], row: &mut Row) -> Result<(), Refusal> {
+    fn encode(data: &[u8], row: &mut Row) -> Result<(), Fault> {
         row.clear();
         let full = full_digits(7, data)?;
         push_ean8(row, &full);
@@ -169,7 +169,7 @@ impl Linear for Ean13 {
 
     const QUIET_RIGHT: usize = 7;
 
-    fn encode(data: &[u8], row: &mut Row) -> Result<(), Refusal> {
+    fn encode(data: &[u8], row: &mut Row) -> Result<(), Fault> {
         row.clear();
         let full = full_digits(12, data)?;
         push_ean13(row, full[0], &full[1..]);
@@ -204,7 +204,7 @@ impl Linear for UpcA {
 
     const QUIET_RIGHT: usize = 9;
 
-    fn encode(data: &[u8], row: &mut Row) -> Result<(), Refusal> {
+    fn encode(data: &[u8], row: &mut Row) -> Result<(), Fault> {
         row.clear();
         let full = full_digits(11, data)?;
         push_ean13(row, b'0', &full);

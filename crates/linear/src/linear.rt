@@ -1,10 +1,10 @@
 //! What every linear symbology does.
 ghost use Rattle.std.specs.Prelude.{◌≡◌, ◌≢◌, ℕ, Bool, Option, Result, Err, List, [], IsOk, IfOk, IfErr};
-ghost use Rattle.linear.specs.declared.refusal.Refusal.{Refusal as Refused};
+ghost use Rattle.labelcore.specs.declared.fault.Fault.{Fault as Refused};
 ghost use Rattle.linear.specs.Drawing.{IsDrawn};
 
-use crate::refusal::Refusal;
 use crate::row::Row;
+use labelcore::Fault;
 
 /// A linear symbology: which data it takes, and the row of modules of such data.
 pub trait Linear {
@@ -35,7 +35,7 @@ pub trait Linear {
     /// # Errors
     ///
     /// Why the data has no symbol in this symbology. The row is empty then.
-    fn encode(data: &[u8], row: &mut Row) -> Result<(), Refusal>
+    fn encode(data: &[u8], row: &mut Row) -> Result<(), Fault>
         requires { «data».now ≢ [] }
         ensures drawn { IfOk (full_data «data».now)
             (λ full. IsOk result × IsDrawn row_of reading turned_limit full row.new.items) }

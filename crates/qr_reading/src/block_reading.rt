@@ -11,9 +11,8 @@ ghost use Rattle.std.specs.Prelude.{replicate, slice_index, sum};
 use crate::bits::bits_of_codewords;
 use crate::segment_reading::{SymbolData, read_segments};
 use gf256::Generator;
-use qrdata::{
-    Lengths, Level, MAX_CODEWORDS, Version, Words, are_bytes, push_codewords, push_lengths,
-};
+use labelcore::Level;
+use qrdata::{Lengths, MAX_CODEWORDS, Version, Words, are_bytes, push_codewords, push_lengths};
 
 /// Returns where the codeword at a place of a block is among those of all blocks.
 fn interleaving_place(lengths: &[usize], block: usize, place: usize) -> usize

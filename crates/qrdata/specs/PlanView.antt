@@ -1,7 +1,7 @@
 -- A plan as clauses see it: what is chosen for a symbol (ISO/IEC 18004, 7.4.1).
 -- Why: `PlanView`: what `choose` returns and `codewords` takes.
 use Rattle.std.specs.Prelude.{◌≡◌, ◌≤◌, ◌<◌, ℕ, List, Some, None, length}
-use Rattle.qrdata.specs.declared.level.Level.{Level}
+use Rattle.labelcore.specs.declared.level.Level.{Level}
 use Rattle.qrdata.specs.declared.mode.Segment.{Segment}
 use Rattle.qrdata.specs.Codewords.{symbol_codewords}
 use Rattle.qrdata.specs.Fewest.{NoneFits, chosen_segments, chosen_version}

@@ -8,10 +8,10 @@ ghost use Rattle.std.specs.Prelude.{length, ◌≡◌, []};
 
 use crate::bits::{Bits, are_bytes, push_padding};
 use crate::blocks::{Lengths, Words, interleave, push_ec_codewords, push_lengths};
-use crate::level::Level;
 use crate::mode::Segment;
 use crate::plan::Plan;
 use crate::version::Version;
+use labelcore::Level;
 
 /// Writes the codewords of the symbol of a plan into `codewords`, in the order in which they are placed: the data
 /// codewords of its blocks interleaved, then their error correction codewords interleaved (ISO/IEC 18004, 7.6). They

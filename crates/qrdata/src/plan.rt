@@ -8,11 +8,11 @@ ghost use Rattle.qrdata.specs.Versions.{IsVersion};
 ghost use Rattle.std.specs.Prelude.{◌≡◌, ◌+◌, ◌≤◌, IfErr, IfNone, IfOk, IfSome, ℕ};
 
 use crate::firsts::Firsts;
-use crate::level::Level;
 use crate::mode::Segment;
 use crate::segmentation::fill;
 use crate::version::Version;
 use arrayvec::ArrayVec;
+use labelcore::Level;
 use std::marker::Model;
 
 /// The most segments that fit a symbol: in version 10 each has at least 20 bits, and there are at most 2192 data bits.

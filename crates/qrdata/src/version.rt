@@ -7,7 +7,8 @@ ghost use Rattle.qrdata.specs.Versions.{total_codewords};
 ghost use Rattle.std.specs.Prelude.{◌≡◌, ◌<◌, ◌≤◌, ◌↔◌, ◌⊎◌, IfSome, IsNone, ℕ};
 
 use crate::blocks::{Lengths, push_lengths};
-use crate::level::Level;
+use crate::level_place::place_of;
+use labelcore::Level;
 use std::marker::Model;
 
 /// The sizes of the symbols of a version. Each array has a place for levels L, M, Q and H.
@@ -128,7 +129,7 @@ impl Version {
         ensures some { 0 < result }
         ensures few { result ≤ 8 }
     {
-        SIZES[usize::from(self.number) - 1].blocks[level.place()]
+        SIZES[usize::from(self.number) - 1].blocks[place_of(level)]
     }
 
     /// Returns the number of error correction codewords of each block at a level.
@@ -136,7 +137,7 @@ impl Version {
         ensures value { result ≡ ec_codewords_per_block self level }
         ensures count { IsEcCodewordCount result }
     {
-        SIZES[usize::from(self.number) - 1].ec_codewords[level.place()]
+        SIZES[usize::from(self.number) - 1].ec_codewords[place_of(level)]
     }
 
     /// Returns the number of data codewords of each block at a level, the short blocks first.

@@ -11,7 +11,8 @@ ghost use Rattle.qrmatrix.specs.Private.Squares.{IsWithin};
 use crate::penalty::penalty;
 use crate::square::{SIDE, Square};
 use crate::unmasked::Unmasked;
-use qrdata::{Level, Mask, Version, Words, are_bytes};
+use labelcore::Level;
+use qrdata::{Mask, Version, Words, are_bytes};
 use std::marker::Model;
 
 /// The width of the quiet zone on each side of a symbol, in modules (ISO/IEC 18004, 9.1).

@@ -16,7 +16,8 @@ use crate::penalty::{penalty, penalty_below};
 use crate::placement::place;
 use crate::row_bits::low_ones;
 use crate::square::{SIDE, Square};
-use qrdata::{Level, Mask, Version, Words};
+use labelcore::Level;
+use qrdata::{Mask, Version, Words};
 
 /// Returns the mask that is tried in a turn: first mask 2, which most often has the lowest penalty, then the others.
 fn mask_in_turn(turn: u8) -> Mask

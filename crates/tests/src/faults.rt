@@ -1,7 +1,6 @@
 //! The texts of faults, of which no clause speaks; and runs over sinks whose flush fails, which the program's never do.
 use filter::{RunFault, Status, run};
-use labelcore::{Format, Options};
-use qrdata::Level;
+use labelcore::{Format, Level, Options};
 use std::alloc::Global;
 use testing::{FailAt, MemSink, MemSource};
 

@@ -2,11 +2,11 @@
 use device::{Buffered, Sink, write_whole};
 use filter::{Status, run};
 use gf256::{Generator, mul, pow_alpha};
-use labelcore::{Fault, Format, Item, LineBuf, Options, Scratch, Symbology, parse};
-use linear::{Ean8, Linear, Refusal, Row};
+use labelcore::{Fault, Format, Item, Level, LineBuf, Options, Scratch, Symbology, parse};
+use linear::{Ean8, Linear, Row};
 use linear_reading::LinearReading;
 use picture::{Bars, Framed, Scaled, write_pbm};
-use qrdata::{Level, Version, Words, choose, codewords};
+use qrdata::{Version, Words, choose, codewords};
 use qrmatrix::Matrix;
 use reading::{
     BitRegion, Bits, Dots, labels_are_read, modules_are_read, read, read_modules,
@@ -35,8 +35,8 @@ fn page_of_linear(rt: HostRuntime) {
     let mut row = Row::new();
     assert!(rt; Ean8::encode(b"7351353", &mut row).is_ok());
     assert!(rt; row.len() == 67);
-    let refusal = Refusal::WrongCheckDigit { given: 0, right: 7 };
-    assert!(rt; Ean8::encode(b"73513530", &mut row) == Err(refusal));
+    let fault = Fault::WrongCheckDigit { given: 0, right: 7 };
+    assert!(rt; Ean8::encode(b"73513530", &mut row) == Err(fault));
     assert!(rt; row.is_empty());
     assert!(rt; Ean8::QUIET_LEFT == 7);
 }

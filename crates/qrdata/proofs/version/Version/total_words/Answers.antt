@@ -1,4 +1,4 @@
-use Rattle.qrdata.specs.declared.level.Level.TheVariants.{L}
+use Rattle.labelcore.specs.declared.level.Level.TheVariants.{L}
 use Rattle.qrdata.proofs.VersionLaws.{IsSound-of}
 use Rattle.qrdata.proofs.version.Version.total_words.Goals as goal
 
