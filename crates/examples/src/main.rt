@@ -69,7 +69,7 @@ fn show_symbol(rt: &HostRuntime) -> io::Result<()> {
     let Some(options) = Options::new(Format::Ascii, 1, 1, Level::M, 1, Some(2), false) else {
         return println!(rt; "options out of range");
     };
-    let Ok(symbol) = matrix_of(&options.label, b"01234567") else {
+    let Ok(symbol) = matrix_of(&options, b"01234567") else {
         return println!(rt; "the data does not fit");
     };
     let picture = Negative::new(Framed::new(

@@ -138,9 +138,12 @@ pub fn matrix_of(label: &LabelOptions, bytes: &[u8]) -> Result<Matrix, Fault>
     ensures side { IfOk result (λ matrix. matrix.side ≤ 57) }
     ensures numbers { IfOk result (λ matrix. IsMatrixOf label.now bytes.now matrix) }
 {
-    let plan = choose(label.min_version(), label.level(), bytes)?;
+    // The options that a run shares have no part in the choice.
+    let mut options = Options::default();
+    options.label = *label;
+    let plan = choose(&options, bytes)?;
     let mut written = Words::new();
-    codewords(&plan, &mut written);
+    codewords(&plan, bytes, &mut written);
     Ok(Matrix::draw(plan.version(), plan.level(), label.mask(), &written))
 }
 

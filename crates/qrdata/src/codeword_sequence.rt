@@ -13,25 +13,25 @@ use crate::plan::Plan;
 use crate::version::Version;
 use labelcore::Level;
 
-/// Writes the codewords of the symbol of a plan into `codewords`, in the order in which they are placed: the data
-/// codewords of its blocks interleaved, then their error correction codewords interleaved (ISO/IEC 18004, 7.6). They
-/// replace what `codewords` held, and read back as the data.
-pub fn codewords(plan: &Plan, codewords: &mut Words)
-    ensures { AreSymbolCodewords plan.now codewords.new.items }
+/// Writes the codewords of the symbol of a plan for its data into `words`, in the order in which they are placed: the
+/// data codewords of its blocks interleaved, then their error correction codewords interleaved (ISO/IEC 18004, 7.6).
+/// They replace what `words` held, and read back as the data.
+pub fn codewords(plan: &Plan, data: &[u8], words: &mut Words)
+    requires { HasFittingSegments plan.now «data».now }
+    ensures { AreSymbolCodewords plan.now «data».now words.new.items }
 {
     let version = plan.version();
     let level = plan.level();
-    let bytes = plan.bytes();
-    are_bytes(bytes);
+    are_bytes(data);
     let mut message = Bits::new();
-    push_data(version, level, plan.segments(), bytes, &mut message);
-    write_symbol(version, level, message.codewords.as_slice(), codewords);
+    push_data(version, level, plan.segments(), data, &mut message);
+    write_symbol(version, level, message.codewords.as_slice(), words);
 }
 
 /// Writes the data codewords of the segments.
 fn push_data(version: Version, level: Level, segments: &[Segment], bytes: &[u8], message: &mut Bits)
     requires empty { bits_in message.old ≡ [] }
-    requires plan { HasFittingSegments (plan_view version level segments.now bytes.now) }
+    requires plan { HasFittingSegments (plan_view version level segments.now) bytes.now }
     ensures { message.new.codewords.items
         ≡ data_codewords_of (data_codewords version level) (segments_bits version segments.now bytes.now) }
 {

@@ -21,5 +21,5 @@ pub use blocks::{Lengths, MAX_CODEWORDS, Words, push_codewords, push_lengths};
 pub use codeword_sequence::codewords;
 pub use mask::Mask;
 pub use mode::{Mode, Segment};
-pub use plan::{DoesNotFit, Plan, choose};
+pub use plan::{Plan, choose};
 pub use version::Version;

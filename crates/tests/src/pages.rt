@@ -6,7 +6,7 @@ use labelcore::{Fault, Format, Item, Level, LineBuf, Options, Scratch, Symbology
 use linear::{Ean8, Linear, Row};
 use linear_reading::LinearReading;
 use picture::{Bars, Framed, Scaled, write_pbm};
-use qrdata::{Version, Words, choose, codewords};
+use qrdata::{Words, choose, codewords};
 use qrmatrix::Matrix;
 use reading::{
     BitRegion, Bits, Dots, labels_are_read, modules_are_read, read, read_modules,
@@ -93,36 +93,40 @@ fn page_of_gf256(rt: HostRuntime) {
 
 #[test]
 fn page_of_qrdata(rt: HostRuntime) {
-    let plan = match choose(Version::of(1), Level::Q, b"HELLO WORLD") {
+    let mut options = Options::default();
+    options.label = options.label.with_level(Level::Q);
+    let plan = match choose(&options, b"HELLO WORLD") {
         Ok(plan) => plan,
         Err(_) => panic!(rt; "it does not fit"),
     };
     assert!(rt; plan.version().number() == 1 && plan.bits() == 74);
     let mut symbol = Words::new();
-    codewords(&plan, &mut symbol);
+    codewords(&plan, b"HELLO WORLD", &mut symbol);
     assert!(rt; symbol.len() == 26 && symbol[0] == 32 && symbol[1] == 91);
 }
 
 #[test]
 fn page_of_qrmatrix(rt: HostRuntime) {
-    let plan = match choose(Version::of(1), Level::M, b"01234567") {
+    let plan = match choose(&Options::default(), b"01234567") {
         Ok(plan) => plan,
         Err(_) => panic!(rt; "it does not fit"),
     };
     let mut symbol = Words::new();
-    codewords(&plan, &mut symbol);
+    codewords(&plan, b"01234567", &mut symbol);
     let matrix = Matrix::draw(plan.version(), plan.level(), None, &symbol);
     assert!(rt; matrix.side() == 21 && matrix.mask().number() == 0 && matrix.penalty() == 297);
 }
 
 #[test]
 fn page_of_qr_reading(rt: HostRuntime) {
-    let plan = match choose(Version::of(1), Level::Q, b"HELLO WORLD") {
+    let mut options = Options::default();
+    options.label = options.label.with_level(Level::Q);
+    let plan = match choose(&options, b"HELLO WORLD") {
         Ok(plan) => plan,
         Err(_) => panic!(rt; "it does not fit"),
     };
     let mut symbol = Words::new();
-    codewords(&plan, &mut symbol);
+    codewords(&plan, b"HELLO WORLD", &mut symbol);
     let matrix = Matrix::draw(plan.version(), plan.level(), None, &symbol);
     let data = qr_reading::read(&matrix.rows()[..matrix.side()]);
     assert!(rt; data.is_some_and(|data| data.as_slice() == b"HELLO WORLD".as_slice()));

@@ -25,7 +25,6 @@ pub record IsSmallestPlan (lowest highest : ℕ) (level : Level) (bytes : List �
   pub from : lowest ≤ plan.version
   pub to : plan.version ≤ highest
   pub same_level : plan.level ≡ level
-  pub same_bytes : plan.bytes ≡ bytes
   pub same_segments : plan.segments ≡ chosen_segments plan.version bytes
   pub fits : cost plan.version (chosen_segments plan.version bytes) ≤ capacity plan.version level
   pub smallest : (v : ℕ) → lowest ≤ v → v < plan.version → DoNotFit v level bytes
