@@ -245,7 +245,7 @@ fn square_modules(
                 info: SymbolInfo {
                     version: (side as u32).saturating_sub(17) / 4,
                     level: number_of_level(label.level()),
-                    mask: u32::from(matrix.mask().number()),
+                    mask: u32::from(matrix.mask()),
                     ..info
                 },
             }

@@ -114,7 +114,7 @@ fn page_of_qrmatrix(rt: HostRuntime) {
     let mut symbol = Words::new();
     codewords(&plan, b"01234567", &mut symbol);
     let matrix = Matrix::draw(plan.version(), plan.level(), None, &symbol);
-    assert!(rt; matrix.side() == 21 && matrix.mask().number() == 0 && matrix.penalty() == 297);
+    assert!(rt; matrix.side() == 21 && matrix.mask() == 0 && matrix.penalty() == 297);
 }
 
 #[test]
