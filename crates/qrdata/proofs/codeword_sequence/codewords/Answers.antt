@@ -15,7 +15,7 @@ use Rattle.qrdata.proofs.codeword_sequence.codewords.Goals as goal
 pub write_symbol-requires : goal.write_symbol-requires
 write_symbol-requires c =
     let plan = c.args.plan.now in
-    let bytes = c.args.data.now in
+    let bytes = c.args.«data».now in
     let fit = c.requires in
     let bits = segments_bits plan.version plan.segments bytes in
     let long = length-segments_bits plan.version plan.segments bytes fit.cut in
@@ -34,12 +34,12 @@ pub returns : goal.returns
 unfolding symbol_codewords
 returns c =
     let plan = c.args.plan.now in
-    let data = c.args.data.now in
+    let text = c.args.«data».now in
     let fit = c.requires in
     let known = rw c.version-version.ensures.value at c.version-version.ensures.known in
     let bytes = c.are_bytes.ensures in
     let written = c.write_symbol.new.words.items in
-    let value : written ≡ symbol_codewords plan.version plan.level plan.segments data =
+    let value : written ≡ symbol_codewords plan.version plan.level plan.segments text =
     rw (
       c.write_symbol.ensures,
       c.as_slice.ensures.value,
@@ -48,15 +48,15 @@ returns c =
       c.level-level.ensures,
       c.segments.ensures,
     ) refl in
-    let read : data_in plan.version plan.level written ≡ Some data =
-    rw value (data_in-symbol_codewords plan.version plan.level plan.segments data known.0 known.1
-    (recursion_from_All (λ b. b < 256) data bytes) fit.cut fit.fits) in
+    let read : data_in plan.version plan.level written ≡ Some text =
+    rw value (data_in-symbol_codewords plan.version plan.level plan.segments text known.0 known.1
+    (recursion_from_All (λ b. b < 256) text bytes) fit.cut fit.fits) in
     let elements : All (λ w. w < 256) written = rw value (All-from_recursion (λ w. w < 256) _
-    (AreBytes-symbol_codewords plan.version plan.level plan.segments data known.0 known.1)) in
+    (AreBytes-symbol_codewords plan.version plan.level plan.segments text known.0 known.1)) in
     record {
       value = value;
-      count = length-read plan.version plan.level written data read;
+      count = length-read plan.version plan.level written text read;
       read = read;
-      guarded = IsGuarded-of plan.version plan.level written data known elements read;
-      corrected = IsCorrected-of plan.version plan.level written data known elements read;
+      guarded = IsGuarded-of plan.version plan.level written text known elements read;
+      corrected = IsCorrected-of plan.version plan.level written text known elements read;
     }

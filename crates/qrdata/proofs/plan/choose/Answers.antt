@@ -8,7 +8,7 @@ pub returns-in-Some-clause-plan : goal.returns-in-Some-clause-plan
 returns-in-Some-clause-plan c =
     let label = c.args.options.now.label in
     let level = label.level in
-    let bytes = c.args.data.now in
+    let bytes = c.args.«data».now in
     let plan = c.in-Some.plan in
     let h = rw (c.of-lowest.ensures, c.min_version.ensures.value, c.level-level.ensures) at c.in-Some.ensures.some in
     let cut : IsSegmentation plan.version plan.segments bytes =
@@ -27,7 +27,7 @@ returns-in-Some-clause-plan c =
 pub returns-in-None-clause-refused : goal.returns-in-None-clause-refused
 returns-in-None-clause-refused c =
     let label = c.args.options.now.label in
-    let bytes = c.args.data.now in
+    let bytes = c.args.«data».now in
     let none = rw (c.of-lowest.ensures, c.min_version.ensures.value, c.level-level.ensures) at c.in-None.ensures.none in
     record {
       version = chosen_version-none label.min_version label.level bytes none;
