@@ -181,7 +181,7 @@ unfolding status_of
 Shows-from options gave took status p =
     let events = script options p.text in
     let stream = sent options.run Images events in
-    let h = p.read events [] [] [] (sym (append-nil events)) refl in
+    let h = p.read events [] [] [] (λ e. cc) (sym (append-nil events)) refl in
     let are = are_shown options 0 (lines p.text) h.images h.read in
     record {
       text = p.text;

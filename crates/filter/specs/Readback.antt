@@ -1,7 +1,7 @@
 -- Images read back.
 -- Why: `IsRead`, `AreRead`, `HoldsImages`, `ReadsBack`: each image reads as its line's full data, damaged as nothing
 -- else, and in no other way.
-use Rattle.std.specs.Prelude.{◌≡◌, ℕ, List, ◌++◌, Some, IfSome}
+use Rattle.std.specs.Prelude.{◌≡◌, ◌≢◌, ℕ, List, ◌++◌, Some, IfSome, codes}
 use Rattle.std.specs.List.{AllZip}
 use Rattle.labelcore.specs.declared.options.Format.{Format}
 use Rattle.labelcore.specs.OptionValues.{RunValues}
@@ -29,9 +29,9 @@ pub record HoldsImages (format : Format) (scale : ℕ) (symbols : List Symbol) (
   pub parts : cut format stream ≡ images ++ cut format begun
   pub read : AreRead format scale images symbols
 
--- What a sink holds of a script: the images that a front of it sends, and whatever beginning of what is sent later. The
--- images of the front are cut from it, and read.
+-- What a sink holds of a script: the images that a front of it sends, and whatever beginning of what is sent later, but
+-- the byte `P` alone, which is no line `P1` yet. The images of the front are cut from it, and read.
 abbrev pub ReadsBack : RunValues → List Event → Type 0
-ReadsBack run script = (front later : List Event) (begun rest : List ℕ) → script ≡ front ++ later
+ReadsBack run script = (front later : List Event) (begun rest : List ℕ) → begun ≢ codes "P" → script ≡ front ++ later
     → sent run Images later ≡ begun ++ rest
     → HoldsImages run.format run.scale (drawn_symbols front) (sent run Images front ++ begun) begun

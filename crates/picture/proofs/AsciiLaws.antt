@@ -106,7 +106,7 @@ rows_not_blank p (y ∷ ys) some = rw (
 
 -- a stream of text pictures, each of some column, and what follows it is cut into them and what that is cut into
 pub ascii_files-flat_map : FilesAreTexts ascii_text ascii_files (λ p. 0 < p.width)
-ascii_files-flat_map ps more begun rest all e = files-flat_map ascii_text ascii_lines (λ line next. is_blank line)
+ascii_files-flat_map ps more begun rest some all e = files-flat_map ascii_text ascii_lines (λ line next. is_blank line)
     (λ p. 0 < p.width) (λ ls. Unit {0}) ascii_text-lines (λ p some. no_line_feeds p (below p.height)) (λ p ls. tt)
     first ps begun all tt where
       first : (p : Picture) (ls : List (List ℕ)) → 0 < p.width → Unit {0}
