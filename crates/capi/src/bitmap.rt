@@ -174,7 +174,11 @@ fn square_bitmap(
       message_after = message.new;
     }) stride result run.now (outcome_of (symbol_of label.now Qr bytes.now)) }
 {
-    match matrix_of(label, bytes) {
+    let options = Options {
+        run: *run,
+        label: *label,
+    };
+    match matrix_of(&options, bytes) {
         Ok(matrix) => offer_bitmap(run, matrix, zone_of(Symbology::Qr), bits, stride),
         Err(fault) => no_bitmap(refused(&fault, message)),
     }

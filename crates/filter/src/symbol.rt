@@ -82,7 +82,11 @@ fn draw_square<O: Sink>(
     ensures { DrawsOutcome O.Sink out.old out.new run.now
         (outcome_of (symbol_of label.now Qr bytes.now)) result }
 {
-    match matrix_of(label, bytes) {
+    let options = Options {
+        run: *run,
+        label: *label,
+    };
+    match matrix_of(&options, bytes) {
         Ok(matrix) => {
             write_picture(run, matrix, zone_of(Symbology::Qr), out)?;
             Ok(Ok(()))
@@ -131,20 +135,17 @@ fn linear_row<L: Linear>(bytes: &[u8], row: &mut Row) -> Result<(), Fault>
 ///
 /// The fault where the data is refused.
 #[tactic(auto, unfolding(crate::specs::Symbol::symbol_of, crate::specs::Symbol::qr_modules))]
-pub fn matrix_of(label: &LabelOptions, bytes: &[u8]) -> Result<Matrix, Fault>
-    ensures symbol { IfOk result (λ matrix. symbol_of label.now Qr bytes.now
+pub fn matrix_of(options: &Options, bytes: &[u8]) -> Result<Matrix, Fault>
+    ensures symbol { IfOk result (λ matrix. symbol_of options.now.label Qr bytes.now
         ≡ Ok (record { symbology = Qr; full = bytes.now; modules = symbol_picture matrix })) }
-    ensures refused { IfErr result (λ fault. symbol_of label.now Qr bytes.now ≡ Err fault) }
+    ensures refused { IfErr result (λ fault. symbol_of options.now.label Qr bytes.now ≡ Err fault) }
     ensures side { IfOk result (λ matrix. matrix.side ≤ 57) }
-    ensures numbers { IfOk result (λ matrix. IsMatrixOf label.now bytes.now matrix) }
+    ensures numbers { IfOk result (λ matrix. IsMatrixOf options.now.label bytes.now matrix) }
 {
-    // The options that a run shares have no part in the choice.
-    let mut options = Options::default();
-    options.label = *label;
-    let plan = choose(&options, bytes)?;
+    let plan = choose(options, bytes)?;
     let mut written = Words::new();
     codewords(&plan, bytes, &mut written);
-    Ok(Matrix::draw(plan.version(), plan.level(), label.mask(), &written))
+    Ok(Matrix::draw(plan.version(), plan.level(), options.mask(), &written))
 }
 
 /// Returns the quiet zone of a symbology.
