@@ -1,12 +1,11 @@
 -- What a run produces, by what its images are read as.
 use Rattle.filter.proofs.Words.{◌≡◌, ◌∙◌, ℕ, ◌+◌, ◌++◌, ◌||◌, Bool, List, [], ◌∷◌, Option, Some, None}
 use Rattle.filter.proofs.Words.{Ok, Err, Result, refl, sym, ap, subst, inl, inr, append-nil, skipped, refused, drawn}
-use Rattle.filter.proofs.Words.{Outcome, Request, Fault, LabelValues, RunValues, Options, Status, Symbol}
+use Rattle.filter.proofs.Words.{Outcome, Request, Fault, RunValues, Options, Status, Symbol}
 use Rattle.filter.proofs.Words.{Ean13, Ean8, UpcA, Code128, Qr, Images, Messages, Channel, Event, flushes, of_line}
 use Rattle.filter.proofs.Words.{drawn_symbols, events_after, outcome, outcome_of_item, outcome_of, script, sent, symbol_of}
 use Rattle.filter.proofs.Words.{Clean, Refused, qr_modules, linear_symbol, ok_or, status_of, is_refusal, if◌then◌else◌}
 use Rattle.std.specs.List.{AllZip, filter_map, list_any}
-use Rattle.std.specs.Result.{result_map_both}
 use Rattle.labelcore.specs.LineItem.{item}
 use Rattle.labelcore.specs.Settings.{◌>>=◌}
 use Rattle.labelcore.specs.Lines.{lines}
