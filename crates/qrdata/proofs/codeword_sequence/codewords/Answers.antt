@@ -38,7 +38,7 @@ returns c =
     let fit = c.requires in
     let known = rw c.version-version.ensures.value at c.version-version.ensures.known in
     let bytes = c.are_bytes.ensures in
-    let written = c.write_symbol.new.words.items in
+    let written = c.write_symbol.new.codewords.items in
     let value : written ≡ symbol_codewords plan.version plan.level plan.segments text =
     rw (
       c.write_symbol.ensures,
