@@ -148,9 +148,11 @@ magic_begun (p ∷ ps) (b ∷ c ∷ []) rest some e =
     let first : b ≡ 80 = ap (λ (xs : List ℕ). get_or xs 0 0) (sym e) in
     let second : c ≡ 49 = ap (λ (xs : List ℕ). get_or xs 1 0) (sym e) in rw (first, second) refl
 magic_begun (p ∷ ps) (b ∷ c ∷ d ∷ begun) rest some e =
-    let first : b ≡ 80 = ap (λ (xs : List ℕ). get_or xs 0 0) (sym e) in
-    let second : c ≡ 49 = ap (λ (xs : List ℕ). get_or xs 1 0) (sym e) in
-    let third : d ≡ 10 = ap (λ (xs : List ℕ). get_or xs 2 0) (sym e) in rw (first, second, third) (magic_line begun)
+    let first : 80 ≡ b = ap (λ (xs : List ℕ). get_or xs 0 0) e in
+    let second : 49 ≡ c = ap (λ (xs : List ℕ). get_or xs 1 0) e in
+    let third : 10 ≡ d = ap (λ (xs : List ℕ). get_or xs 2 0) e in
+    let same : 80 ∷ 49 ∷ 10 ∷ begun ≡ b ∷ c ∷ d ∷ begun = (λ i. first i ∷ second i ∷ third i ∷ begun) in
+    subst (λ (xs : List ℕ). list_all is_magic (take 1 (whole_lines xs)) ≡ true) same (magic_line begun)
 
 pub pbm_files-flat_map : FilesAreTexts pbm_text pbm_files IsDrawable
 pbm_files-flat_map ps more begun rest some all e =
