@@ -48,20 +48,18 @@ symbol_is options UpcA bytes = linear_is options UpcA bytes upca_row (full_digit
 symbol_is options Code128 bytes = linear_is options Code128 bytes code128_row (full_code128 bytes) refl
 symbol_is options Qr bytes = at (chosen_version options.label.min_version options.label.level bytes) refl
   where
-    label = options.label
-
-    at : (found : Option ℕ) → chosen_version label.min_version label.level bytes ≡ found
-        → IsOf options Qr bytes (ok_or found (DoesNotFit label.level) >>= (λ version. Ok (record {
+    at : (found : Option ℕ) → chosen_version options.label.min_version options.label.level bytes ≡ found
+        → IsOf options Qr bytes (ok_or found (DoesNotFit options.label.level) >>= (λ version. Ok (record {
           symbology = Qr;
           full = bytes;
-          modules = qr_modules label bytes version;
+          modules = qr_modules options.label bytes version;
         })))
     at None e = inr (
       refl,
       refl,
       λ version codewords from to.
-          unread-none_fits version label.level bytes
-          (NoneFits-chosen_none label.min_version label.level bytes e version from to) codewords,
+          unread-none_fits version options.label.level bytes
+          (NoneFits-chosen_none options.label.min_version options.label.level bytes e version from to) codewords,
     )
     at (Some version) e = (refl, refl)
 

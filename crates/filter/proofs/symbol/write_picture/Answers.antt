@@ -10,3 +10,8 @@ new-picture-requires-clause-fits g c =
       enlarged _ c.from.result (omega (arith, c.requires.width)) (omega (arith, c.scale.ensures.high)),
       enlarged _ c.from.result (omega (arith, c.requires.height)) (omega (arith, c.scale.ensures.high)),
     )
+
+pub returns : goal.returns
+returns g c =
+    rw (c.format.ensures, c.new-picture.ensures, c.new.ensures, c.from.ensures, c.scale.ensures.value)
+    at c.write_text.ensures
