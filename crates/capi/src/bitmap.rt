@@ -3,7 +3,7 @@ ghost use Rattle.std.specs.Prelude.{IfOk, ◌≢◌, ◌+◌, ◌≤◌, ℕ, Li
 ghost use Rattle.labelcore.specs.ItemView.{item_seen};
 ghost use Rattle.labelcore.specs.LineItem.{outcome_of};
 ghost use Rattle.labelcore.specs.declared.symbology.Symbology.TheVariants.{Qr};
-ghost use Rattle.picture.specs.Picture.{enlargement, with_quiet_zone};
+ghost use Rattle.picture.specs.Picture.{enlargement, with_quiet_zone, zone_with};
 ghost use Rattle.filter.specs.Symbol.{symbol_of};
 ghost use Rattle.capi.specs.Calls.{Declines, Rooms, asked, line_asked};
 ghost use Rattle.capi.specs.Bitmap.{AnswersBitmap, AnswersBitmapOutcome, DeclinesBitmap, PutsBitmap, ReadsBitmap};
@@ -200,7 +200,8 @@ fn offer_bitmap<G: Grid + Drop>(
       out_after = bits.new;
       message = message;
       message_after = message;
-    }) stride result (enlargement (with_quiet_zone (G.picture grid) zone) run.now.scale) }
+    }) stride result (enlargement (with_quiet_zone (G.picture grid)
+        (zone_with zone.left zone.right zone.top zone.bottom)) run.now.scale) }
 {
     let picture = Scaled::new(
         Framed::new(grid, zone.left, zone.right, zone.top, zone.bottom),
