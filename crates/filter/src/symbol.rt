@@ -99,7 +99,7 @@ fn draw_square<O: Sink>(
 ///
 /// # Errors
 ///
-/// The fault where the data is refused.
+/// The fault where the data is refused. The row is empty then.
 pub fn row_of(symbology: Symbology, bytes: &[u8], row: &mut Row) -> Result<(), Fault>
     requires some { bytes.now ≢ [] }
     requires linear { symbology ≢ Qr }
@@ -107,6 +107,7 @@ pub fn row_of(symbology: Symbology, bytes: &[u8], row: &mut Row) -> Result<(), F
         HasModules (symbol_of label symbology bytes.now) symbology (bars row.new.items label.height)) }
     ensures refused { (label : LabelValues) → IfErr result (λ fault.
         symbol_of label symbology bytes.now ≡ Err fault) }
+    ensures empty { IfErr result (λ _. row.new.items ≡ []) }
 {
     match symbology {
         Symbology::Ean13 => linear_row::<Ean13>(bytes, row),
@@ -125,6 +126,7 @@ fn linear_row<L: Linear>(bytes: &[u8], row: &mut Row) -> Result<(), Fault>
         (bars row.new.items label.height)) }
     ensures refused { (symbology : Symbologies) (label : LabelValues) → IfErr result (λ fault.
         linear_symbol symbology L.row_of label (L.full_data bytes.now) ≡ Err fault) }
+    ensures empty { IfErr result (λ _. row.new.items ≡ []) }
 {
     L::encode(bytes, row)
 }
