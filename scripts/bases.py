@@ -90,10 +90,14 @@ class Repository:
 
     @property
     def promises(self) -> list[CodeItem]:
-        """The contracts of the functions that crates give to their callers, and what traits, views and members say."""
+        """The contracts of the functions that crates give to their callers, what traits, views and members say, and
+        the types and constants that have no view."""
         files = [it for it in self.code if it.crate in self.crates]
         contracts = [one for file in files for one in declared.contracts_in(file)]
-        return contracts + [it for it in self.items if it.kind in ("trait", "view", "members")]
+        given = {(file.crate, it.name) for file in files if file.module == "lib" for it in file.passed_on}
+        said = [it for it in self.items if it.kind in ("trait", "view", "members")]
+        keys = {it.key for it in said}
+        return contracts + said + [it for it in self.items if (it.crate, it.name) in given and it.key not in keys]
 
     @property
     def laws(self) -> list[Declaration]:
