@@ -20,7 +20,7 @@ from reader import Declaration, File, Key
 # The program, and the crate whose functions C calls. They have no definitions of their own.
 PROGRAM, EXPORTS = "labels", "labels_c"
 # The crates on whose contracts no other crate rests.
-AT_THE_TOP = {PROGRAM, EXPORTS, "examples", "tests"}
+AT_THE_TOP = {PROGRAM, EXPORTS, "examples", "tests", "acceptance"}
 CLAP = "clap"
 # The file of the kit that has the traits of std's readers and writers.
 TRAITS_OF_STD = os.path.join("std", "src", "io", "traits.rt")
@@ -89,6 +89,24 @@ class Repository:
         return list(dict.fromkeys(it for key in keys if (it := self.definition(key))))
 
     @property
+    def promises(self) -> list[CodeItem]:
+        """The contracts of the functions that crates give to their callers, what traits, views and members say, and
+        the types and constants that have no view."""
+        files = [it for it in self.code if it.crate in self.crates]
+        contracts = [one for file in files for one in declared.contracts_in(file)]
+        given = {(file.crate, it.name) for file in files if file.module == "lib" for it in file.passed_on}
+        said = [it for it in self.items if it.kind in ("trait", "view", "members")]
+        keys = {it.key for it in said}
+        return contracts + said + [it for it in self.items if (it.crate, it.name) in given and it.key not in keys]
+
+    @property
+    def laws(self) -> list[Declaration]:
+        """The definitions outside of `Private`, and what they rest on. Those that no contract cites lemmas cite."""
+        files = [it for it in self.specs.values() if not it.module.startswith("Private")]
+        keys = [one.key for file in files for one in file.declarations]
+        return self.definitions(reader.reach(keys, self.cited_by))
+
+    @property
     def of_program(self) -> list[File]:
         """The files of the program itself, which makes one call."""
         return [it for it in self.code if it.crate == PROGRAM]
@@ -115,7 +133,8 @@ def base_of(repository: Repository, contracts: Sequence[CodeItem]) -> Base:
         cited = reader.reach(roots, repository.cited_by)
         named = {*declared.keys_of(cited)}
         words = frozenset[str]().union(*(it.words for it in code))
-        code = [*contracts, *(it for it in repository.items if it.is_of(named, words))]
+        spoken_by = (it for it in repository.items if it.is_of(named, words))
+        code = [*dict.fromkeys([*contracts, *spoken_by])]
     members = {it for item in code for it in item.members} & members_of_std()
     of_kit = [it for it in cited if it.crate not in repository.crates and it.name]
     return Base(

@@ -4,11 +4,14 @@
 The contracts are the clauses of the program's own call, `shows` and `runs`, each alone and both together, and those of
 the functions that the C library exports. --check compares the number in README.md and the table in docs/PROOF.md with
 what the files give, and the names of std in docs/DEFINITIONS.md with those that the program's call leans on: status 1
-where they differ. It does the same with scripts/believed_sums.txt, which has a checksum of each definition, without
-comments and layout: so one that is weakened, such as a row of a proposition, is a line of the diff that names it.
---write writes the number, the table and the sums. Each number counts definitions without blank lines and comments, the
-contract itself with the types, traits and views that it speaks by, and a line for each name of std and of the kit's
-clap. What stands behind clap's names is counted apart.
+where they differ. --write writes the number, the table and the sums below. Each number counts definitions without
+blank lines and comments, the contract itself with the types, traits and views that it speaks by, and a line for each
+name of std and of the kit's clap. What stands behind clap's names is counted apart.
+
+--check does the same with scripts/believed_sums.txt, which goes further: it has a checksum, without comments and
+layout, of all that any crate promises to its callers. These are the contracts of public functions, the traits, types
+and views by which they speak, the definitions on which these rest, and those that are outside of `Private`, which
+lemmas are about. So one that is weakened, such as a field of a proposition, is a line of the diff that names it.
 
 --show prints what a contract rests on, in reading order, each with its comment: `shows`, `runs`, `program` for both,
 or `library`. The first comment of a file says what the file is about. Lines `-- Why: ` after it say what its
@@ -41,7 +44,7 @@ README = "README.md"
 PROOF = os.path.join("docs", "PROOF.md")
 PAGE = os.path.join("docs", "DEFINITIONS.md")
 SUMS = os.path.join("scripts", "believed_sums.txt")
-HEAD_OF_SUMS = "# A checksum of each definition to be believed: `scripts/believed.py --write` makes it anew.\n"
+HEAD_OF_SUMS = "# A checksum of all that a promise of a crate rests on: `scripts/believed.py --write` makes it anew.\n"
 OF_STD = "## Names of std"
 BEGIN, END = "<!-- believed: begin -->", "<!-- believed: end -->"
 # The number of README, by what stands after it.
@@ -147,12 +150,16 @@ def with_number(readme: str, counts: Counts) -> str:
     return NUMBER.sub(f"{counts.of_readme:,}", readme)
 
 
-def sums_of(found: dict[str, Base]) -> str:
+def sums_of(repository: Repository, found: dict[str, Base]) -> str:
     """Returns the lines of the file of sums."""
-    definitions = {it.key: it for base in found.values() for it in base.definitions}
-    words = {key: [token.text for token in it.tokens] for key, it in sorted(definitions.items())}
-    lines = (f"{key.crate}/{key.module} {key.name} {sources.sum_of(said)}\n" for key, said in words.items())
-    return HEAD_OF_SUMS + "".join(lines)
+    crates, library = bases.base_of(repository, repository.promises), found["library"]
+    lines = set[str]()
+    for one in {*library.definitions, *crates.definitions, *repository.laws}:
+        total = sources.sum_of(token.text for token in one.tokens)
+        lines.add(f"{one.key.crate}/{one.key.module} {one.name} {total}\n")
+    for item in {*library.code, *crates.code}:
+        lines.add(f"{item.crate}/{item.file} {item.kind} {item.name} {item.sum}\n")
+    return HEAD_OF_SUMS + "".join(sorted(lines))
 
 
 def faults_of_names(page: str, base: Base) -> list[str]:
@@ -171,11 +178,12 @@ def differences(name: str, was: str, text: str) -> list[str]:
     return [*difflib.unified_diff(was.split("\n"), text.split("\n"), *names, lineterm="", n=1)]
 
 
-def compared(top: str, counts: Counts, found: dict[str, Base], writes: bool) -> int:
+def compared(top: str, repository: Repository, found: dict[str, Base], writes: bool) -> int:
     """Compares the pages with what the files give, or writes them, prints the numbers, and returns the status."""
+    counts = counts_of(repository, found)
     wrong = faults_of_names(sources.read(os.path.join(top, PAGE)), found["program"])
     read = {name: sources.read(os.path.join(top, name)) for name in (README, PROOF, SUMS)}
-    made = with_number(read[README], counts), with_table(read[PROOF], counts), sums_of(found)
+    made = with_number(read[README], counts), with_table(read[PROOF], counts), sums_of(repository, found)
     for (name, was), text in zip(read.items(), made):
         path = os.path.join(top, name)
         if writes:
@@ -265,8 +273,7 @@ def main() -> int:
     if given.show:
         show(repository, found[given.show])
         return 0
-    counts = counts_of(repository, found)
-    return compared(sources.TOP, counts, found, given.write)
+    return compared(sources.TOP, repository, found, given.write)
 
 
 if __name__ == "__main__":

@@ -18,6 +18,7 @@ import sys
 from dataclasses import dataclass
 from typing import Container, Iterable, Iterator, Sequence
 
+import sources
 from reader import Declaration, File, Key, Token
 
 OF_CODE = {"trait": "trait", "enum": "type", "struct": "type", "const": "constant"}
@@ -28,8 +29,8 @@ Name = tuple[str, str, str]
 @dataclass(frozen=True)
 class CodeItem:
     """An item: its crate, its file in src/ without the ending, its description, how many lines it has, what these
-    cite, the words of the type that it is or shows, or of the contract, which name more types, and the members of
-    types that it names, as `remaining` in `R.remaining`."""
+    cite, the words of the type that it is or shows, or of the contract, which name more types, the members of types
+    that it names, as `remaining` in `R.remaining`, and a checksum of all that it says."""
 
     kind: str
     name: str
@@ -40,6 +41,7 @@ class CodeItem:
     cites: tuple[Key, ...]
     words: frozenset[str]
     members: frozenset[str]
+    sum: str
 
     @property
     def key(self) -> Name:
@@ -77,6 +79,7 @@ def item_of(kind: str, name: str, file: File, about: str, declarations: Sequence
         cites=tuple(cites),
         words=words_of(one for one in file.declarations if (one.kind, one.name) == wanted),
         members=members_in(declarations),
+        sum=sources.sum_of(token.text for one in declarations for token in one.stated),
     )
 
 
@@ -146,3 +149,14 @@ def contract_of(file: File, item: Declaration, names: Sequence[str] = ()) -> Cod
     shown = dataclasses.replace(item, stated=stated)
     made = item_of("contract", item.name, file, item.about, [shown])
     return dataclasses.replace(made, words=words_of([shown]))
+
+
+def contracts_in(file: File) -> Iterator[CodeItem]:
+    """Yields the contracts of the functions of a file that a caller may call, those of traits for a type too."""
+    for item in file.declarations:
+        inside = item.inner if item.kind == "impl" else [item]
+        for one in inside:
+            is_called = one.is_public or " for " in item.name
+            if one.kind == "fn" and is_called and clauses_of(one.stated)[1]:
+                name = f"{item.name}::{one.name}" if item.inner else one.name
+                yield dataclasses.replace(contract_of(file, one), name=name)

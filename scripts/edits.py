@@ -6,11 +6,11 @@ to fail, by its path below the crate. Then it has one of two forms:
 - `body: TEXT` is a body in place of the function's own. It can call the function itself, which is there beside it:
   `body: match run(source) { Err(_) => Ok(()), well => well }`. So it quotes no code, and a change of the code leaves
   it as it is. It is tried in a copy of the function without a proof, and a right body, one that calls the function and
-  does no more, shows that this is enough. No function of a trait has a copy, and none that calls itself. `clause:
-  NAME` says which of several clauses the body breaks: the copy has no other, so no other refuses it. `alone:
-  Runs.produces Produces.sends Produces.given` says which field it breaks, the last one: in the copy's clause these
-  records have these fields alone, and the values that they speak of. A second copy, without the last, must be
-  accepted.
+  does no more, shows that this is enough. A function that calls itself has no copy, nor has one of a trait if its
+  clauses are in the trait. `clause: NAME` says which of several clauses the body breaks: the copy has no other, so no
+  other refuses it. `alone: Runs.produces Produces.sends Produces.given` says which field it breaks, the last one: in
+  the copy's clause these records have these fields alone, and the values that they speak of. A second copy, without
+  the last, must be accepted.
 - `file: FILE` and pairs of `old: TEXT` and `new: TEXT` change the code in its place; each TEXT is in the file once.
 """
 
@@ -24,6 +24,7 @@ from typing import Collection, Mapping, Sequence
 
 import reader
 import sources
+import stand_ins
 
 GHOST = ("Head", "Antt", "Text", "End")
 # What is in quotes, and what is no code.
@@ -83,6 +84,17 @@ class Found:
     def block(self) -> tuple[int, int]:
         """Where its body begins and ends in the file, with the braces."""
         return self.file.extent(self.item.tokens[len(self.item.stated) :])
+
+    @property
+    def holder(self) -> reader.Declaration:
+        """The item at the top of the file that it is in, or it itself."""
+        return next(it for it in self.file.declarations if it is self.item or self.item in it.inner)
+
+    @property
+    def trait(self) -> str:
+        """The trait that it is of, or nothing."""
+        trait, is_of_trait, _ = self.holder.name.partition(" for ")
+        return trait if is_of_trait else ""
 
 
 # ---- files
@@ -260,10 +272,11 @@ def with_fields(fields: Sequence[str], ending: str, folder: str, head: str = "")
 
 
 def function_in(file: reader.File, path: Sequence[str]) -> reader.Declaration | None:
-    """Returns the function of a path in a file: a free one, or one of an `impl` of no trait."""
+    """Returns the function of a path in a file: a free one, or one of an `impl`."""
     items = file.declarations
     for name in path[:-1]:
-        items = [one for item in items if (item.kind, item.name) == ("impl", name) for one in item.inner]
+        holders = [it for it in items if it.kind == "impl" and stand_ins.name_of_holder(it.name) == name]
+        items = [one for item in holders for one in item.inner]
     return next((one for one in items if one.kind == "fn" and [one.name] == [*path[-1:]]), None)
 
 
@@ -335,10 +348,12 @@ def clauses_of(item: reader.Declaration) -> dict[str, tuple[int, int]]:
 
 
 def copy_of(body: Body, ending: str, folder: str) -> Copy | None:
-    """Returns a copy of the function of a body that is a text, with this ending of its name. There is none of a
-    function of a trait, and of one that calls itself."""
+    """Returns a copy of the function of a body that is a text, with this ending of its name. There is none of one that
+    calls itself, and of a function of a trait only where its `impl` has clauses: it is in another `impl` then."""
     found = found_anywhere(body.function, folder)
     if found is None or "cycle" in [token.text for token in found.item.attributes]:
+        return None
+    if found.trait and not clauses_of(found.item):
         return None
     file, one = found.file, found.item
     begin, end = file.extent(one.tokens)
@@ -350,9 +365,15 @@ def copy_of(body: Body, ending: str, folder: str) -> Copy | None:
     specs, names = with_fields(body.fields, ending, folder, head) if body.fields else ("", {})
     for name, other in names.items():
         head = re.sub(rf"\b{name}\b", other, head)
-    renamed = dataclasses.replace(body, function=f"{body.function}_{ending}")
     margin = " " * one.tokens[0].column
     text = f"{margin}{attributes}{head}{{{body.text}}}"
+    path = f"{body.function}_{ending}"
+    if found.trait:
+        opening = next(it for it in found.holder.tokens if (it.kind, it.text) == ("Code", "{"))
+        beginning = file.text[found.holder.tokens[0].start : opening.start]
+        text = re.sub(rf"\b{found.trait}(<[^>]*>)? for ", "", beginning) + f"{{\n{text}\n}}"
+        end, path = file.extent(found.holder.tokens)[1], path.replace(f"{found.trait}::", "::")
+    renamed = dataclasses.replace(body, function=path)
     return Copy(renamed, body.function, found.name, end, text, specs, tuple(it for it in names.values() if it in text))
 
 

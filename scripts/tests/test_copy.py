@@ -2,6 +2,7 @@
 
 import os
 import re
+from typing import Any
 from unittest import mock
 
 from support import PYTHON, TOP, InCopy, cases_of, module, read, run_command, slow
@@ -16,6 +17,14 @@ def found_in(pattern: str, file: str) -> str:
     found = re.search(pattern, read(os.path.join(TOP, file)), re.M)
     assert found, pattern
     return found[0]
+
+
+def with_more(file: Any) -> str:
+    """The text of a file of specs/ with one word more at the end of each definition."""
+    text = file.text
+    for end in sorted((file.extent(one.tokens)[1] for one in file.declarations), reverse=True):
+        text = f"{text[:end]} more{text[end:]}"
+    return str(text)
 
 
 # How many changes of definitions are judged, as a step and a page have it, and a number of a page.
@@ -122,6 +131,23 @@ class Believed(InCopy):
                 self.assertEqual(status, 0, said)
                 self.assertEqual([it for it in has if it not in said], [])
                 self.assertEqual([it for it in has_not if it in said], [])
+
+    @slow
+    def test_what_any_crate_promises_is_named(self) -> None:
+        """Each definition outside of `Private` that has a word more, and each contract of a function that demands what
+        it ensured: all at once. In the files of the crates below too, on which no user relies."""
+        repository = module("bases").read_repository(self.path())
+        contracts = [it for it in repository.promises if it.kind == "contract" and "ensures" in it.words]
+        wanted = {f"\n-{it.crate}/{it.file} contract {it.name} " for it in contracts}
+        for file in repository.code:
+            self.replace(file.path, file.text.replace("ensures ", "requires "))
+        for file in repository.specs.values():
+            if not file.module.startswith("Private"):
+                self.replace(file.path, with_more(file))
+                wanted |= {f"\n-{file.title} {one.name} " for one in file.declarations}
+        status, said = self.judged("believed.py", "--check")
+        self.assertEqual((status, [it for it in wanted if it not in said]), (1, []))
+        self.assertGreater(len(wanted), 800)
 
     @slow
     def test_results_as_they_are(self) -> None:

@@ -22,6 +22,8 @@ RECORDS, FUNCTIONS, LAWS = CASES["records"], CASES["functions"], CASES["laws"]
 # Of these the prover does not find by itself what is left without them (docs/EVIDENCE.md): `refutes:` names
 # them in a body.
 BESIDE = {"Shows.images", "RunsOver.runs", "RunsOver.whole", *(f"Ends.{case}" for case in range(1, 10))}
+# Of this one the clause is in the trait, so that there is no copy with the field alone.
+BESIDE |= {"IsDrawn.drawn"}
 
 
 def path_of(name: str) -> str:

@@ -344,13 +344,20 @@ class Outcomes(InFolder):
                 self.assertEqual((wrong_bodies.judged(results), printed.getvalue()), wanted)
 
     def test_no_copies(self) -> None:
-        """A method can be there twice, with its attributes; one of a trait cannot, nor one that calls itself."""
+        """A method can be there twice, with its attributes, and one of a trait that has clauses of its own in an
+        `impl` of the type; one without cannot, nor one that calls itself."""
         text = "const A: u8 = 7;\nimpl<T> Some<T> {\n    #[inline]\n    fn one() -> u8 { 1 }\n}\n"
-        write(self.path("src/part.rt"), text + "impl Trait for Some {\n    fn one() -> u8 { 11 }\n}\n")
+        for trait, clause in (("Trait", ""), ("Other<u8>", " ensures { result ≡ 12 }")):
+            text += f"impl<T: Trait> {trait} for Some<T> {{\n    fn one() -> u8{clause} {{ 11 }}\n}}\n"
+        write(self.path("src/part.rt"), text)
         write(self.path("src/cycle.rt"), "#[cycle(one)]\nfn one() -> u8 { 1 }\n")
         for function, wanted in (
             ("part::Some::one", "    #[inline]\n    fn one_0() -> u8 { 2 }"),
             ("part::SomeTrait::one", None),
+            (
+                "part::SomeOther::one",
+                "impl<T: Trait> Some<T> {\n    fn one_0() -> u8 ensures { result ≡ 12 } { 2 }\n}",
+            ),
             ("other::Some::one", None),
             ("cycle::one", None),
         ):

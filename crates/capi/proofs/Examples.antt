@@ -10,7 +10,7 @@ use Rattle.labelcore.specs.declared.fault.Fault.TheVariants.{BadEscape}
 use Rattle.labelcore.specs.declared.options.Format.TheVariants.{Pbm, Ascii}
 use Rattle.labelcore.specs.declared.options.Options.{Options}
 use Rattle.labelcore.specs.declared.symbology.Symbology.TheVariants.{Ean13, Ean8, UpcA, Code128, Qr}
-use Rattle.qrdata.specs.declared.level.Level.TheVariants.{L, M, Q, H}
+use Rattle.labelcore.specs.declared.level.Level.TheVariants.{L, M, Q, H}
 use Rattle.linear.specs.Modules.{modules}
 use Rattle.linear.specs.Tables.{number_set_a, left_half_sets}
 use Rattle.picture.specs.Picture.{Picture}
@@ -95,7 +95,7 @@ default_numbers = refl
 -- options, then the symbology, then the data
 asked_for : (asked defaults 4 (65 ∷ []) ≡ Ok (record {
   run = default_options.run;
-  item = drawn (record { symbology = Qr; options = default_options.label; bytes = 65 ∷ [] });
+  item = drawn (record { symbology = Qr; options = default_options; bytes = 65 ∷ [] });
 }))
     × ((asked (record defaults { scale = 9 }) 5 [] ≡ Err (record { code = 2; at = 2 }))
     × ((asked defaults 5 [] ≡ Err (record { code = 3; at = 0 })) × (asked defaults 4 [] ≡ Err (record { code = 4; at = 0 }))))

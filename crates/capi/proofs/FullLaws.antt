@@ -8,13 +8,12 @@ use Rattle.labelcore.specs.Settings.{◌>>=◌}
 use Rattle.labelcore.specs.declared.fault.Fault.{Fault}
 use Rattle.linear.specs.Code128.{code128_row}
 use Rattle.linear.specs.Digits.{unless_found}
-use Rattle.linear.specs.declared.refusal.Refusal.{Refusal}
-use Rattle.linear.specs.declared.refusal.Refusal.TheVariants.{DataTooLong, NotAscii}
+use Rattle.labelcore.specs.declared.fault.Fault.TheVariants.{DataTooLong, NotAscii}
 use Rattle.filter.specs.Symbol.{Symbol, linear_symbol, qr_modules}
 use Rattle.capi.specs.Full.{IsFullPut}
 
 pub linear_full : (symbology : Symbology) (row : List ℕ → List Bool) (label : LabelValues)
-    → (found : Result (List ℕ) Refusal) (room room_after : List ℕ) (told : ℕ)
+    → (found : Result (List ℕ) Fault) (room room_after : List ℕ) (told : ℕ)
     → IfOk found (λ full. IsFullPut full room room_after told)
     → IfOk (linear_symbol symbology row label found) (λ symbol. IsFullPut symbol.full room room_after told)
 linear_full symbology row label (Ok full) room room_after told put = put

@@ -7,7 +7,6 @@ use Rattle.labelcore.specs.Settings.{◌>>=◌}
 use Rattle.labelcore.specs.declared.fault.Fault.{Fault}
 use Rattle.labelcore.specs.declared.symbology.Symbology.{Symbology}
 use Rattle.labelcore.specs.declared.symbology.Symbology.TheVariants.{Ean13, Ean8, UpcA, Code128, Qr}
-use Rattle.linear.specs.declared.refusal.Refusal.{Refusal}
 use Rattle.linear.specs.Digits.{full_digits}
 use Rattle.linear.specs.Ean.{ean13_row, ean8_row, upca_row}
 use Rattle.linear.specs.Code128.{full_code128, code128_row}
@@ -27,7 +26,7 @@ abbrev pub IsLowered : Result Symbol Fault → Result Symbol Fault → Type 0
 IsLowered low found = MatchResult found (λ symbol. low ≡ Ok (with_rows_put symbol)) (λ fault. low ≡ Err fault)
 
 linear_lowered : (symbology : Symbology) (row : List ℕ → List Bool) (label : LabelValues)
-    → rows_put symbology label.height ≡ 1 → (found : Result (List ℕ) Refusal)
+    → rows_put symbology label.height ≡ 1 → (found : Result (List ℕ) Fault)
     → IsLowered (linear_symbol symbology row (one_row label) found) (linear_symbol symbology row label found)
 linear_lowered symbology row label one (Ok full) = rw one refl
 linear_lowered symbology row label one (Err refusal) = refl

@@ -46,7 +46,7 @@ data_said : (clause : Result Asked Reason → Type 0) {declines : Reason → Typ
     → ((reason : Reason) → clause (Err reason) → declines reason)
     → ((a : DataAsked) (bytes : List ℕ) → clause (Ok (record {
       run = a.options.run;
-      item = drawn (record { symbology = a.symbology; options = a.options.label; bytes = bytes });
+      item = drawn (record { symbology = a.symbology; options = a.options; bytes = bytes });
     })) → draws a bytes)
     → (options : Result Options Reason) (symbology : Option Symbology) (bytes : List ℕ)
     → clause (asked_of options symbology bytes)

@@ -35,7 +35,7 @@ asked_of (Ok options) None bytes = Err (record { code = 3; at = 0 })
 asked_of (Ok options) (Some symbology) [] = Err (record { code = 4; at = 0 })
 asked_of (Ok options) (Some symbology) (b ∷ bytes) = Ok (record {
   run = options.run;
-  item = drawn (record { symbology = symbology; options = options.label; bytes = b ∷ bytes });
+  item = drawn (record { symbology = symbology; options = options; bytes = b ∷ bytes });
 })
 
 -- what the numbers of a call ask for

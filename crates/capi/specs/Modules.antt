@@ -121,8 +121,8 @@ HasNumbers label other bytes info = (info.version ≡ 0) × ((info.level ≡ 0) 
 
 -- the numbers of a symbol that is drawn
 abbrev pub NumbersItem : SymbolInfo → Outcome Request → Type 0
-NumbersItem info (drawn asked) = IfOk (symbol_of asked.options asked.symbology asked.bytes)
-    (λ symbol. HasNumbers asked.options asked.symbology asked.bytes info)
+NumbersItem info (drawn asked) = IfOk (symbol_of asked.options.label asked.symbology asked.bytes)
+    (λ symbol. HasNumbers asked.options.label asked.symbology asked.bytes info)
 NumbersItem info other = ⊤
 
 -- the numbers of what is asked for

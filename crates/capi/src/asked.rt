@@ -69,7 +69,7 @@ pub fn asked_of<'a>(
     }
     Ok(Asked {
         run: options.run,
-        item: Item::Drawn(symbology, options.label, bytes),
+        item: Item::Draw(symbology, options, bytes),
     })
 }
 

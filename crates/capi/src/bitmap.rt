@@ -3,7 +3,7 @@ ghost use Rattle.std.specs.Prelude.{IfOk, ◌≢◌, ◌+◌, ◌≤◌, ℕ, Li
 ghost use Rattle.labelcore.specs.ItemView.{item_seen};
 ghost use Rattle.labelcore.specs.LineItem.{outcome_of};
 ghost use Rattle.labelcore.specs.declared.symbology.Symbology.TheVariants.{Qr};
-ghost use Rattle.picture.specs.Picture.{enlargement, with_quiet_zone};
+ghost use Rattle.picture.specs.Picture.{enlargement, with_quiet_zone, zone_with};
 ghost use Rattle.filter.specs.Symbol.{symbol_of};
 ghost use Rattle.capi.specs.Calls.{Declines, Rooms, asked, line_asked};
 ghost use Rattle.capi.specs.Bitmap.{AnswersBitmap, AnswersBitmapOutcome, DeclinesBitmap, PutsBitmap, ReadsBitmap};
@@ -90,9 +90,9 @@ fn put_bitmap(
         Err(reason) => return no_bitmap(declined_at(*reason)),
     };
     match *item {
-        Item::Skipped => no_bitmap(declined(SKIPPED)),
-        Item::Refused(fault) => no_bitmap(refused(&fault, message)),
-        Item::Drawn(symbology, label, bytes) => {
+        Item::Skip => no_bitmap(declined(SKIPPED)),
+        Item::Refuse(fault) => no_bitmap(refused(&fault, message)),
+        Item::Draw(symbology, Options { label, .. }, bytes) => {
             bitmap_is_read(run, &label, symbology, bytes);
             match symbology {
                 Symbology::Qr => square_bitmap(run, &label, bytes, bits, stride, message),
@@ -174,7 +174,11 @@ fn square_bitmap(
       message_after = message.new;
     }) stride result run.now (outcome_of (symbol_of label.now Qr bytes.now)) }
 {
-    match matrix_of(label, bytes) {
+    let options = Options {
+        run: *run,
+        label: *label,
+    };
+    match matrix_of(&options, bytes) {
         Ok(matrix) => offer_bitmap(run, matrix, zone_of(Symbology::Qr), bits, stride),
         Err(fault) => no_bitmap(refused(&fault, message)),
     }
@@ -196,9 +200,13 @@ fn offer_bitmap<G: Grid + Drop>(
       out_after = bits.new;
       message = message;
       message_after = message;
-    }) stride result (enlargement (with_quiet_zone (G.picture grid) zone) run.now.scale) }
+    }) stride result (enlargement (with_quiet_zone (G.picture grid)
+        (zone_with zone.left zone.right zone.top zone.bottom)) run.now.scale) }
 {
-    let picture = Scaled::new(Framed::new(grid, zone), usize::from(run.scale()));
+    let picture = Scaled::new(
+        Framed::new(grid, zone.left, zone.right, zone.top, zone.bottom),
+        usize::from(run.scale()),
+    );
     let width = picture.width();
     let height = picture.height();
     let size = width.div_ceil(8);

@@ -16,7 +16,9 @@ use crate::asked::{Asked, Reason, asked_of, line_asked};
 use crate::numbers::{Answer, CallOptions, DONE, NO_ROOM, SKIPPED, code_of, place_of};
 use crate::slice_sink::SliceSink;
 use filter::draw;
-use labelcore::{Fault, Item, LabelOptions, LineBuf, RunOptions, Scratch, Symbology, write_reason};
+use labelcore::{
+    Fault, Item, LabelOptions, LineBuf, Options, RunOptions, Scratch, Symbology, write_reason,
+};
 
 /// Puts the image of one symbol into `out`, or the reason why there is none into `message`. Of a text that is too long it
 /// puts what there is room for, and answers with the length of the whole.
@@ -79,9 +81,9 @@ fn put_image(asked: &Result<Asked<'_>, Reason>, out: &mut [u8], message: &mut [u
         Err(reason) => return declined_at(*reason),
     };
     match *item {
-        Item::Skipped => declined(SKIPPED),
-        Item::Refused(fault) => refused(&fault, message),
-        Item::Drawn(symbology, label, bytes) => {
+        Item::Skip => declined(SKIPPED),
+        Item::Refuse(fault) => refused(&fault, message),
+        Item::Draw(symbology, Options { label, .. }, bytes) => {
             symbol_image(run, &label, symbology, bytes, out, message)
         }
     }

@@ -5,8 +5,7 @@ ghost use Rattle.capi.specs.Calls.{Declines};
 ghost use Rattle.capi.specs.Modules.{DeclinesModules, ModuleRooms};
 ghost use Rattle.capi.specs.Numbers.{options_numbered, symbology_numbered};
 
-use labelcore::{Fault, Format, HEIGHT, MASK, MIN_VERSION, Options, SCALE, Symbology};
-use qrdata::Level;
+use labelcore::{Fault, Format, HEIGHT, Level, MASK, MIN_VERSION, Options, SCALE, Symbology};
 
 /// The call was done.
 pub const DONE: u32 = 0;

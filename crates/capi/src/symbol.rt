@@ -160,12 +160,12 @@ fn put_modules(
         Err(reason) => return told_nothing(declined_at(*reason)),
     };
     match *item {
-        Item::Skipped => told_nothing(declined(SKIPPED)),
-        Item::Refused(fault) => told_nothing(refused(&fault, message)),
-        Item::Drawn(symbology, label, bytes) => {
+        Item::Skip => told_nothing(declined(SKIPPED)),
+        Item::Refuse(fault) => told_nothing(refused(&fault, message)),
+        Item::Draw(symbology, Options { label, .. }, bytes) => {
             modules_are_read(run, &label, symbology, bytes);
             match symbology {
-                Symbology::Qr => square_modules(&label, bytes, modules, message, full),
+                Symbology::Qr => square_modules(run, &label, bytes, modules, message, full),
                 _ => row_modules(&label, symbology, bytes, modules, message, full),
             }
         }
@@ -218,6 +218,7 @@ fn row_modules(
 
 /// Puts the modules of a QR symbol.
 fn square_modules(
+    run: &RunOptions,
     label: &LabelOptions,
     bytes: &[u8],
     modules: &mut [bool],
@@ -235,7 +236,11 @@ fn square_modules(
     ensures full { PutsFullOutcome full.old full.new result.info.data_length
         (outcome_of (symbol_of label.now Qr bytes.now)) }
 {
-    match matrix_of(label, bytes) {
+    let options = Options {
+        run: *run,
+        label: *label,
+    };
+    match matrix_of(&options, bytes) {
         Ok(matrix) => {
             let side = matrix.side();
             let length = put_full(Symbology::Qr, bytes, full);
@@ -245,7 +250,7 @@ fn square_modules(
                 info: SymbolInfo {
                     version: (side as u32).saturating_sub(17) / 4,
                     level: number_of_level(label.level()),
-                    mask: u32::from(matrix.mask().number()),
+                    mask: u32::from(matrix.mask()),
                     ..info
                 },
             }

@@ -2,12 +2,12 @@
 use Rattle.std.proofs.Common.{◌≡◌, refl, codes, [], ◌∷◌, map, Some, None, Ok, Err, true, false}
 use Rattle.clap.proofs.OnLiterals.{clap_on_literals}
 use Rattle.command.specs.CommandLine.{bad, command_line, file_argument, help, invocation_of, is_on, run, text_option}
-use Rattle.command.specs.declared.end.End.TheVariants.{Ran, Helped, BadArguments, NoFile, NoMemory}
+use Rattle.command.specs.declared.end.End.TheVariants.{Ran, Helped, BadWords, NoFile, NoMemory}
 use Rattle.command.specs.End.{exit_status, line_of}
 use Rattle.filter.specs.declared.status.RunFault.TheVariants.{Read, WriteOut, WriteMessages}
 use Rattle.filter.specs.declared.status.Status.TheVariants.{Clean, Refused}
 use Rattle.labelcore.specs.declared.options.Format.TheVariants.{Pbm, Ascii}
-use Rattle.qrdata.specs.declared.level.Level.TheVariants.{M, H}
+use Rattle.labelcore.specs.declared.level.Level.TheVariants.{M, H}
 use Rattle.labelcore.specs.declared.options.Options.{Options}
 use Rattle.labelcore.specs.Names.{level_named}
 use Rattle.labelcore.specs.OptionValues.{LabelValues}
@@ -58,11 +58,11 @@ unfolding clap_on_literals level_named
 out-of-range = refl
 
 -- the statuses and the lines of the program's ends (docs/SPECIFICATION.md, Statuses)
-statuses : map exit_status (Ran (Ok Clean) ∷ Ran (Ok Refused) ∷ Helped ∷ BadArguments ∷ NoFile ∷ NoMemory
+statuses : map exit_status (Ran (Ok Clean) ∷ Ran (Ok Refused) ∷ Helped ∷ BadWords ∷ NoFile ∷ NoMemory
     ∷ Ran (Err Read) ∷ Ran (Err WriteOut) ∷ Ran (Err WriteMessages) ∷ []) ≡ 0 ∷ 1 ∷ 0 ∷ 2 ∷ 3 ∷ 3 ∷ 3 ∷ 3 ∷ 3 ∷ []
 statuses = refl
 
-end-lines : map line_of (Ran (Ok Clean) ∷ Ran (Ok Refused) ∷ Helped ∷ BadArguments ∷ NoFile ∷ NoMemory ∷ Ran (Err Read)
+end-lines : map line_of (Ran (Ok Clean) ∷ Ran (Ok Refused) ∷ Helped ∷ BadWords ∷ NoFile ∷ NoMemory ∷ Ran (Err Read)
     ∷ Ran (Err WriteOut) ∷ Ran (Err WriteMessages) ∷ []) ≡ [] ∷ [] ∷ [] ∷ codes "labels: bad words\n"
     ∷ codes "labels: cannot open file\n" ∷ codes "labels: no memory\n" ∷ codes "labels: read failed\n"
     ∷ codes "labels: write failed\n" ∷ codes "labels: write failed\n" ∷ []

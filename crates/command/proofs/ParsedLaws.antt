@@ -35,8 +35,8 @@ use Rattle.clap.specs.declared.parser.matches.ArgMatches.{ArgMatches}
 use Rattle.command.specs.Choosing.{Chooses, Refuses}
 use Rattle.command.specs.CommandLine.{command_line, invocation_by, invocation_refused}
 use Rattle.command.specs.Private.Checked.{HoldsNumber, HoldsValues, IsNumberIn}
-use Rattle.command.specs.declared.arguments.ArgumentsFault.{ArgumentsFault}
-use Rattle.command.specs.declared.arguments.ArgumentsFault.TheVariants.{Memory}
+use Rattle.command.specs.declared.arguments.WordsFault.{WordsFault}
+use Rattle.command.specs.declared.arguments.WordsFault.TheVariants.{Memory}
 use Rattle.command.proofs.OneKindLaws.{IsOneAtMost}
 use Rattle.clap.specs.declared.builder.arg.Arg.{Arg}
 use Rattle.clap.specs.declared.builder.command.Command.{Command}
@@ -236,7 +236,7 @@ built_or_broken old new (Err e) is shape broken = inr broken
 -- ---- what a refused parse returns
 
 -- a parse whose error has one of at most one kind is refused by that kind
-pub refused : (kinds : Kinds) (rows : List Row) (e : Error) (fault : ArgumentsFault) → IsOneAtMost kinds
+pub refused : (kinds : Kinds) (rows : List Row) (e : Error) (fault : WordsFault) → IsOneAtMost kinds
     → HasKind kinds e → (kind_of e ≡ OutOfMemory → fault ≡ Memory) → Refuses (invocation_refused (kind_of e)) fault
     → Chooses (invocation_by kinds rows) (Err fault)
 unfolding IsOneAtMost

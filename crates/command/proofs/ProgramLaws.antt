@@ -19,7 +19,7 @@ use Rattle.filter.proofs.ShownLaws.{Shows-from}
 use Rattle.command.specs.CommandLine.{Invocation, bad, help, run}
 use Rattle.command.specs.Program.{Devices, Given, EndsShown, EndsSo, Helps, RunsOver, RunsShown, RunsSo, World, Wrote}
 use Rattle.command.specs.declared.end.End.{End}
-use Rattle.command.specs.declared.end.End.TheVariants.{BadArguments, Helped, NoFile as NotOpened, NoMemory, Ran}
+use Rattle.command.specs.declared.end.End.TheVariants.{BadWords, Helped, NoFile as NotOpened, NoMemory, Ran}
 
 -- a text that was taken, and then a flush
 pub Helps-flushed : {O : Type 0} (out : SinkGhosts O) (o m o' : O) (text : List ℕ)
@@ -99,5 +99,5 @@ module _ {F R T W E : Type 0} {below : SinkGhosts (StdSink W)} (world : World F 
   EndsShown-from NotOpened (run options (Some name)) h = h
   EndsShown-from Helped help h = h
   EndsShown-from (Ran (Err WriteOut)) help h = h
-  EndsShown-from BadArguments bad h = h
+  EndsShown-from BadWords bad h = h
   EndsShown-from other asked h = absurd h

@@ -27,7 +27,7 @@ use Rattle.filter.specs.declared.status.Status.{Status}
 use Rattle.command.specs.CommandLine.{Invocation, run, help, bad, invocation_of}
 use Rattle.command.specs.End.{exit_status, line_of}
 use Rattle.command.specs.declared.end.End.{End}
-use Rattle.command.specs.declared.end.End.TheVariants.{Ran, Helped, BadArguments, NoFile as NotOpened, NoMemory}
+use Rattle.command.specs.declared.end.End.TheVariants.{Ran, Helped, BadWords, NoFile as NotOpened, NoMemory}
 use Rattle.command.specs.declared.file.NamedFiles.{Ghosts as FilesGhosts}
 use Rattle.command.specs.declared.file.OpenFault.TheVariants.{NoFile}
 
@@ -103,7 +103,7 @@ module _ {F R T W E : Type 0} {below : SinkGhosts (StdSink W)} (world : World F 
   Ends ran Helped help = Helps world.out b.output a.output (Ok tt) × (a ≡ record b { output = a.output })
   Ends ran (Ran (Err WriteOut)) help =
       ((fault : IoFault) × Helps world.out b.output a.output (Err fault)) × (a ≡ record b { output = a.output })
-  Ends ran BadArguments bad = a ≡ b
+  Ends ran BadWords bad = a ≡ b
   Ends ran other asked = ⊥
 
   abbrev pub EndsSo : End → Invocation → Type 0

@@ -9,8 +9,7 @@ ghost use Rattle.command.specs.Private.Checked.{HoldsNumber, HoldsValues};
 use crate::command_line::command;
 use clap::error::ErrorKind;
 use clap::{ArgMatches, Command};
-use labelcore::{Format, Options, level_of};
-use qrdata::Level;
+use labelcore::{Format, Level, Options, level_of};
 use std::alloc::Global;
 
 /// What the arguments ask for where they ask for a run.
@@ -24,7 +23,7 @@ pub struct Choice {
 
 /// Why the arguments ask for no run.
 #[derive(Drop)]
-pub enum ArgumentsFault {
+pub enum WordsFault {
     /// The arguments ask for help, and this is its text.
     Help(String),
     /// The command does not take the arguments.
@@ -93,8 +92,7 @@ fn options_named(matches: &ArgMatches<'_>) -> Option<Options>
     let level = level_in(matches)?;
     let scale = small_number(matches, "scale").unwrap_or(defaults.run.scale());
     let height = number(matches, "height").unwrap_or(defaults.label.height());
-    let lowest = defaults.label.min_version().number();
-    let min_version = small_number(matches, "min-version").unwrap_or(lowest);
+    let min_version = small_number(matches, "min-version").unwrap_or(defaults.label.min_version());
     let mask = small_number(matches, "mask");
     let escapes = matches.get_flag("escapes");
     Options::new(format, scale, height, level, min_version, mask, escapes)
@@ -102,17 +100,17 @@ fn options_named(matches: &ArgMatches<'_>) -> Option<Options>
 
 /// Returns the run that the matches ask for.
 #[tactic(auto, using(crate::proofs::NamedLaws::of_rows))]
-fn choice_of(alloc: Global, matches: &ArgMatches<'_>) -> Result<Choice, ArgumentsFault>
+fn choice_of(alloc: Global, matches: &ArgMatches<'_>) -> Result<Choice, WordsFault>
     requires { HoldsValues (found_of matches.now) }
     ensures { Chooses (run_of (rows_of (found_of matches.now))) result }
 {
     let Some(options) = options_named(matches) else {
-        return Err(ArgumentsFault::Bad);
+        return Err(WordsFault::Bad);
     };
     let file = match matches.get_str("file") {
         Some(name) => match String::from_str(alloc, name) {
             Ok(name) => Some(name),
-            Err(_) => return Err(ArgumentsFault::Memory),
+            Err(_) => return Err(WordsFault::Memory),
         },
         None => None,
     };
@@ -120,17 +118,17 @@ fn choice_of(alloc: Global, matches: &ArgMatches<'_>) -> Result<Choice, Argument
 }
 
 /// Returns why the arguments ask for no run, from the error of the parser.
-fn fault_of(alloc: Global, error: &clap::Error) -> ArgumentsFault
-    ensures memory { kind_of error.now ≡ ErrorKind.OutOfMemory → result ≡ ArgumentsFault.Memory }
+fn fault_of(alloc: Global, error: &clap::Error) -> WordsFault
+    ensures memory { kind_of error.now ≡ ErrorKind.OutOfMemory → result ≡ WordsFault.Memory }
     ensures other { Refuses (invocation_refused (kind_of error.now)) result }
 {
     match error.kind() {
-        ErrorKind::OutOfMemory => ArgumentsFault::Memory,
+        ErrorKind::OutOfMemory => WordsFault::Memory,
         ErrorKind::DisplayHelp => match format!(in alloc; "{error}") {
-            Ok(text) => ArgumentsFault::Help(text),
-            Err(_) => ArgumentsFault::Memory,
+            Ok(text) => WordsFault::Help(text),
+            Err(_) => WordsFault::Memory,
         },
-        _ => ArgumentsFault::Bad,
+        _ => WordsFault::Bad,
     }
 }
 
@@ -140,12 +138,12 @@ fn fault_of(alloc: Global, error: &clap::Error) -> ArgumentsFault
 ///
 /// `Help` with the text that `-h` or `--help` asks for, `Bad` if the command does not take the arguments, and `Memory`
 /// if memory ran out.
-pub fn options_of(alloc: Global, arguments: &[String]) -> Result<Choice, ArgumentsFault>
+pub fn options_of(alloc: Global, arguments: &[String]) -> Result<Choice, WordsFault>
     ensures { Chooses (invocation_of (map string_bytes arguments.now)) result }
 {
     match command(alloc) {
         Ok(command) => parsed_by(alloc, command, arguments),
-        Err(_) => Err(ArgumentsFault::Memory),
+        Err(_) => Err(WordsFault::Memory),
     }
 }
 
@@ -154,7 +152,7 @@ fn parsed_by<'a>(
     alloc: Global,
     mut command: Command<'a>,
     arguments: &'a [String],
-) -> Result<Choice, ArgumentsFault>
+) -> Result<Choice, WordsFault>
     requires { app_of command ≡ command_line }
     ensures { Chooses (invocation_of (map string_bytes arguments.now)) result }
 {

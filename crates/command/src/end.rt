@@ -12,7 +12,7 @@ pub enum End {
     /// Help was printed.
     Helped,
     /// The command does not take the arguments.
-    BadArguments,
+    BadWords,
     /// The system did not open the file.
     NoFile,
     /// Memory ran out before the filter ran.
@@ -27,7 +27,7 @@ impl End {
         match self {
             End::Ran(Ok(Status::Clean)) | End::Helped => 0,
             End::Ran(Ok(Status::Refused)) => 1,
-            End::BadArguments => 2,
+            End::BadWords => 2,
             End::Ran(Err(_)) | End::NoFile | End::NoMemory => 3,
         }
     }
@@ -38,7 +38,7 @@ impl End {
     {
         match self {
             End::Ran(Ok(_)) | End::Helped => "",
-            End::BadArguments => "labels: bad words\n",
+            End::BadWords => "labels: bad words\n",
             End::Ran(Err(RunFault::Read)) => "labels: read failed\n",
             End::Ran(Err(_)) => "labels: write failed\n",
             End::NoFile => "labels: cannot open file\n",

@@ -5,7 +5,7 @@ ghost use Rattle.device.specs.Device.{Begins};
 ghost use Rattle.command.specs.CommandLine.{invocation_of, run};
 ghost use Rattle.command.specs.Program.{EndsShown, EndsSo, Finishes, Helps};
 
-use crate::arguments::{ArgumentsFault, Choice, options_of};
+use crate::arguments::{Choice, WordsFault, options_of};
 use crate::end::End;
 use crate::file::{NamedFiles, OpenFault};
 use device::{Buffered, IoFault, Sink, Source, StdSink, StdSource, write_whole};
@@ -19,7 +19,7 @@ use std::rt::Env;
 ///
 /// # Errors
 ///
-/// How the program ends without them: `NoMemory` if memory ran out, and `BadArguments` if one is not UTF-8.
+/// How the program ends without them: `NoMemory` if memory ran out, and `BadWords` if one is not UTF-8.
 pub fn arguments_of<S: Env + AllocGlobal>(system: &S) -> Result<Vec<String>, End> {
     match env::args(system) {
         Ok(mut arguments) => {
@@ -31,7 +31,7 @@ pub fn arguments_of<S: Env + AllocGlobal>(system: &S) -> Result<Vec<String>, End
         }
         Err(error) => Err(match error.kind() {
             ErrorKind::OutOfMemory => End::NoMemory,
-            _ => End::BadArguments,
+            _ => End::BadWords,
         }),
     }
 }
@@ -100,12 +100,12 @@ fn end_of<F: NamedFiles, R: Read, W: Write, E: Sink>(
 {
     match options_of(alloc, arguments) {
         Ok(choice) => run_choice(&choice, files, input, output, errors),
-        Err(ArgumentsFault::Help(text)) => match help(text.as_str(), output) {
+        Err(WordsFault::Help(text)) => match help(text.as_str(), output) {
             Ok(()) => End::Helped,
             Err(_) => End::Ran(Err(RunFault::WriteOut)),
         },
-        Err(ArgumentsFault::Bad) => End::BadArguments,
-        Err(ArgumentsFault::Memory) => End::NoMemory,
+        Err(WordsFault::Bad) => End::BadWords,
+        Err(WordsFault::Memory) => End::NoMemory,
     }
 }
 

@@ -11,8 +11,8 @@ mod end;
 mod entry;
 mod file;
 
-pub use arguments::{ArgumentsFault, Choice, options_of};
+pub use arguments::{Choice, WordsFault, options_of};
 pub use command_line::VERSION;
 pub use end::End;
 pub use entry::{arguments_of, program};
-pub use file::{NamedFiles, OpenFault, StdFiles};
+pub use file::{NamedFiles, OpenFault, StdFiles, open_file};

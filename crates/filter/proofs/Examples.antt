@@ -26,7 +26,7 @@ use Rattle.qrmatrix.specs.Square.{value_at}
 use Rattle.filter.specs.OneReading.{IsAlone}
 use Rattle.picture.specs.Reading.{pbm_pixels, ascii_pixels, sample}
 use Rattle.labelcore.specs.declared.options.Format.TheVariants.{Pbm, Ascii}
-use Rattle.qrdata.specs.declared.level.Level.TheVariants.{M}
+use Rattle.labelcore.specs.declared.level.Level.TheVariants.{M}
 use Rattle.labelcore.specs.declared.options.Options.{Options}
 use Rattle.std.specs.Fmt.{digits}
 use Rattle.labelcore.specs.LineItem.{Request, drawn, head_read, refused, request, skipped, symbology_named}
@@ -121,7 +121,7 @@ told_of = (refl, refl, refl)
 
 -- what a line asks for that is drawn
 asked : Symbology → List ℕ → Request
-asked symbology bytes = record { symbology = symbology; options = settings.label; bytes = bytes }
+asked symbology bytes = record { symbology = symbology; options = settings; bytes = bytes }
 
 unlike_faults : UnknownSymbology ≡ NoData → ⊥
 unlike_faults same = cc

@@ -11,6 +11,7 @@ use Rattle.filter.proofs.Words.{All-weaker, outcome_of, LabelValues, events_afte
 use Rattle.std.specs.List.{AllByRecursion, flat_map, list_all}
 use Rattle.std.proofs.Math.Nat.{mul-pos}
 use Rattle.labelcore.proofs.LinesLaws.{AllOf-lines}
+use Rattle.labelcore.specs.Lines.{ended_text}
 use Rattle.labelcore.specs.declared.options.Format.{Format}
 use Rattle.labelcore.specs.declared.options.Format.TheVariants.{Pbm, Ascii}
 use Rattle.labelcore.specs.LineItem.{HasData}
@@ -22,6 +23,7 @@ use Rattle.picture.specs.ReadingLaws.{IsDrawable}
 use Rattle.picture.proofs.AsciiLaws.{ascii_files-flat_map, ascii_pixels-ascii_text}
 use Rattle.picture.proofs.CutLaws.{pbm_files-flat_map}
 use Rattle.picture.proofs.PbmLaws.{pbm_pixels-pbm_text}
+use Rattle.std.proofs.lemmas.List.{append-nil}
 use Rattle.picture.proofs.SampleLaws.{sample-raster, value_at-raster, common_row-bars}
 use Rattle.filter.proofs.DamageLaws.{IsGuarded-read, rows_read}
 use Rattle.filter.proofs.AloneLaws.{IsAlone-read, rows_alone}
@@ -38,7 +40,6 @@ use Rattle.linear.specs.Code128Reading.{read_code128}
 use Rattle.linear.specs.Digits.{full_digits}
 use Rattle.linear.specs.Ean.{ean13_row, ean8_row, upca_row}
 use Rattle.linear.specs.EanReading.{read_ean13, read_ean8, read_upca}
-use Rattle.linear.specs.declared.refusal.Refusal.{Refusal}
 use Rattle.linear.proofs.Code128Laws.{code128_read_back}
 use Rattle.linear.proofs.EanLaws.{ean13_read_back, ean8_read_back, upca_read_back}
 use Rattle.linear.proofs.RowLengthLaws.{code128_short, ean13_short, ean8_short, upca_short}
@@ -46,7 +47,7 @@ use Rattle.qrdata.specs.Codewords.{symbol_codewords}
 use Rattle.qrdata.specs.Fewest.{chosen_segments, chosen_version}
 use Rattle.qrdata.specs.Reading.{data_in}
 use Rattle.qrdata.specs.Versions.{side_of}
-use Rattle.qrdata.specs.declared.level.Level.{Level}
+use Rattle.labelcore.specs.declared.level.Level.{Level}
 use Rattle.qrdata.proofs.CodewordByteLaws.{AreBytes-symbol_codewords}
 use Rattle.qrdata.proofs.DataReadingLaws.{data_in-symbol_codewords, length-read}
 use Rattle.qrdata.proofs.FewestBitsLaws.{chosen_segments-is}
@@ -131,7 +132,7 @@ module _ (run : RunValues) (label : LabelValues) (range : AreInRange run label) 
   -- bars of a row that is read and short
   linear_readable : (symbology : Symbology) (row : List ℕ → List Bool) (reading : List Bool → Option (List ℕ))
       → ((rows : List (List Bool)) → read_modules symbology rows ≡ option_and_then reading (common_row rows))
-      → reading [] ≡ None → (found : Result (List ℕ) Refusal) → IfOk found (λ full. reading (row full) ≡ Some full)
+      → reading [] ≡ None → (found : Result (List ℕ) Fault) → IfOk found (λ full. reading (row full) ≡ Some full)
       → IfOk found (λ full. length (row full) ≤ 1795)
       → HasReadable (outcome_of (linear_symbol symbology row label found))
   linear_readable symbology row reading rule none (Err refusal) read short = tt
@@ -197,7 +198,7 @@ item_readable run skipped h has = tt
 item_readable run (refused fault) h has = tt
 item_readable run (drawn asked) h has =
     let some : asked.bytes ≢ [] = λ none. omega (arith, ap length none, has.0) in
-    symbol_readable run asked.options h.0 asked.symbology asked.bytes some h.1
+    symbol_readable run asked.options.label h.0 asked.symbology asked.bytes some h.1
 
 -- the modules of what is drawn of a line of bytes are read
 outcome_readable : (options : Options) → AreInRange options.run options.label → (line : List ℕ) → AreBytes line
@@ -277,10 +278,18 @@ module _ (run : RunValues) (label : LabelValues) (range : AreInRange run label) 
   -- a stream of images, and a beginning of more
   stream_cut : (format : Format) (pictures more : List Picture) (begun rest : List ℕ) → All IsDrawable pictures
       → flat_map (text_of format) more ≡ begun ++ rest
-      → cut format (flat_map (text_of format) pictures ++ begun) ≡ map (text_of format) pictures ++ cut format begun
-  stream_cut Pbm pictures more begun rest all e = pbm_files-flat_map pictures more begun rest all e
-  stream_cut Ascii pictures more begun rest all e = ascii_files-flat_map pictures more begun rest
+      → cut format (ended_text (flat_map (text_of format) pictures ++ begun))
+      ≡ map (text_of format) pictures ++ cut format (ended_text begun)
+  stream_cut Pbm pictures more begun rest all e = pbm_files-flat_map.begins pictures more begun rest all e
+  stream_cut Ascii pictures more begun rest all e = ascii_files-flat_map.begins pictures more begun rest
       (All-weaker IsDrawable (λ p. 0 < p.width) (λ p h. h.some) pictures all) e
+
+  -- a stream of images, and no more
+  whole_cut : (format : Format) (pictures : List Picture) → All IsDrawable pictures
+      → cut format (flat_map (text_of format) pictures) ≡ map (text_of format) pictures
+  whole_cut Pbm pictures all = pbm_files-flat_map.whole pictures all
+  whole_cut Ascii pictures all = ascii_files-flat_map.whole pictures
+      (All-weaker IsDrawable (λ p. 0 < p.width) (λ p h. h.some) pictures all)
 
   all_read : (symbols : List Symbol) → AllByRecursion IsReadable symbols
       → AreRead run.format run.scale (map (text_of run.format) (map (picture_of run) symbols)) symbols
@@ -315,6 +324,10 @@ module _ (run : RunValues) (label : LabelValues) (range : AreInRange run label) 
         images = map (text_of run.format) (map (picture_of run) symbols);
         parts = rw found.1 (stream_cut run.format (map (picture_of run) symbols)
             (map (picture_of run) (drawn_symbols later)) begun rest drawables (sym more.1 ∙ e));
+        whole = λ none.
+            ap (cut run.format) (ap (λ (bytes : List ℕ). sent run Images events ++ bytes) none
+            ∙ append-nil (sent run Images events) ∙ found.1)
+            ∙ whole_cut run.format (map (picture_of run) symbols) drawables;
         read = all_read symbols found.0;
       }
 

@@ -1,19 +1,16 @@
 -- What a run produces, by what its images are read as.
 use Rattle.filter.proofs.Words.{◌≡◌, ◌∙◌, ℕ, ◌+◌, ◌++◌, ◌||◌, Bool, List, [], ◌∷◌, Option, Some, None}
 use Rattle.filter.proofs.Words.{Ok, Err, Result, refl, sym, ap, subst, inl, inr, append-nil, skipped, refused, drawn}
-use Rattle.filter.proofs.Words.{Outcome, Request, Fault, LabelValues, RunValues, Options, Status, Symbol}
+use Rattle.filter.proofs.Words.{Outcome, Request, Fault, RunValues, Options, Status, Symbol}
 use Rattle.filter.proofs.Words.{Ean13, Ean8, UpcA, Code128, Qr, Images, Messages, Channel, Event, flushes, of_line}
 use Rattle.filter.proofs.Words.{drawn_symbols, events_after, outcome, outcome_of_item, outcome_of, script, sent, symbol_of}
 use Rattle.filter.proofs.Words.{Clean, Refused, qr_modules, linear_symbol, ok_or, status_of, is_refusal, if◌then◌else◌}
 use Rattle.std.specs.List.{AllZip, filter_map, list_any}
-use Rattle.std.specs.Result.{result_map_both}
-use Rattle.labelcore.specs.Faults.{fault_of}
 use Rattle.labelcore.specs.LineItem.{item}
 use Rattle.labelcore.specs.Settings.{◌>>=◌}
 use Rattle.labelcore.specs.Lines.{lines}
 use Rattle.labelcore.specs.declared.fault.Fault.TheVariants.{DoesNotFit}
 use Rattle.labelcore.specs.declared.symbology.Symbology.{Symbology}
-use Rattle.linear.specs.declared.refusal.Refusal.{Refusal}
 use Rattle.linear.specs.Code128.{code128_row, full_code128}
 use Rattle.linear.specs.Digits.{full_digits}
 use Rattle.linear.specs.Ean.{ean13_row, ean8_row, upca_row}
@@ -21,8 +18,6 @@ use Rattle.qrdata.specs.Fewest.{chosen_version}
 use Rattle.qrdata.proofs.ReadFitLaws.{unread-none_fits}
 use Rattle.qrdata.proofs.VersionSearchLaws.{NoneFits-chosen_none}
 use Rattle.filter.specs.Output.{line_number, message_of}
-use Rattle.labelcore.specs.declared.options.Format.{Format}
-use Rattle.labelcore.specs.declared.options.Format.TheVariants.{Ascii, Pbm}
 use Rattle.filter.specs.Readback.{AreRead}
 use Rattle.filter.specs.Reading.{cut}
 use Rattle.filter.specs.Run.{Produces}
@@ -30,39 +25,39 @@ use Rattle.filter.specs.Shown.{HasFault, IsShown, Shown, Shows, full_data, image
 use Rattle.filter.specs.Shown.{told}
 
 -- what is drawn of a request, or why it is not
-abbrev IsOf : LabelValues → Symbology → List ℕ → Result Symbol Fault → Type 0
-IsOf label symbology bytes (Ok symbol) =
+abbrev IsOf : Options → Symbology → List ℕ → Result Symbol Fault → Type 0
+IsOf options symbology bytes (Ok symbol) =
     (symbol.symbology ≡ symbology) × (full_data symbology bytes ≡ Ok symbol.full)
-IsOf label symbology bytes (Err fault) =
-    HasFault (record { symbology = symbology; options = label; bytes = bytes }) fault
+IsOf options symbology bytes (Err fault) =
+    HasFault (record { symbology = symbology; options = options; bytes = bytes }) fault
 
-linear_is : (label : LabelValues) (symbology : Symbology) (bytes : List ℕ) (row : List ℕ → List Bool)
-    (found : Result (List ℕ) Refusal) → full_data symbology bytes ≡ result_map_both (λ full. full) fault_of found
-    → IsOf label symbology bytes (linear_symbol symbology row label found)
-linear_is label symbology bytes row (Ok full) e = (refl, e)
-linear_is label symbology bytes row (Err refusal) e = inl e
+linear_is : (options : Options) (symbology : Symbology) (bytes : List ℕ) (row : List ℕ → List Bool)
+    (found : Result (List ℕ) Fault) → full_data symbology bytes ≡ found
+    → IsOf options symbology bytes (linear_symbol symbology row options.label found)
+linear_is options symbology bytes row (Ok full) e = (refl, e)
+linear_is options symbology bytes row (Err refusal) e = inl e
 
-symbol_is : (label : LabelValues) (symbology : Symbology) (bytes : List ℕ)
-    → IsOf label symbology bytes (symbol_of label symbology bytes)
+symbol_is : (options : Options) (symbology : Symbology) (bytes : List ℕ)
+    → IsOf options symbology bytes (symbol_of options.label symbology bytes)
 unfolding symbol_of
-symbol_is label Ean13 bytes = linear_is label Ean13 bytes ean13_row (full_digits 12 bytes) refl
-symbol_is label Ean8 bytes = linear_is label Ean8 bytes ean8_row (full_digits 7 bytes) refl
-symbol_is label UpcA bytes = linear_is label UpcA bytes upca_row (full_digits 11 bytes) refl
-symbol_is label Code128 bytes = linear_is label Code128 bytes code128_row (full_code128 bytes) refl
-symbol_is label Qr bytes = at (chosen_version label.min_version label.level bytes) refl
+symbol_is options Ean13 bytes = linear_is options Ean13 bytes ean13_row (full_digits 12 bytes) refl
+symbol_is options Ean8 bytes = linear_is options Ean8 bytes ean8_row (full_digits 7 bytes) refl
+symbol_is options UpcA bytes = linear_is options UpcA bytes upca_row (full_digits 11 bytes) refl
+symbol_is options Code128 bytes = linear_is options Code128 bytes code128_row (full_code128 bytes) refl
+symbol_is options Qr bytes = at (chosen_version options.label.min_version options.label.level bytes) refl
   where
-    at : (found : Option ℕ) → chosen_version label.min_version label.level bytes ≡ found
-        → IsOf label Qr bytes (ok_or found (DoesNotFit label.level) >>= (λ version. Ok (record {
+    at : (found : Option ℕ) → chosen_version options.label.min_version options.label.level bytes ≡ found
+        → IsOf options Qr bytes (ok_or found (DoesNotFit options.label.level) >>= (λ version. Ok (record {
           symbology = Qr;
           full = bytes;
-          modules = qr_modules label bytes version;
+          modules = qr_modules options.label bytes version;
         })))
     at None e = inr (
       refl,
       refl,
       λ version codewords from to.
-          unread-none_fits version label.level bytes
-          (NoneFits-chosen_none label.min_version label.level bytes e version from to) codewords,
+          unread-none_fits version options.label.level bytes
+          (NoneFits-chosen_none options.label.min_version options.label.level bytes e version from to) codewords,
     )
     at (Some version) e = (refl, refl)
 
@@ -79,7 +74,7 @@ module _ (run : RunValues) where
     told_is : is_refusal (of_line (line_number before) (outcome_of_item asked)) ≡ is_told shown
 
   next_drawn : (asked : Request) (before : ℕ) (later : List Event) (images : List (List ℕ)) (found : Result Symbol Fault)
-      → symbol_of asked.options asked.symbology asked.bytes ≡ found
+      → symbol_of asked.options.label asked.symbology asked.bytes ≡ found
       → AreRead run.format run.scale images (drawn_symbols (of_line (line_number before) (outcome_of found) ∷ later))
       → IsNext (drawn asked) before later images
   unfolding drawn_symbols AreRead
@@ -134,7 +129,7 @@ module _ (run : RunValues) where
     told_is = refl;
   }
   next (drawn asked) before later images read =
-      next_drawn asked before later images (symbol_of asked.options asked.symbology asked.bytes) refl read
+      next_drawn asked before later images (symbol_of asked.options.label asked.symbology asked.bytes) refl read
 
 module _ (options : Options) where
   -- what is sent of all lines
@@ -170,11 +165,6 @@ module _ (options : Options) where
         told_is = (λ i. here.told_is i || there.told_is i);
       }
 
-cut_nil : (format : Format) → cut format [] ≡ []
-unfolding lines
-cut_nil Pbm = refl
-cut_nil Ascii = refl
-
 pub Shows-from : (options : Options) (gave : List ℕ → Type 0) (took : Channel → List ℕ → Type 0) (status : Status)
     → Produces options gave took (Ok status) → Shows options gave took status
 unfolding status_of
@@ -189,8 +179,7 @@ Shows-from options gave took status p =
       shown = are.all;
       each = are.each;
       stream = stream;
-      images = ap (cut options.run.format) (sym (append-nil stream)) ∙ h.parts
-          ∙ ap (λ l. h.images ++ l) (cut_nil options.run.format) ∙ append-nil h.images ∙ are.images_are;
+      images = ap (cut options.run.format) (sym (append-nil stream)) ∙ h.whole refl ∙ are.images_are;
       took_images = p.sends Images;
       took_messages = subst (took Messages) are.messages_are (p.sends Messages);
       status_is = p.status ∙ ap (λ b. if b then Refused else Clean) are.told_is;

@@ -20,7 +20,7 @@ use Rattle.filter.specs.declared.status.Status.TheVariants.{Clean, Refused}
 abbrev pub outcome_of_item : Outcome Request → Outcome Symbol
 outcome_of_item skipped = skipped
 outcome_of_item (refused fault) = refused fault
-outcome_of_item (drawn asked) = outcome_of (symbol_of asked.options asked.symbology asked.bytes)
+outcome_of_item (drawn asked) = outcome_of (symbol_of asked.options.label asked.symbology asked.bytes)
 
 -- what is drawn of a line
 unfoldable pub outcome : Options → List ℕ → Outcome Symbol

@@ -3,7 +3,6 @@ use Rattle.std.specs.Prelude.{◌≡◌, List, Result, Ok, Err, Some, ℕ}
 use Rattle.labelcore.specs.declared.fault.Fault.{Fault}
 use Rattle.labelcore.specs.declared.symbology.Symbology.{Symbology}
 use Rattle.labelcore.specs.OptionValues.{LabelValues, RunValues}
-use Rattle.linear.specs.declared.linear.Sides.{Sides}
 use Rattle.picture.specs.Picture.{Picture, enlargement, with_quiet_zone}
 use Rattle.picture.specs.declared.quiet_zone.QuietZone.{QuietZone}
 use Rattle.qrdata.specs.Codewords.{symbol_codewords}
@@ -24,10 +23,6 @@ worst Refused other = Refused
 -- the text of modules in a quiet zone, as the options of the run say
 abbrev pub image_in : QuietZone → RunValues → Picture → List ℕ
 image_in zone run modules = text_of run.format (enlargement (with_quiet_zone modules zone) run.scale)
-
--- the quiet zone beside a row
-abbrev pub beside : Sides → QuietZone
-beside sides = record { left = sides.left; right = sides.right; top = 0; bottom = 0 }
 
 -- a symbol is drawn: one of this symbology, with these modules
 abbrev pub HasModules : Result Drawn Fault → Symbology → Picture → Type 0

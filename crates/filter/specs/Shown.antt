@@ -3,8 +3,6 @@
 use Rattle.std.specs.Prelude.{◌≡◌, ◌≢◌, ◌≤◌, ◌⊎◌, ℕ, ◌+◌, Bool, true, false, if◌then◌else◌, List, [], ◌∷◌, ◌++◌, Result, Ok, Err}
 use Rattle.std.specs.Prelude.{Option, Some, None, ⊤}
 use Rattle.std.specs.List.{AllZip, filter_map, list_any}
-use Rattle.std.specs.Result.{result_map_both}
-use Rattle.labelcore.specs.Faults.{fault_of}
 use Rattle.labelcore.specs.LineItem.{Outcome, Request, skipped, refused, drawn, item}
 use Rattle.labelcore.specs.Lines.{lines}
 use Rattle.labelcore.specs.Message.{message}
@@ -32,19 +30,19 @@ pub data Shown : Type 0 where
 
 -- the full data of a symbology, or why there is none
 abbrev pub full_data : Symbology → List ℕ → Result (List ℕ) Fault
-full_data Ean13 bytes = result_map_both (λ full. full) fault_of (full_digits 12 bytes)
-full_data Ean8 bytes = result_map_both (λ full. full) fault_of (full_digits 7 bytes)
-full_data UpcA bytes = result_map_both (λ full. full) fault_of (full_digits 11 bytes)
-full_data Code128 bytes = result_map_both (λ full. full) fault_of (full_code128 bytes)
+full_data Ean13 bytes = full_digits 12 bytes
+full_data Ean8 bytes = full_digits 7 bytes
+full_data UpcA bytes = full_digits 11 bytes
+full_data Code128 bytes = full_code128 bytes
 full_data Qr bytes = Ok bytes
 
 -- the data has no full data, or is for a QR symbol, and no symbol from the least version to version 10 is read as it
 abbrev pub HasFault : Request → Fault → Type 0
 HasFault asked fault =
     (full_data asked.symbology asked.bytes ≡ Err fault)
-    ⊎ ((asked.symbology ≡ Qr) × (fault ≡ DoesNotFit asked.options.level)
-    × ((version : ℕ) (codewords : List ℕ) → asked.options.min_version ≤ version → version ≤ 10
-    → data_in version asked.options.level codewords ≢ Some asked.bytes))
+    ⊎ ((asked.symbology ≡ Qr) × (fault ≡ DoesNotFit asked.options.label.level)
+    × ((version : ℕ) (codewords : List ℕ) → asked.options.label.min_version ≤ version → version ≤ 10
+    → data_in version asked.options.label.level codewords ≢ Some asked.bytes))
 
 -- what is sent of what a line asks for: nothing of an empty line or a comment, the message of its fault, or an image
 -- that is read as its full data

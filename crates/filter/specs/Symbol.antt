@@ -5,10 +5,8 @@ use Rattle.labelcore.specs.declared.symbology.Symbology.{Symbology}
 use Rattle.labelcore.specs.declared.symbology.Symbology.TheVariants.{Ean13, Ean8, UpcA, Code128, Qr}
 use Rattle.labelcore.specs.declared.fault.Fault.{Fault}
 use Rattle.labelcore.specs.declared.fault.Fault.TheVariants.{DoesNotFit}
-use Rattle.labelcore.specs.Faults.{fault_of}
 use Rattle.labelcore.specs.OptionValues.{LabelValues}
 use Rattle.labelcore.specs.Settings.{◌>>=◌}
-use Rattle.linear.specs.declared.refusal.Refusal.{Refusal}
 use Rattle.linear.specs.Digits.{full_digits}
 use Rattle.linear.specs.Ean.{ean13_row, ean8_row, upca_row}
 use Rattle.linear.specs.Code128.{full_code128, code128_row}
@@ -35,11 +33,11 @@ quiet_zone Code128 = record { left = 10; right = 10; top = 0; bottom = 0 }
 quiet_zone Qr = record { left = 4; right = 4; top = 4; bottom = 4 }
 
 -- the row of full data as bars, as high as the label's options say
-abbrev pub linear_symbol : Symbology → (List ℕ → List Bool) → LabelValues → Result (List ℕ) Refusal
+abbrev pub linear_symbol : Symbology → (List ℕ → List Bool) → LabelValues → Result (List ℕ) Fault
     → Result Symbol Fault
 linear_symbol symbology row label found =
     result_map_both (λ full. record { symbology = symbology; full = full; modules = bars (row full) label.height })
-    fault_of found
+    (λ fault. fault) found
 
 -- the modules of the data in a version, under the mask of the label, or else the first with the lowest penalty
 unfoldable pub qr_modules : LabelValues → List ℕ → ℕ → Picture

@@ -33,10 +33,10 @@ pub fn finish_line<O: Sink, E: Sink>(
 {
     let mut scratch = Scratch::new();
     match parse(options, line, &mut scratch) {
-        Item::Skipped => Ok(Status::Clean),
-        Item::Refused(fault) => refuse(number, &fault, out, err),
-        Item::Drawn(symbology, label, bytes) => {
-            match draw(&options.run, &label, symbology, bytes, out) {
+        Item::Skip => Ok(Status::Clean),
+        Item::Refuse(fault) => refuse(number, &fault, out, err),
+        Item::Draw(symbology, own, bytes) => {
+            match draw(&options.run, &own.label, symbology, bytes, out) {
                 Ok(Ok(())) => Ok(Status::Clean),
                 Ok(Err(fault)) => refuse(number, &fault, out, err),
                 Err(_) => Err(RunFault::WriteOut),

@@ -5,18 +5,18 @@ ghost use Rattle.labelcore.specs.LineItem.{drawn, outcome_of};
 ghost use Rattle.labelcore.specs.OptionValues.{LabelValues};
 ghost use Rattle.labelcore.specs.declared.symbology.Symbology.{Symbology as Symbologies};
 ghost use Rattle.labelcore.specs.declared.symbology.Symbology.TheVariants.{Qr};
-ghost use Rattle.picture.specs.Picture.{bars, symbol_picture};
+ghost use Rattle.picture.specs.Picture.{bars, symbol_picture, zone_with};
 ghost use Rattle.filter.specs.Filter.{DrawsOutcome};
 ghost use Rattle.filter.specs.Output.{image_of, text_of};
 ghost use Rattle.filter.specs.Readback.{IsRead};
-ghost use Rattle.filter.specs.Private.{HasModules, IsMatrixOf, beside, image_in};
+ghost use Rattle.filter.specs.Private.{HasModules, IsMatrixOf, image_in};
 ghost use Rattle.filter.specs.Symbol.{linear_symbol, quiet_zone, symbol_of};
 
 use device::{IoFault, Sink};
 use labelcore::{Fault, Format, LabelOptions, Options, RunOptions, Symbology};
-use linear::{Code128, Ean8, Ean13, Linear, Row, Sides, UpcA};
+use linear::{Code128, Ean8, Ean13, Linear, Row, UpcA};
 use picture::{Bars, Framed, Grid, QuietZone, Scaled, write_ascii, write_pbm};
-use qrdata::{Codewords, choose, codewords};
+use qrdata::{Words, choose, codewords};
 use qrmatrix::{Matrix, QUIET_ZONE};
 
 /// Draws one symbol: writes the image of `bytes` in a symbology, under the options of a run and of a label, and flushes
@@ -82,7 +82,11 @@ fn draw_square<O: Sink>(
     ensures { DrawsOutcome O.Sink out.old out.new run.now
         (outcome_of (symbol_of label.now Qr bytes.now)) result }
 {
-    match matrix_of(label, bytes) {
+    let options = Options {
+        run: *run,
+        label: *label,
+    };
+    match matrix_of(&options, bytes) {
         Ok(matrix) => {
             write_picture(run, matrix, zone_of(Symbology::Qr), out)?;
             Ok(Ok(()))
@@ -95,7 +99,7 @@ fn draw_square<O: Sink>(
 ///
 /// # Errors
 ///
-/// The fault where the data is refused.
+/// The fault where the data is refused. The row is empty then.
 pub fn row_of(symbology: Symbology, bytes: &[u8], row: &mut Row) -> Result<(), Fault>
     requires some { bytes.now ≢ [] }
     requires linear { symbology ≢ Qr }
@@ -103,6 +107,7 @@ pub fn row_of(symbology: Symbology, bytes: &[u8], row: &mut Row) -> Result<(), F
         HasModules (symbol_of label symbology bytes.now) symbology (bars row.new.items label.height)) }
     ensures refused { (label : LabelValues) → IfErr result (λ fault.
         symbol_of label symbology bytes.now ≡ Err fault) }
+    ensures empty { IfErr result (λ _. row.new.items ≡ []) }
 {
     match symbology {
         Symbology::Ean13 => linear_row::<Ean13>(bytes, row),
@@ -121,11 +126,9 @@ fn linear_row<L: Linear>(bytes: &[u8], row: &mut Row) -> Result<(), Fault>
         (bars row.new.items label.height)) }
     ensures refused { (symbology : Symbologies) (label : LabelValues) → IfErr result (λ fault.
         linear_symbol symbology L.row_of label (L.full_data bytes.now) ≡ Err fault) }
+    ensures empty { IfErr result (λ _. row.new.items ≡ []) }
 {
-    match L::encode(bytes, row) {
-        Ok(()) => Ok(()),
-        Err(refusal) => Err(Fault::from(refusal)),
-    }
+    L::encode(bytes, row)
 }
 
 /// Returns the QR symbol of `bytes`.
@@ -134,17 +137,17 @@ fn linear_row<L: Linear>(bytes: &[u8], row: &mut Row) -> Result<(), Fault>
 ///
 /// The fault where the data is refused.
 #[tactic(auto, unfolding(crate::specs::Symbol::symbol_of, crate::specs::Symbol::qr_modules))]
-pub fn matrix_of(label: &LabelOptions, bytes: &[u8]) -> Result<Matrix, Fault>
-    ensures symbol { IfOk result (λ matrix. symbol_of label.now Qr bytes.now
+pub fn matrix_of(options: &Options, bytes: &[u8]) -> Result<Matrix, Fault>
+    ensures symbol { IfOk result (λ matrix. symbol_of options.now.label Qr bytes.now
         ≡ Ok (record { symbology = Qr; full = bytes.now; modules = symbol_picture matrix })) }
-    ensures refused { IfErr result (λ fault. symbol_of label.now Qr bytes.now ≡ Err fault) }
+    ensures refused { IfErr result (λ fault. symbol_of options.now.label Qr bytes.now ≡ Err fault) }
     ensures side { IfOk result (λ matrix. matrix.side ≤ 57) }
-    ensures numbers { IfOk result (λ matrix. IsMatrixOf label.now bytes.now matrix) }
+    ensures numbers { IfOk result (λ matrix. IsMatrixOf options.now.label bytes.now matrix) }
 {
-    let plan = choose(label.min_version(), label.level(), bytes)?;
-    let mut written = Codewords::new();
-    codewords(&plan, &mut written);
-    Ok(Matrix::draw(plan.version(), plan.level(), label.mask(), &written))
+    let plan = choose(options, bytes)?;
+    let mut written = Words::new();
+    codewords(&plan, bytes, &mut written);
+    Ok(Matrix::draw(plan.version(), plan.level(), options.mask(), &written))
 }
 
 /// Returns the quiet zone of a symbology.
@@ -154,10 +157,10 @@ pub fn zone_of(symbology: Symbology) -> QuietZone
     ensures low { symbology ≢ Qr → result.top + result.bottom ≡ 0 }
 {
     match symbology {
-        Symbology::Ean13 => zone_beside(Ean13::QUIET_ZONE),
-        Symbology::Ean8 => zone_beside(Ean8::QUIET_ZONE),
-        Symbology::UpcA => zone_beside(UpcA::QUIET_ZONE),
-        Symbology::Code128 => zone_beside(Code128::QUIET_ZONE),
+        Symbology::Ean13 => zone_beside(Ean13::QUIET_LEFT, Ean13::QUIET_RIGHT),
+        Symbology::Ean8 => zone_beside(Ean8::QUIET_LEFT, Ean8::QUIET_RIGHT),
+        Symbology::UpcA => zone_beside(UpcA::QUIET_LEFT, UpcA::QUIET_RIGHT),
+        Symbology::Code128 => zone_beside(Code128::QUIET_LEFT, Code128::QUIET_RIGHT),
         Symbology::Qr => QuietZone {
             left: QUIET_ZONE,
             right: QUIET_ZONE,
@@ -168,12 +171,12 @@ pub fn zone_of(symbology: Symbology) -> QuietZone
 }
 
 /// Returns the quiet zone beside a row, with nothing above and below it.
-fn zone_beside(sides: Sides) -> QuietZone
-    ensures { result ≡ beside sides }
+fn zone_beside(left: usize, right: usize) -> QuietZone
+    ensures { result ≡ zone_with left right 0 0 }
 {
     QuietZone {
-        left: sides.left,
-        right: sides.right,
+        left,
+        right,
         top: 0,
         bottom: 0,
     }
@@ -190,7 +193,10 @@ fn write_picture<G: Grid + Drop, O: Sink>(
     requires height { zone.top + (G.picture grid).height + zone.bottom ≤ 500 }
     ensures { WritesText O.Sink out.old out.new (image_in zone run.now (G.picture grid)) result }
 {
-    let picture = Scaled::new(Framed::new(grid, zone), usize::from(run.scale()));
+    let picture = Scaled::new(
+        Framed::new(grid, zone.left, zone.right, zone.top, zone.bottom),
+        usize::from(run.scale()),
+    );
     write_text(run.format(), &picture, out)
 }
 

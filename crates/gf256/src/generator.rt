@@ -63,7 +63,7 @@ impl Generator {
     /// Writes the error correction codewords of a block into `out`, which has room for exactly these. They are the
     /// remainder of the block times x^k by the generator polynomial, the highest coefficient first. The old content of
     /// `out` is dropped.
-    pub fn ec_codewords(&self, block: &[u8], out: &mut [u8])
+    pub fn parity(&self, block: &[u8], out: &mut [u8])
         requires { length out.old ≡ self.now }
         ensures { AreEcCodewords self.now block.now out.new }
     {

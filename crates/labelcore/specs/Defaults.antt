@@ -2,7 +2,7 @@
 use Rattle.std.specs.Prelude.{None, false}
 use Rattle.labelcore.specs.declared.options.Options.{Options}
 use Rattle.labelcore.specs.declared.options.Format.TheVariants.{Pbm}
-use Rattle.qrdata.specs.declared.level.Level.TheVariants.{M}
+use Rattle.labelcore.specs.declared.level.Level.TheVariants.{M}
 
 -- plain PBM, one pixel a module, 50 modules high, level M, any version, the mask with the lowest penalty, no escapes
 abbrev pub default_options : Options

@@ -4,8 +4,8 @@ use Rattle.std.specs.Prelude.{ℕ, Bool, ◌==◌, List, [], ◌∷◌, Option, 
 use Prim.Native.String.{String}
 use Rattle.std.specs.List.{find}
 use Rattle.std.specs.Str.{byte, bytes_eq}
-use Rattle.qrdata.specs.declared.level.Level.{Level}
-use Rattle.qrdata.specs.declared.level.Level.TheVariants.{L, M, Q, H}
+use Rattle.labelcore.specs.declared.level.Level.{Level}
+use Rattle.labelcore.specs.declared.level.Level.TheVariants.{L, M, Q, H}
 
 -- whether a byte is this character
 abbrev pub is : String → ℕ → Bool

@@ -3,7 +3,7 @@ ghost use Rattle.std.specs.Prelude.{◌≡◌};
 ghost use Rattle.std.specs.Str.{bytes_eq};
 ghost use Rattle.labelcore.specs.Names.{level_named};
 
-use qrdata::Level;
+use crate::level::Level;
 
 /// Returns the level of this letter, `L`, `M`, `Q` or `H`, or `None` for any other text.
 #[tactic(auto, unfolding(crate::specs::Names::level_named))]

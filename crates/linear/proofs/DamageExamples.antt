@@ -4,7 +4,7 @@
 use Rattle.std.proofs.Common.{ap, arith, false, inl, inr, length, replicate}
 use Rattle.std.specs.Prelude.{◌≡◌, refl, Ok, Err, Some, true, Bool, List, [], ◌∷◌, ◌++◌, ℕ, codes, flat_map, reverse}
 use Rattle.std.specs.List.{range_with_len}
-use Rattle.linear.specs.declared.refusal.Refusal.TheVariants.{WrongCheckDigit}
+use Rattle.labelcore.specs.declared.fault.Fault.TheVariants.{WrongCheckDigit}
 use Rattle.linear.specs.Digits.{full_digits}
 use Rattle.linear.specs.Modules.{modules, turned_modules}
 use Rattle.linear.specs.Tables.{number_set_a, left_half_sets, character_widths}

@@ -1,7 +1,7 @@
 -- What `encode` ensures of a row, from the laws of its reading.
 use Rattle.std.proofs.Common.{◌≡◌, ℕ, ◌++◌, Bool, List, [], Ok, Option, Some, Result, ap, ◌∙◌, arith}
 use Rattle.std.specs.Prelude.{IfOk}
-use Rattle.linear.specs.declared.refusal.Refusal.{Refusal}
+use Rattle.labelcore.specs.declared.fault.Fault.{Fault}
 use Rattle.linear.specs.Drawing.{IsDrawn}
 use Rattle.linear.specs.Private.Lists.{Appends}
 use Rattle.linear.specs.Scanning.{HasNoGap}
@@ -11,7 +11,7 @@ use Rattle.linear.proofs.OneReadingLaws.{has_one_reading}
 
 -- a row that was empty, and to which that of the full data is appended
 -- each `encode`, of four symbologies, has its own answer, row and reading, and a fact by each of its calls
-pub IsDrawn-from_Ok : {R : Type 0} (answer : Result (List ℕ) Refusal) (row_of : List ℕ → List Bool)
+pub IsDrawn-from_Ok : {R : Type 0} (answer : Result (List ℕ) Fault) (row_of : List ℕ → List Bool)
     (reading : List Bool → Option (List ℕ)) (limit : ℕ) → AreFarApart limit reading
     → ((row : List Bool) (full : List ℕ) → reading row ≡ Some full → HasNoGap row) → (full : List ℕ)
     {old row : List Bool} {n : ℕ} → answer ≡ Ok full → old ≡ [] → Appends old row (row_of full) n

@@ -3,15 +3,15 @@
 use Rattle.std.specs.Prelude.{ℕ, ◌+◌, ◌*◌, ◌%◌, nat_lt, nat_le, if◌then◌else◌, Bool, true, not, Result, Ok, Err, List}
 use Rattle.std.specs.Prelude.{[], ◌∷◌, ◌++◌, length, map, replicate, position, flat_map, slice_index_or, sum_by}
 use Rattle.std.specs.List.{enumerate_from}
-use Rattle.linear.specs.declared.refusal.Refusal.{Refusal}
-use Rattle.linear.specs.declared.refusal.Refusal.TheVariants.{DataTooLong, NotAscii}
+use Rattle.labelcore.specs.declared.fault.Fault.{Fault}
+use Rattle.labelcore.specs.declared.fault.Fault.TheVariants.{DataTooLong, NotAscii}
 use Rattle.linear.specs.declared.switching.CodeSet.{CodeSet}
 use Rattle.linear.specs.Digits.{digit_value, unless_found}
 use Rattle.linear.specs.Tables.{character_widths}
 use Rattle.linear.specs.CodeSets.{start_value, start_set, data_values}
 
 -- the full data of a symbol: the data itself, at most 80 bytes, each of them ASCII
-abbrev pub full_code128 : List ℕ → Result (List ℕ) Refusal
+abbrev pub full_code128 : List ℕ → Result (List ℕ) Fault
 full_code128 bytes =
     if nat_lt 80 (length bytes) then Err DataTooLong
     else unless_found NotAscii (position (λ byte. nat_le 128 byte) bytes) (Ok bytes)

@@ -8,11 +8,11 @@ ghost use Rattle.linear.specs.Private.Data.{IsCode128Data};
 ghost use Rattle.linear.specs.Private.Lists.{Appends};
 
 use crate::limits::MAX_BYTES;
-use crate::linear::{Linear, Sides};
-use crate::refusal::Refusal;
+use crate::linear::Linear;
 use crate::row::{Row, push_modules};
 use crate::switching::{data_values, start_set, start_value};
 use crate::tables::{CHARACTERS, STOP};
+use labelcore::Fault;
 
 /// Returns the check value of a start value and the values after it, from 0 to 102.
 pub fn check_value(start: u8, values: &[u8]) -> u8
@@ -87,16 +87,16 @@ fn push_code128(row: &mut Row, data: &[u8])
 ///
 /// `DataTooLong`, or else `NotAscii` with the place of the first byte from 128 on.
 #[tactic(auto, using(crate::proofs::Code128Laws::all_ascii_from_None))]
-fn check_data(data: &[u8]) -> Result<(), Refusal>
+fn check_data(data: &[u8]) -> Result<(), Fault>
     ensures answer { MatchResult result (λ _. full_code128 «data».now ≡ Ok «data».now)
         (λ refusal. full_code128 «data».now ≡ Err refusal) }
     ensures valid { OnOk result (IsCode128Data «data».now) }
 {
     if data.len() > MAX_BYTES {
-        return Err(Refusal::DataTooLong);
+        return Err(Fault::DataTooLong);
     }
     if let Some(index) = first_not_ascii(data) {
-        return Err(Refusal::NotAscii(index + 1));
+        return Err(Fault::NotAscii(index + 1));
     }
     Ok(())
 }
@@ -125,14 +125,15 @@ impl Linear for Code128 {
 
     ghost turned_limit = { 1 };
 
-    ghost QUIET_ZONE = { record { left = 10; right = 10 } };
+    ghost QUIET_LEFT = { 10 };
 
-    const QUIET_ZONE: Sides = Sides {
-        left: 10,
-        right: 10,
-    };
+    ghost QUIET_RIGHT = { 10 };
 
-    fn encode(data: &[u8], row: &mut Row) -> Result<(), Refusal> {
+    const QUIET_LEFT: usize = 10;
+
+    const QUIET_RIGHT: usize = 10;
+
+    fn encode(data: &[u8], row: &mut Row) -> Result<(), Fault> {
         row.clear();
         check_data(data)?;
         push_code128(row, data);

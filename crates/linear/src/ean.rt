@@ -9,10 +9,10 @@ ghost use Rattle.linear.specs.Private.Data.{AreDigits, IsHalf};
 ghost use Rattle.linear.specs.Private.Lists.{Appends};
 
 use crate::digits::full_digits;
-use crate::linear::{Linear, Sides};
-use crate::refusal::Refusal;
+use crate::linear::Linear;
 use crate::row::{Row, push_modules};
 use crate::tables::{CENTRE_GUARD, LEFT_SETS, NORMAL_GUARD, SET_A, SET_B, SET_C};
+use labelcore::Fault;
 
 /// A number set: each digit has a pattern of seven modules in each of the three.
 #[derive(Clone, Copy)]
@@ -114,11 +114,15 @@ impl Linear for Ean8 {
 
     ghost turned_limit = { 3 };
 
-    ghost QUIET_ZONE = { record { left = 7; right = 7 } };
+    ghost QUIET_LEFT = { 7 };
 
-    const QUIET_ZONE: Sides = Sides { left: 7, right: 7 };
+    ghost QUIET_RIGHT = { 7 };
 
-    fn encode(data: &[u8], row: &mut Row) -> Result<(), Refusal> {
+    const QUIET_LEFT: usize = 7;
+
+    const QUIET_RIGHT: usize = 7;
+
+    fn encode(data: &[u8], row: &mut Row) -> Result<(), Fault> {
         row.clear();
         let full = full_digits(7, data)?;
         push_ean8(row, &full);
@@ -157,11 +161,15 @@ impl Linear for Ean13 {
 
     ghost turned_limit = { 1 };
 
-    ghost QUIET_ZONE = { record { left = 11; right = 7 } };
+    ghost QUIET_LEFT = { 11 };
 
-    const QUIET_ZONE: Sides = Sides { left: 11, right: 7 };
+    ghost QUIET_RIGHT = { 7 };
 
-    fn encode(data: &[u8], row: &mut Row) -> Result<(), Refusal> {
+    const QUIET_LEFT: usize = 11;
+
+    const QUIET_RIGHT: usize = 7;
+
+    fn encode(data: &[u8], row: &mut Row) -> Result<(), Fault> {
         row.clear();
         let full = full_digits(12, data)?;
         push_ean13(row, full[0], &full[1..]);
@@ -188,11 +196,15 @@ impl Linear for UpcA {
 
     ghost turned_limit = { 3 };
 
-    ghost QUIET_ZONE = { record { left = 9; right = 9 } };
+    ghost QUIET_LEFT = { 9 };
 
-    const QUIET_ZONE: Sides = Sides { left: 9, right: 9 };
+    ghost QUIET_RIGHT = { 9 };
 
-    fn encode(data: &[u8], row: &mut Row) -> Result<(), Refusal> {
+    const QUIET_LEFT: usize = 9;
+
+    const QUIET_RIGHT: usize = 9;
+
+    fn encode(data: &[u8], row: &mut Row) -> Result<(), Fault> {
         row.clear();
         let full = full_digits(11, data)?;
         push_ean13(row, b'0', &full);

@@ -1,22 +1,13 @@
 //! What every linear symbology does.
 ghost use Rattle.std.specs.Prelude.{◌≡◌, ◌≢◌, ℕ, Bool, Option, Result, Err, List, [], IsOk, IfOk, IfErr};
-ghost use Rattle.linear.specs.declared.refusal.Refusal.{Refusal as Refused};
+ghost use Rattle.labelcore.specs.declared.fault.Fault.{Fault as Refused};
 ghost use Rattle.linear.specs.Drawing.{IsDrawn};
 
-use crate::refusal::Refusal;
 use crate::row::Row;
-
-/// How wide a quiet zone is before and after a row, in modules.
-#[derive(Clone, Copy, PartialEq, Eq)]
-pub struct Sides {
-    pub left: usize,
-    pub right: usize,
-}
+use labelcore::Fault;
 
 /// A linear symbology: which data it takes, and the row of modules of such data.
 pub trait Linear {
-    ghost use Rattle.linear.specs.declared.linear.Sides.{Sides as RowSides};
-
     /// The full data of a symbol, which has its check digit, or why there is no symbol.
     ghost full_data: { List ℕ → Result (List ℕ) Refused };
 
@@ -29,17 +20,22 @@ pub trait Linear {
     /// How many modules of a row may be turned, dark for light or light for dark, so that it is never read.
     ghost turned_limit: { ℕ };
 
-    ghost QUIET_ZONE: { RowSides };
+    ghost QUIET_LEFT: { ℕ };
 
-    /// The quiet zone that a reader needs before and after the row.
-    const QUIET_ZONE: Sides;
+    ghost QUIET_RIGHT: { ℕ };
+
+    /// How wide the quiet zone is that a reader needs before the row, in modules.
+    const QUIET_LEFT: usize;
+
+    /// How wide the quiet zone is that a reader needs after the row, in modules.
+    const QUIET_RIGHT: usize;
 
     /// Draws the symbol of `data` into `row`, whose old content is dropped.
     ///
     /// # Errors
     ///
     /// Why the data has no symbol in this symbology. The row is empty then.
-    fn encode(data: &[u8], row: &mut Row) -> Result<(), Refusal>
+    fn encode(data: &[u8], row: &mut Row) -> Result<(), Fault>
         requires { «data».now ≢ [] }
         ensures drawn { IfOk (full_data «data».now)
             (λ full. IsOk result × IsDrawn row_of reading turned_limit full row.new.items) }

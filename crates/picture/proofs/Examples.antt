@@ -37,13 +37,14 @@ zone = record { left = 2; right = 1; top = 0; bottom = 0 }
 abbrev large : Picture
 large = enlargement (with_quiet_zone (bars (true ∷ false ∷ true ∷ true ∷ []) 2) zone) 3
 
--- a beginning of the next file is cut too, be it one byte
+-- a stream is cut before each line `P1`, with its line feed or without, and before no other line
 cut : (pbm_files (pbm_text large ++ pbm_text ean8_picture) ≡ pbm_text large ∷ pbm_text ean8_picture ∷ [])
     × (ascii_files (ascii_text large ++ ascii_text ean8_picture) ≡ ascii_text large ∷ ascii_text ean8_picture ∷ [])
     × (pbm_files (codes "P1\n1 1\n0\nP1") ≡ codes "P1\n1 1\n0\n" ∷ codes "P1" ∷ [])
-    × (pbm_files (codes "P1\n1 1\n0\nP") ≡ codes "P1\n1 1\n0\n" ∷ codes "P" ∷ [])
+    × (pbm_files (codes "P1\n1 1\n0\nP1\n1 1\n1\n") ≡ codes "P1\n1 1\n0\n" ∷ codes "P1\n1 1\n1\n" ∷ [])
+    × (pbm_files (codes "P1\n1 1\n0\nP\nP11\n") ≡ codes "P1\n1 1\n0\nP\nP11\n" ∷ [])
 unfolding digits
-cut = (refl, refl, refl, refl)
+cut = (refl, refl, refl, refl, refl)
 
 large_sampled : sample (raster large) 3 zone ≡ Some
     ((true ∷ false ∷ true ∷ true ∷ []) ∷ (true ∷ false ∷ true ∷ true ∷ []) ∷ [])

@@ -1,9 +1,8 @@
 -- The lines of a plain PBM file.
 use Rattle.std.proofs.Common.{◌≡◌, ℕ, ◌≤◌, Bool, true, false, not, ◌==◌, List, [], ◌∷◌, ◌++◌, length, map, refl}
-use Rattle.std.proofs.Common.{◌∙◌, ◌*◌, ap, arith, append_assoc, length-append, decimal, flat_map, nat_le, drop, take, codes}
+use Rattle.std.proofs.Common.{◌∙◌, ◌*◌, ap, arith, append_assoc, length-append, decimal, flat_map, nat_le, drop, codes}
 use Rattle.std.specs.Int.{div_ceil}
 use Rattle.std.specs.List.{list_all, slice_split}
-use Rattle.std.specs.Str.{bytes_eq}
 use Rattle.std.specs.Str.Parse.{AllDigits}
 use Rattle.std.proofs.lemmas.Bool.{le-leb, ne_eqb}
 use Rattle.std.proofs.lemmas.Grind.{flat_map-append}
@@ -14,6 +13,7 @@ use Rattle.std.proofs.lemmas.Str.Parse.{digit_from_value}
 use Rattle.picture.specs.Picture.{Picture}
 use Rattle.picture.specs.Private.Rows.{piece}
 use Rattle.picture.specs.ReadingLaws.{IsDrawable}
+use Rattle.picture.specs.Reading.{is_magic}
 use Rattle.picture.specs.Text.{below, pbm_digit, pbm_row, pbm_text, pixel_row}
 use Rattle.picture.proofs.HeaderLaws.{digits-decimal}
 use Rattle.picture.proofs.LineLaws.{has_no_line_feed, slice_split-with_ends, with_ends}
@@ -97,10 +97,6 @@ short_lines p drawable =
       rows_pass (λ line. nat_le (length line) 70) (λ pixels short. le-leb (length (map pbm_digit pixels)) 70
           (omega (arith, length-map pixels pbm_digit))) p (below p.height),
     ) refl
-
--- a line that a plain PBM file begins with
-abbrev pub is_magic : List ℕ → Bool
-is_magic line = bytes_eq (take 1 line) (codes "P")
 
 pixels_not_magic : (pixels : List Bool) → is_magic (map pbm_digit pixels ++ 10 ∷ []) ≡ false
 pixels_not_magic [] = refl

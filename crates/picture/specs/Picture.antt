@@ -32,6 +32,10 @@ bars row height = record { width = length row; height = height; dark = λ x y. s
 abbrev pub symbol_picture : Symbol → Picture
 symbol_picture s = record { width = s.side; height = s.side; dark = is_dark s }
 
+-- the quiet zone with these widths
+abbrev pub zone_with : ℕ → ℕ → ℕ → ℕ → QuietZone
+zone_with left right top bottom = record { left = left; right = right; top = top; bottom = bottom }
+
 -- a picture in a quiet zone, which is light
 abbrev pub with_quiet_zone : Picture → QuietZone → Picture
 with_quiet_zone p zone = record {

@@ -93,10 +93,14 @@ ascii_pixels text = do
 abbrev pub files : (List ℕ → List ℕ → Bool) → List ℕ → List (List ℕ)
 files is_cut stream = map concat (cut_between is_cut (whole_lines stream))
 
--- the plain PBM files of a stream: each begins with a line that begins with `P`, as no other line of such a file does;
--- so a file of which the stream has a beginning alone, be it one byte, is cut from the file before it
+-- whether a line is `P1`, with its line feed or, at the end of a stream, without
+abbrev pub is_magic : List ℕ → Bool
+is_magic line = bytes_eq line (codes "P1\n") || bytes_eq line (codes "P1")
+
+-- the plain PBM files of a stream, which is cut before each line `P1`: each file begins with that line, and no other
+-- line of it is such
 abbrev pub pbm_files : List ℕ → List (List ℕ)
-pbm_files stream = files (λ line next. bytes_eq (take 1 next) (codes "P")) stream
+pbm_files stream = files (λ line next. is_magic next) stream
 
 -- the text pictures of a stream: each ends with an empty line
 abbrev pub ascii_files : List ℕ → List (List ℕ)

@@ -1,6 +1,6 @@
 //! Pictures in their quiet zones.
 ghost use Rattle.std.specs.Prelude.{◌≡◌, ◌+◌, ◌≤◌};
-ghost use Rattle.picture.specs.Picture.{Fits, with_quiet_zone};
+ghost use Rattle.picture.specs.Picture.{Fits, with_quiet_zone, zone_with};
 
 use crate::grid::Grid;
 use crate::quiet_zone::QuietZone;
@@ -15,11 +15,18 @@ pub struct Framed<G: Grid> {
 }
 
 impl<G: Grid> Framed<G> {
-    /// Returns the grid in this quiet zone: at most 65,535 columns and rows in all.
-    pub fn new(grid: G, zone: QuietZone) -> Self
-        requires { Fits (with_quiet_zone (G.picture grid) zone) }
-        ensures { ⟦<Framed<G> as Grid>⟧.picture result ≡ with_quiet_zone (G.picture grid) zone }
+    /// Returns the grid in a quiet zone with these columns and rows: at most 65,535 of each in all.
+    pub fn new(grid: G, left: usize, right: usize, top: usize, bottom: usize) -> Self
+        requires { Fits (with_quiet_zone (G.picture grid) (zone_with left right top bottom)) }
+        ensures { ⟦<Framed<G> as Grid>⟧.picture result
+            ≡ with_quiet_zone (G.picture grid) (zone_with left right top bottom) }
     {
+        let zone = QuietZone {
+            left,
+            right,
+            top,
+            bottom,
+        };
         Framed { grid, zone }
     }
 }

@@ -14,7 +14,7 @@ use Rattle.gf256.specs.Field.{IsElement}
 use Rattle.gf256.specs.ErrorCorrection.{AreEcCodewords, wrong_codewords}
 use Rattle.gf256.proofs.DistanceLaws.{close_codewords}
 use Rattle.qr_reading.specs.Private.Blocks.{block_at, sound_blocks}
-use Rattle.qrdata.specs.declared.level.Level.{Level}
+use Rattle.labelcore.specs.declared.level.Level.{Level}
 use Rattle.qrdata.specs.Reading.{data_in, deinterleaving, has_roots, segments_at}
 use Rattle.qrdata.specs.Segments.{byte_bits}
 use Rattle.qrdata.specs.Steps.{◌>>=◌}

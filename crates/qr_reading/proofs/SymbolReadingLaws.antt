@@ -11,7 +11,7 @@ use Rattle.std.proofs.lemmas.Bool.Decides.{nat_tests}
 use Rattle.std.proofs.lemmas.List.{length-map, map-append}
 use Rattle.std.proofs.lemmas.List.Elements.{filter-append}
 use Rattle.std.proofs.lemmas.List.Elements.{recursion_from_All}
-use Rattle.qrdata.specs.declared.level.Level.{Level}
+use Rattle.labelcore.specs.declared.level.Level.{Level}
 use Rattle.gf256.specs.BinaryPolynomial.{binary_remainder}
 use Rattle.qrdata.specs.declared.bits.Bits.{Bits}
 use Rattle.qrdata.specs.Bits.{codewords_of}

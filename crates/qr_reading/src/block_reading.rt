@@ -11,9 +11,8 @@ ghost use Rattle.std.specs.Prelude.{replicate, slice_index, sum};
 use crate::bits::bits_of_codewords;
 use crate::segment_reading::{SymbolData, read_segments};
 use gf256::Generator;
-use qrdata::{
-    Codewords, Lengths, Level, MAX_CODEWORDS, Version, are_bytes, push_codewords, push_lengths,
-};
+use labelcore::Level;
+use qrdata::{Lengths, MAX_CODEWORDS, Version, Words, are_bytes, push_codewords, push_lengths};
 
 /// Returns where the codeword at a place of a block is among those of all blocks.
 fn interleaving_place(lengths: &[usize], block: usize, place: usize) -> usize
@@ -34,7 +33,7 @@ fn interleaving_place(lengths: &[usize], block: usize, place: usize) -> usize
 }
 
 /// Writes a block of interleaved codewords into an empty list.
-fn write_block(lengths: &[usize], codewords: &[u8], block: usize, out: &mut Codewords)
+fn write_block(lengths: &[usize], codewords: &[u8], block: usize, out: &mut Words)
     requires block { (block < length lengths.now) × (length lengths.now ≤ 8) }
     requires short { slice_index lengths.now block ≤ 255 }
     requires empty { out.old.items ≡ [] }
@@ -58,7 +57,7 @@ fn is_multiple(generator: &Generator, count: usize, block: &[u8], ec_codewords: 
     are_bytes(block);
     are_bytes(ec_codewords);
     let mut remainder = [0; 30];
-    generator.ec_codewords(block, &mut remainder[..count]);
+    generator.parity(block, &mut remainder[..count]);
     ec_codewords == &remainder[..count]
 }
 
@@ -70,7 +69,7 @@ fn sound_blocks(
     ec_lengths: &[usize],
     codewords: &[u8],
     ec_codewords: &[u8],
-) -> Option<Codewords>
+) -> Option<Words>
     requires count { IsEcCodewordCount count }
     requires equal { ec_lengths.now ≡ replicate (length lengths.now) count }
     requires short { All (λ n. n + count ≤ 255) lengths.now }
@@ -80,11 +79,11 @@ fn sound_blocks(
     ensures len { IfSome result (λ message. array_vec_len message ≡ sum lengths.now) }
 {
     let generator = Generator::new(count);
-    let mut message = Codewords::new();
+    let mut message = Words::new();
     for block in 0..lengths.len() {
-        let mut data = Codewords::new();
+        let mut data = Words::new();
         write_block(lengths, codewords, block, &mut data);
-        let mut remainder = Codewords::new();
+        let mut remainder = Words::new();
         write_block(ec_lengths, ec_codewords, block, &mut remainder);
         if !is_multiple(&generator, count, &data, &remainder) {
             return None;
@@ -112,13 +111,13 @@ fn read_message(version: Version, message: &[u8]) -> Option<SymbolData>
 pub(crate) fn read_data(version: Version, level: Level, codewords: &[u8]) -> Option<SymbolData>
     ensures { option_map (λ bytes. bytes.items) result ≡ data_in version level codewords.now }
 {
-    if codewords.len() != version.total_codewords() {
+    if codewords.len() != version.total_words() {
         return None;
     }
     version.prove_range();
     let count = version.ec_codewords_per_block(level);
     let lengths = version.lengths(level);
-    let (data, ec_codewords) = codewords.split_at(version.data_codewords(level));
+    let (data, ec_codewords) = codewords.split_at(version.data_words(level));
     let mut ec_lengths = Lengths::new();
     push_lengths(&mut ec_lengths, lengths.len(), count);
     let Some(message) = sound_blocks(count, &lengths, &ec_lengths, data, ec_codewords) else {

@@ -11,7 +11,8 @@ ghost use Rattle.qr_reading.specs.Private.Walking.{DrawsPatterns, format_named, 
 use crate::block_reading::read_data;
 use crate::segment_reading::SymbolData;
 use crate::walk::read_codewords;
-use qrdata::{Level, Mask, Version};
+use labelcore::Level;
+use qrdata::{Mask, Version};
 use qrmatrix::{SIDE, Square, draw_format, draw_functions};
 
 /// Returns the version whose symbols have this many modules on a side.

@@ -11,7 +11,7 @@ ghost use Rattle.qrmatrix.specs.Reading.{read_bits};
 ghost use Rattle.qrmatrix.specs.Square.{value_at};
 ghost use Rattle.qr_reading.specs.Private.Walking.{AreFourFree, bit_if, module_in, row_read, rows_read, unmasked};
 
-use qrdata::{Bits, Codewords, MAX_BITS, Mask, Version, are_bytes};
+use qrdata::{Bits, MAX_BITS, Mask, Version, Words, are_bytes};
 use qrmatrix::{SIDE, Square, Strip, mask_row_bits};
 
 /// Returns the modules of a row with a mask taken off.
@@ -200,7 +200,7 @@ fn push_strip(
 }
 
 /// Returns the codewords that the free modules of a symbol are, with a mask taken off, in the order of the walk.
-pub(crate) fn read_codewords(version: Version, free: &Square, rows: &[u64], mask: Mask) -> Codewords
+pub(crate) fn read_codewords(version: Version, free: &Square, rows: &[u64], mask: Mask) -> Words
     requires side { length rows.now ≡ side_of version }
     requires free { MarksFree version free.now }
     ensures { result.items ≡ codewords_of (total_codewords version)

@@ -6,8 +6,8 @@ use Rattle.std.specs.List.{concat, find}
 use Rattle.std.proofs.Math.Nat.{mod-eq_of_lt}
 use Rattle.std.proofs.lemmas.Bool.{cases_lt, lt-ltb}
 use Rattle.std.proofs.lemmas.List.{length-drop, take_at, drop_at}
-use Rattle.qrdata.specs.declared.level.Level.{Level}
-use Rattle.qrdata.specs.declared.level.Level.TheVariants.{L, M, Q, H}
+use Rattle.labelcore.specs.declared.level.Level.{Level}
+use Rattle.labelcore.specs.declared.level.Level.TheVariants.{L, M, Q, H}
 use Rattle.qrdata.specs.declared.mode.Mode.TheVariants.{Alphanumeric}
 use Rattle.qrdata.specs.Bits.{bits_of, codewords_of, number_of}
 use Rattle.qrdata.specs.Reading.{characters_at, data_in, deinterleaving, is_end, number_at, segment_at, segments_at}

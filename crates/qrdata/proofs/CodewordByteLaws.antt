@@ -4,7 +4,7 @@ use Rattle.qrdata.proofs.SegmentReadingLaws.{AreBytes-drop, AreBytes-take}
 use Rattle.std.specs.Prelude.{IfSome, None, Option, Some, slice_get}
 use Rattle.std.specs.List.{AllByRecursion, cons_option, flat_map, range_with_len}
 use Rattle.gf256.specs.ErrorCorrection.{ec_codewords_of}
-use Rattle.qrdata.specs.declared.level.Level.{Level}
+use Rattle.labelcore.specs.declared.level.Level.{Level}
 use Rattle.qrdata.specs.declared.mode.Segment.{Segment}
 use Rattle.qrdata.specs.Codewords.{codewords_at, data_codewords_of, final_message, interleaving, split_by}
 use Rattle.qrdata.specs.Codewords.{symbol_codewords}

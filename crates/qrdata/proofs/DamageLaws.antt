@@ -20,7 +20,7 @@ use Rattle.gf256.specs.Field.{alpha, field_power, IsElement}
 use Rattle.gf256.specs.Polynomial.{evaluate}
 use Rattle.gf256.specs.ErrorCorrection.{HasRoots, wrong_codewords}
 use Rattle.gf256.proofs.DistanceLaws.{close_codewords, wrong_codewords-by}
-use Rattle.qrdata.specs.declared.level.Level.{Level}
+use Rattle.labelcore.specs.declared.level.Level.{Level}
 use Rattle.qrdata.specs.Reading.{data_in, deinterleaving, has_roots, interleaving_place, segments_at, block_in, AreNear}
 use Rattle.qrdata.specs.Reading.{IsGuarded, AreCorrectable, IsCorrected}
 use Rattle.qrdata.specs.Segments.{byte_bits}

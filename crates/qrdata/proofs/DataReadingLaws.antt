@@ -13,7 +13,7 @@ use Rattle.gf256.specs.Field.{alpha, field_power, IsElement}
 use Rattle.gf256.specs.Polynomial.{evaluate}
 use Rattle.gf256.specs.ErrorCorrection.{ec_codewords_of, HasRoots, IsRemainder}
 use Rattle.gf256.proofs.GeneratorLaws.{HasRoots-remainder, IsRemainder-ec_codewords_of}
-use Rattle.qrdata.specs.declared.level.Level.{Level}
+use Rattle.labelcore.specs.declared.level.Level.{Level}
 use Rattle.qrdata.specs.declared.mode.Segment.{Segment}
 use Rattle.qrdata.specs.Bits.{number_of, codewords_of}
 use Rattle.qrdata.specs.Codewords.{with_zeros, with_pad_codewords, final_message, interleaving, pad_codewords}

@@ -6,7 +6,7 @@ use Rattle.std.specs.Prelude.{nat_lt}
 use Rattle.std.proofs.lemmas.List.{get_or_append_left, length-append, drop-drop, get_or-map, length-drop, length-map}
 use Rattle.std.proofs.Math.Seq.{get_or-append_seam}
 use Rattle.std.proofs.lemmas.List.Sums.{sum_by-cons}
-use Rattle.qrdata.specs.declared.level.Level.{Level}
+use Rattle.labelcore.specs.declared.level.Level.{Level}
 use Rattle.qrdata.specs.declared.mode.Mode.TheVariants.{Byte, Numeric}
 use Rattle.qrdata.specs.declared.mode.Segment.{Segment}
 use Rattle.qrdata.specs.Fewest.{chosen_segments}

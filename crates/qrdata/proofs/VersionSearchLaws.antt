@@ -6,7 +6,7 @@ use Rattle.std.proofs.lemmas.Option.{none-some}
 use Rattle.std.specs.Prelude.{nat_le, None, Some}
 use Rattle.std.specs.List.{find, range_with_len}
 use Rattle.std.proofs.lemmas.Bool.{cases_lt, cond_both, le-leb, leb-true, lt-leb}
-use Rattle.qrdata.specs.declared.level.Level.{Level}
+use Rattle.labelcore.specs.declared.level.Level.{Level}
 use Rattle.qrdata.specs.Segments.{cost}
 use Rattle.qrdata.specs.Versions.{capacity}
 use Rattle.qrdata.specs.Fewest.{NoneFits, chosen_segments, chosen_version}

@@ -4,7 +4,7 @@ use Rattle.std.specs.Prelude.{ℕ, ◌-◌, ◌*◌, ◌/◌, ◌%◌, ◌==◌,
 use Rattle.std.specs.Prelude.{slice_get, Bool, false, if◌then◌else◌, fold, max, min}
 use Rattle.std.specs.List.{filter_map, flat_map, range_with_len}
 use Rattle.gf256.specs.ErrorCorrection.{ec_codewords_of}
-use Rattle.qrdata.specs.declared.level.Level.{Level}
+use Rattle.labelcore.specs.declared.level.Level.{Level}
 use Rattle.qrdata.specs.declared.mode.Segment.{Segment}
 use Rattle.qrdata.specs.Bits.{codewords_of}
 use Rattle.qrdata.specs.Segments.{segments_bits}

@@ -4,7 +4,7 @@
 use Rattle.std.specs.Prelude.{ℕ, zero, suc, ◌-◌, ◌^◌, ◌<◌, List, [], ◌∷◌, map, length, take, drop, nat_lt, nat_le}
 use Rattle.std.specs.Prelude.{◌&&◌, Bool, Option, filter, reverse}
 use Rattle.std.specs.List.{best_of, find, flat_map, list_all, range_with_len}
-use Rattle.qrdata.specs.declared.level.Level.{Level}
+use Rattle.labelcore.specs.declared.level.Level.{Level}
 use Rattle.qrdata.specs.declared.mode.Segment.{Segment}
 use Rattle.qrdata.specs.Segments.{IsSegmentation, cost, count_width, has_character, modes, segment_of}
 use Rattle.qrdata.specs.Versions.{capacity}

@@ -5,8 +5,8 @@
 use Rattle.std.specs.Prelude.{ℕ, ◌+◌, ◌-◌, ◌*◌, ◌≤◌, List, [], ◌∷◌, map, slice_index, slice_index_or, sum}
 use Rattle.std.specs.Prelude.{replicate}
 use Rattle.std.specs.List.{flat_map}
-use Rattle.qrdata.specs.declared.level.Level.{Level}
-use Rattle.qrdata.specs.declared.level.Level.TheVariants.{L, M, Q, H}
+use Rattle.labelcore.specs.declared.level.Level.{Level}
+use Rattle.labelcore.specs.declared.level.Level.TheVariants.{L, M, Q, H}
 
 -- the versions are 1 to 10
 abbrev pub IsVersion : ℕ → Type 0

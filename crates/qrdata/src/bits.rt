@@ -11,7 +11,7 @@ ghost use Rattle.std.specs.List.{list_all};
 ghost use Rattle.std.specs.Prelude.{◌≡◌, ◌+◌, ◌*◌, ◌/◌, ◌^◌, ◌<◌, ◌≤◌, [], ◌++◌, All, IsTrue, length, slice_index};
 ghost use Rattle.std.specs.Prelude.{if◌then◌else◌, ◌%◌, ◌==◌};
 
-use crate::blocks::{Codewords, MAX_CODEWORDS};
+use crate::blocks::{MAX_CODEWORDS, Words};
 use crate::mode::{Mode, Segment, value_of};
 use crate::version::Version;
 
@@ -22,7 +22,7 @@ pub const MAX_BITS: usize = 8 * MAX_CODEWORDS + 7;
 #[derive(Drop)]
 pub struct Bits {
     /// The codewords, the first bits.
-    pub codewords: Codewords,
+    pub codewords: Words,
     rest: Rest,
 }
 
@@ -66,7 +66,7 @@ impl Bits {
         ensures { bits_in result ≡ [] }
     {
         Bits {
-            codewords: Codewords::new(),
+            codewords: Words::new(),
             rest: Rest {
                 number: 0,
                 count: 0,
@@ -232,7 +232,7 @@ fn pad_codeword(place: usize) -> u8
 }
 
 /// Writes `count` pad codewords.
-pub(crate) fn push_padding(count: usize, codewords: &mut Codewords)
+pub(crate) fn push_padding(count: usize, codewords: &mut Words)
     requires room { array_vec_len codewords.old + count ≤ MAX_CODEWORDS }
     ensures { codewords.new.items ≡ codewords.old.items ++ pad_codewords count }
 {

@@ -12,11 +12,11 @@ use gf256::Generator;
 pub const MAX_CODEWORDS: usize = 346;
 
 /// The codewords of a symbol.
-pub type Codewords = ArrayVec<u8, MAX_CODEWORDS>;
+pub type Words = ArrayVec<u8, MAX_CODEWORDS>;
 
 /// Writes the codewords at one place of the blocks, block by block. `lengths` are those of the blocks, one after
 /// another.
-fn push_place(lengths: &[usize], codewords: &[u8], place: usize, out: &mut Codewords)
+fn push_place(lengths: &[usize], codewords: &[u8], place: usize, out: &mut Words)
     requires whole { sum lengths.now ≡ length codewords.now }
     requires room { array_vec_len out.old
         + length (codewords_at (split_by lengths.now codewords.now) place) ≤ MAX_CODEWORDS }
@@ -45,7 +45,7 @@ fn greatest(lengths: &[usize]) -> usize
 }
 
 /// Writes the codewords of the blocks in the order of their places, and at one place in the order of the blocks.
-pub(crate) fn interleave(lengths: &[usize], codewords: &[u8], out: &mut Codewords)
+pub(crate) fn interleave(lengths: &[usize], codewords: &[u8], out: &mut Words)
     requires whole { sum lengths.now ≡ length codewords.now }
     requires room { array_vec_len out.old + length codewords.now ≤ MAX_CODEWORDS }
     ensures { out.new.items ≡ out.old.items ++ interleaving (split_by lengths.now codewords.now) }
@@ -77,7 +77,7 @@ pub fn push_lengths(lengths: &mut Lengths, count: usize, size: usize)
 }
 
 /// Writes codewords at the end.
-pub fn push_codewords(out: &mut Codewords, codewords: &[u8])
+pub fn push_codewords(out: &mut Words, codewords: &[u8])
     requires room { array_vec_len out.old + length codewords.now ≤ MAX_CODEWORDS }
     ensures { out.new.items ≡ out.old.items ++ codewords.now }
 {
@@ -86,7 +86,7 @@ pub fn push_codewords(out: &mut Codewords, codewords: &[u8])
 }
 
 /// Writes the error correction codewords of a block.
-fn push_block_ec_codewords(generator: &Generator, count: usize, block: &[u8], out: &mut Codewords)
+fn push_block_ec_codewords(generator: &Generator, count: usize, block: &[u8], out: &mut Words)
     requires count { generator.now ≡ count }
     requires few { count ≤ 30 }
     requires room { array_vec_len out.old + count ≤ MAX_CODEWORDS }
@@ -94,17 +94,12 @@ fn push_block_ec_codewords(generator: &Generator, count: usize, block: &[u8], ou
     ensures len { array_vec_len out.new ≡ array_vec_len out.old + count }
 {
     let mut ec_codewords = [0; 30];
-    generator.ec_codewords(block, &mut ec_codewords[..count]);
+    generator.parity(block, &mut ec_codewords[..count]);
     push_codewords(out, &ec_codewords[..count]);
 }
 
 /// Writes the error correction codewords of each block. `lengths` are those of the blocks, one after another.
-pub(crate) fn push_ec_codewords(
-    count: usize,
-    lengths: &[usize],
-    codewords: &[u8],
-    out: &mut Codewords,
-)
+pub(crate) fn push_ec_codewords(count: usize, lengths: &[usize], codewords: &[u8], out: &mut Words)
     requires count { IsEcCodewordCount count }
     requires blocks { (sum lengths.now ≡ length codewords.now) × (length lengths.now ≤ 8) }
     requires room { array_vec_len out.old ≤ 106 }

@@ -1,6 +1,7 @@
 //! The choice of a version and of segments.
 ghost use Rattle.qrdata.specs.Fewest.{chosen_segments};
-ghost use Rattle.qrdata.specs.PlanView.{FitsNowhere, HasFittingSegments, IsBestPlan, plan_view};
+ghost use Rattle.labelcore.specs.declared.fault.Fault.TheVariants.{DoesNotFit};
+ghost use Rattle.qrdata.specs.PlanView.{FitsNowhere, IsBestPlan, plan_view};
 ghost use Rattle.qrdata.specs.Private.SmallestPlan.{FitsBits, HasRoom, HaveNoRoom, IsSmallestPlan, IsTable};
 ghost use Rattle.qrdata.specs.Private.SmallestPlan.{NoPlan, SameWidths};
 ghost use Rattle.qrdata.specs.Segments.{cost};
@@ -8,30 +9,29 @@ ghost use Rattle.qrdata.specs.Versions.{IsVersion};
 ghost use Rattle.std.specs.Prelude.{◌≡◌, ◌+◌, ◌≤◌, IfErr, IfNone, IfOk, IfSome, ℕ};
 
 use crate::firsts::Firsts;
-use crate::level::Level;
 use crate::mode::Segment;
 use crate::segmentation::fill;
 use crate::version::Version;
 use arrayvec::ArrayVec;
+use labelcore::{Fault, Level, Options};
 use std::marker::Model;
 
 /// The most segments that fit a symbol: in version 10 each has at least 20 bits, and there are at most 2192 data bits.
 /// Fewer segments fit the other versions.
 const MAX_SEGMENTS: usize = 109;
 
-/// A plan of a symbol: its version, its level, its data, which it borrows, and the segments of that data.
+/// A plan of a symbol: its version, its level, and the segments of its data.
 #[derive(Drop)]
-pub struct Plan<'a> {
+pub struct Plan {
     version: Version,
     level: Level,
     segments: ArrayVec<Segment, MAX_SEGMENTS>,
     bits: u32,
-    bytes: &'a [u8],
 }
 
-impl<'a> Model for Plan<'a> {
+impl Model for Plan {
     ghost use Rattle.std.specs.Prelude.{◌≡◌};
-    ghost use Rattle.qrdata.specs.PlanView.{HasFittingSegments, PlanView};
+    ghost use Rattle.qrdata.specs.PlanView.{PlanView};
     ghost use Rattle.qrdata.specs.Segments.{cost};
 
     ghost Value = { PlanView };
@@ -40,19 +40,12 @@ impl<'a> Model for Plan<'a> {
       version = p.version;
       level = p.level;
       segments = p.segments.items;
-      bytes = p.bytes.now;
     } };
 
-    ghost invariant = { λ p. (p.bits ≡ cost p.version p.segments.items)
-        × HasFittingSegments (record {
-          version = p.version;
-          level = p.level;
-          segments = p.segments.items;
-          bytes = p.bytes.now;
-        }) };
+    ghost invariant = { λ p. p.bits ≡ cost p.version p.segments.items };
 }
 
-impl<'a> Plan<'a> {
+impl Plan {
     /// Returns the version of the symbol.
     pub fn version(&self) -> Version
         ensures value { result ≡ self.now.version }
@@ -70,17 +63,9 @@ impl<'a> Plan<'a> {
         self.level
     }
 
-    /// Returns the data.
-    pub fn bytes(&self) -> &'a [u8]
-        ensures { result.now ≡ self.now.bytes }
-    {
-        self.bytes
-    }
-
-    /// Returns the segments, from the front of the data. They cut the data and fit the symbol.
+    /// Returns the segments, from the front of the data.
     pub fn segments(&self) -> &[Segment]
-        ensures value { result.now ≡ self.now.segments }
-        ensures fit { HasFittingSegments self.now }
+        ensures { result.now ≡ self.now.segments }
     {
         self.segments.as_slice()
     }
@@ -93,39 +78,30 @@ impl<'a> Plan<'a> {
     }
 }
 
-/// No version from the lowest one to 10 holds the data at this level.
-#[derive(Clone, Copy, PartialEq, Eq, Drop)]
-pub struct DoesNotFit {
-    /// The level that was asked for.
-    pub level: Level,
-}
-
-/// Chooses the smallest version, from `min_version` to 10, in which some segments of the data fit the data codewords of
-/// the level, and in it the segments with the fewest bits (ISO/IEC 18004, 7.4.1). Of several such lists it chooses the
-/// one with the longest first segment, then numeric mode before alphanumeric before byte mode, and the later segments
-/// in the same way. Empty data has no segments.
+/// Chooses the smallest version, from the least that the options allow to 10, in which some segments of the data fit the
+/// data codewords of the options' level, and in it the segments with the fewest bits (ISO/IEC 18004, 7.4.1). Of several
+/// such lists it chooses the one with the longest first segment, then numeric mode before alphanumeric before byte mode,
+/// and the later segments in the same way. Empty data has no segments. The other options have no part in the choice.
 ///
 /// # Errors
 ///
-/// [`DoesNotFit`] where the data fits none of these versions.
-pub fn choose<'a>(
-    min_version: Version,
-    level: Level,
-    bytes: &'a [u8],
-) -> Result<Plan<'a>, DoesNotFit>
-    ensures plan { IfOk result (IsBestPlan min_version level bytes.now) }
-    ensures level { IfErr result (λ refusal. refusal.level ≡ level) }
-    ensures refused { IfErr result (λ _. FitsNowhere min_version level bytes.now) }
+/// `DoesNotFit` where the data fits none of these versions.
+pub fn choose(options: &Options, data: &[u8]) -> Result<Plan, Fault>
+    ensures plan { IfOk result (IsBestPlan options.now.label.min_version options.now.label.level «data».now) }
+    ensures fault { IfErr result (λ fault. fault ≡ DoesNotFit options.now.label.level) }
+    ensures refused { IfErr result (λ _. FitsNowhere options.now.label.min_version options.now.label.level «data».now) }
 {
-    match plan_from(min_version, level, bytes) {
+    let lowest = Version::of(options.min_version());
+    let level = options.level();
+    match plan_from(lowest, level, data) {
         Some(plan) => Ok(plan),
-        None => Err(DoesNotFit { level }),
+        None => Err(Fault::DoesNotFit(level)),
     }
 }
 
 /// Makes the plan of the smallest version from `lowest` to 10. One table of best segments serves all versions up to 9,
 /// and a second one version 10.
-fn plan_from<'a>(lowest: Version, level: Level, bytes: &'a [u8]) -> Option<Plan<'a>>
+fn plan_from(lowest: Version, level: Level, bytes: &[u8]) -> Option<Plan>
     ensures some { IfSome result (IsSmallestPlan lowest 10 level bytes.now) }
     ensures none { IfNone result (NoPlan lowest 10 level bytes.now) }
 {
@@ -139,12 +115,7 @@ fn plan_from<'a>(lowest: Version, level: Level, bytes: &'a [u8]) -> Option<Plan<
 
 /// Makes the plan of the smallest version from `lowest` to `highest`. In all of these a character count has the
 /// same bits, so that the best segments are the same.
-fn plan_between<'a>(
-    lowest: Version,
-    highest: Version,
-    level: Level,
-    bytes: &'a [u8],
-) -> Option<Plan<'a>>
+fn plan_between(lowest: Version, highest: Version, level: Level, bytes: &[u8]) -> Option<Plan>
     requires same { (v : ℕ) → lowest ≤ v → v ≤ highest → SameWidths v highest }
     ensures some { IfSome result (IsSmallestPlan lowest highest level bytes.now) }
     ensures none { IfNone result (NoPlan lowest highest level bytes.now) }
@@ -177,16 +148,10 @@ fn smallest_version(lowest: Version, highest: Version, level: Level, bits: usize
 }
 
 /// Makes the plan of the segments that a table names, from the front of the data. They have `bits` bits.
-fn plan_of<'a>(
-    version: Version,
-    level: Level,
-    bytes: &'a [u8],
-    firsts: &Firsts,
-    bits: u32,
-) -> Plan<'a>
+fn plan_of(version: Version, level: Level, bytes: &[u8], firsts: &Firsts, bits: u32) -> Plan
     requires table { IsTable version bytes.now bits firsts.now }
     requires bits { FitsBits version level bits (chosen_segments version bytes.now) }
-    ensures { result ≡ plan_view version level (chosen_segments version bytes.now) bytes.now }
+    ensures { result ≡ plan_view version level (chosen_segments version bytes.now) }
 {
     let mut segments = ArrayVec::new();
     let mut place = 0;
@@ -200,6 +165,5 @@ fn plan_of<'a>(
         level,
         segments,
         bits,
-        bytes,
     }
 }

@@ -7,7 +7,8 @@ ghost use Rattle.qrdata.specs.Versions.{total_codewords};
 ghost use Rattle.std.specs.Prelude.{◌≡◌, ◌<◌, ◌≤◌, ◌↔◌, ◌⊎◌, IfSome, IsNone, ℕ};
 
 use crate::blocks::{Lengths, push_lengths};
-use crate::level::Level;
+use crate::level_place::place_of;
+use labelcore::Level;
 use std::marker::Model;
 
 /// The sizes of the symbols of a version. Each array has a place for levels L, M, Q and H.
@@ -98,18 +99,18 @@ impl Version {
     }
 
     /// Returns the number of codewords of a symbol: data and error correction codewords.
-    pub fn total_codewords(self) -> usize
+    pub fn total_words(self) -> usize
         ensures { result ≡ total_codewords self }
     {
         SIZES[usize::from(self.number) - 1].total
     }
 
     /// Returns the number of data codewords of a symbol at a level, those of all its blocks.
-    pub fn data_codewords(self, level: Level) -> usize
+    pub fn data_words(self, level: Level) -> usize
         ensures { result ≡ data_codewords self level }
     {
         self.prove_range();
-        self.total_codewords() - self.block_count(level) * self.ec_codewords_per_block(level)
+        self.total_words() - self.block_count(level) * self.ec_codewords_per_block(level)
     }
 
     /// Returns the number of data bits of a symbol at a level.
@@ -119,7 +120,7 @@ impl Version {
         ensures few { result ≤ 2192 }
     {
         self.prove_range();
-        8 * self.data_codewords(level)
+        8 * self.data_words(level)
     }
 
     /// Returns the number of blocks of a symbol at a level.
@@ -128,7 +129,7 @@ impl Version {
         ensures some { 0 < result }
         ensures few { result ≤ 8 }
     {
-        SIZES[usize::from(self.number) - 1].blocks[level.place()]
+        SIZES[usize::from(self.number) - 1].blocks[place_of(level)]
     }
 
     /// Returns the number of error correction codewords of each block at a level.
@@ -136,7 +137,7 @@ impl Version {
         ensures value { result ≡ ec_codewords_per_block self level }
         ensures count { IsEcCodewordCount result }
     {
-        SIZES[usize::from(self.number) - 1].ec_codewords[level.place()]
+        SIZES[usize::from(self.number) - 1].ec_codewords[place_of(level)]
     }
 
     /// Returns the number of data codewords of each block at a level, the short blocks first.
@@ -145,7 +146,7 @@ impl Version {
     {
         self.prove_range();
         let blocks = self.block_count(level);
-        let codewords = self.data_codewords(level);
+        let codewords = self.data_words(level);
         let mut lengths = Lengths::new();
         let size = codewords / blocks;
         let longer = codewords % blocks;

@@ -23,7 +23,7 @@ use Rattle.std.specs.Simd.Lanes.{zip2}
 use Rattle.std.proofs.lemmas.Simd.{zip2-map}
 use Rattle.std.proofs.lemmas.Option.{same_Some}
 use Rattle.gf256.specs.ErrorCorrection.{wrong_codewords}
-use Rattle.qrdata.specs.declared.level.Level.{Level}
+use Rattle.labelcore.specs.declared.level.Level.{Level}
 use Rattle.qrdata.specs.Bits.{number_of, codewords_of}
 use Rattle.qrdata.specs.Versions.{IsVersion, side_of, total_codewords}
 use Rattle.qrdata.proofs.DataReadingLaws.{AreBytes-codewords_of}

@@ -9,7 +9,7 @@ use Rattle.std.proofs.lemmas.List.{length-map, length-reverse, reverse-reverse}
 use Rattle.std.proofs.lemmas.Option.{none-some, option_and_then_some, same_Some}
 use Rattle.gf256.specs.BinaryPolynomial.{binary_product, binary_remainder}
 use Rattle.gf256.proofs.ProductRemainderLaws.{binary_quotient, binary_quotient-lt, binary_division}
-use Rattle.qrdata.specs.declared.level.Level.{Level}
+use Rattle.labelcore.specs.declared.level.Level.{Level}
 use Rattle.qrdata.specs.Bits.{bits_of, number_of, codewords_of}
 use Rattle.qrdata.specs.Versions.{side_of, total_codewords}
 use Rattle.qrdata.proofs.BitStringLaws.{bits_of-number_of}

@@ -4,8 +4,8 @@ use Rattle.std.specs.Prelude.{bit_xor, map}
 use Rattle.std.specs.List.{range_with_len}
 use Rattle.gf256.specs.BinaryPolynomial.{binary_product, binary_remainder}
 use Rattle.gf256.proofs.ProductRemainderLaws.{binary_quotient, binary_quotient-lt}
-use Rattle.qrdata.specs.declared.level.Level.{Level}
-use Rattle.qrdata.specs.declared.level.Level.TheVariants.{L, M, Q, H}
+use Rattle.labelcore.specs.declared.level.Level.{Level}
+use Rattle.labelcore.specs.declared.level.Level.TheVariants.{L, M, Q, H}
 use Rattle.qrmatrix.specs.Information.{level_indicator, format_information, version_information, IsMultipleOf}
 use Rattle.qrmatrix.specs.Information.{FormatInformationIsListed}
 use Rattle.qrmatrix.specs.Information.{FormatInformationIsMultiple, VersionInformationIsListed}

@@ -4,7 +4,7 @@ use Rattle.std.proofs.Common.{◌≡◌, ℕ, refl, Bool, true, false, List, [],
 use Rattle.std.specs.Prelude.{◌==◌, ◌+◌, slice_index_or}
 use Rattle.std.specs.List.{flat_map, range_with_len, slice_split}
 use Rattle.gf256.specs.BinaryPolynomial.{binary_remainder}
-use Rattle.qrdata.specs.declared.level.Level.TheVariants.{L, M, Q, H}
+use Rattle.labelcore.specs.declared.level.Level.TheVariants.{L, M, Q, H}
 use Rattle.qrmatrix.specs.Functions.{alignment_coordinates}
 use Rattle.qrmatrix.specs.Information.{different_bits, format_information, level_indicator, version_information}
 use Rattle.qrmatrix.specs.Masks.{is_flipped}

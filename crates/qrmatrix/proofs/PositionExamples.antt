@@ -3,8 +3,8 @@ use Rattle.std.proofs.Common.{◌≡◌, ℕ, ◌-◌, refl, Bool, List, [], ◌
 use Rattle.std.specs.Prelude.{option_map, slice_index}
 use Rattle.gf256.specs.BinaryPolynomial.{binary_remainder}
 use mathlib.Core.Bool.{xor}
-use Rattle.qrdata.specs.declared.level.Level.{Level}
-use Rattle.qrdata.specs.declared.level.Level.TheVariants.{M}
+use Rattle.labelcore.specs.declared.level.Level.{Level}
+use Rattle.labelcore.specs.declared.level.Level.TheVariants.{M}
 use Rattle.qrdata.specs.Bits.{codewords_of, number_of}
 use Rattle.qrdata.specs.Versions.{total_codewords}
 use Rattle.qrmatrix.specs.Bits.{bit}

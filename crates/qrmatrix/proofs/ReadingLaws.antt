@@ -7,7 +7,7 @@ use Rattle.std.specs.Prelude.{◌==◌, not, find, is_none, option_map, unwrap_o
 use Rattle.std.specs.List.{range_with_len, filter, list_all}
 use Rattle.std.proofs.lemmas.Bool.{and_from, and_parts, cases_lt, lt-leb, lt-ltb, ltb-true}
 use Rattle.std.proofs.lemmas.Bool.Decides.{nat_tests}
-use Rattle.qrdata.specs.declared.level.Level.{Level}
+use Rattle.labelcore.specs.declared.level.Level.{Level}
 use Rattle.qrmatrix.specs.Functions.{Role, Format, Version, is_free, role, fixed_module}
 use Rattle.qrmatrix.specs.Functions.{module_of_role}
 use Rattle.qrdata.specs.Bits.{number_of, codewords_of}

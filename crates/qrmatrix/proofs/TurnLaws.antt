@@ -11,7 +11,7 @@ use Rattle.std.specs.Option.{option_map}
 use mathlib.Core.Bool.{xor}
 use Rattle.std.proofs.lemmas.Bool.{and_parts, cases_lt, false≢true, ltb-true}
 use Rattle.std.proofs.lemmas.List.Elements.{All-from_recursion}
-use Rattle.qrdata.specs.declared.level.Level.{Level}
+use Rattle.labelcore.specs.declared.level.Level.{Level}
 use Rattle.qrdata.specs.Bits.{bits_of, codewords_of}
 use Rattle.qrdata.specs.Reading.{data_in, segments_at}
 use Rattle.qrdata.specs.Versions.{side_of, total_codewords}

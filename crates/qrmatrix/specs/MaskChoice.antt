@@ -2,7 +2,7 @@
 -- Why: `chosen_mask`: 7.8.1.
 use Rattle.std.specs.Prelude.{ℕ, List, Option, map, nat_le, unwrap_or}
 use Rattle.std.specs.List.{range_with_len, list_all, position_or_len}
-use Rattle.qrdata.specs.declared.level.Level.{Level}
+use Rattle.labelcore.specs.declared.level.Level.{Level}
 use Rattle.qrdata.specs.Versions.{side_of}
 use Rattle.qrmatrix.specs.Modules.{module_at}
 use Rattle.qrmatrix.specs.Penalty.{penalty}

@@ -2,7 +2,7 @@
 -- Why: `module_at`, `is_inside`: 7.7 to 7.10 together.
 use Rattle.std.specs.Prelude.{ℕ, Bool, ◌&&◌, nat_lt, List, unwrap_or}
 use Rattle.std.specs.Bool.{xor}
-use Rattle.qrdata.specs.declared.level.Level.{Level}
+use Rattle.labelcore.specs.declared.level.Level.{Level}
 use Rattle.qrdata.specs.Versions.{side_of}
 use Rattle.qrmatrix.specs.Functions.{fixed_module}
 use Rattle.qrmatrix.specs.Masks.{is_flipped}

@@ -8,8 +8,8 @@ use Rattle.std.specs.Bool.{beq, xor}
 use Rattle.std.specs.List.{range_with_len, filter, find, flat_map, list_all, list_any}
 use Rattle.gf256.specs.BinaryPolynomial.{binary_remainder}
 use Rattle.gf256.specs.ErrorCorrection.{wrong_codewords}
-use Rattle.qrdata.specs.declared.level.Level.{Level}
-use Rattle.qrdata.specs.declared.level.Level.TheVariants.{L, M, Q, H}
+use Rattle.labelcore.specs.declared.level.Level.{Level}
+use Rattle.labelcore.specs.declared.level.Level.TheVariants.{L, M, Q, H}
 use Rattle.qrdata.specs.Steps.{◌>>=◌}
 use Rattle.qrdata.specs.Bits.{number_of, codewords_of}
 use Rattle.qrdata.specs.Reading.{data_in}

@@ -5,7 +5,8 @@ ghost use Rattle.qrmatrix.specs.Private.FunctionRows;
 
 use crate::information::format_information;
 use crate::square::{SIDE, Square};
-use qrdata::{Level, Mask, Version};
+use labelcore::Level;
+use qrdata::{Mask, Version};
 
 /// Returns the row of the module in column 8 that has bit `i` of the format information (ISO/IEC 18004, 7.9).
 #[tactic(auto, unfolding(crate::specs::Private::FunctionRows::row_of_bit))]

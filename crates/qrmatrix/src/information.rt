@@ -2,7 +2,8 @@
 ghost use Rattle.std.specs.Prelude.{◌≡◌, ◌≤◌};
 ghost use Rattle.qrmatrix.specs.Information;
 
-use qrdata::{Level, Mask, Version};
+use labelcore::Level;
+use qrdata::{Mask, Version};
 
 /// The format information of 15 bits (ISO/IEC 18004, Annex C): a row for each level indicator, and in it a number for
 /// each mask.

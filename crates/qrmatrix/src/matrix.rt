@@ -1,6 +1,7 @@
 //! A drawn symbol.
 ghost use Rattle.std.specs.Prelude.{◌≡◌, ℕ, ◌<◌, ◌≤◌, ◌&&◌, length};
 ghost use Rattle.std.specs.Prelude.{slice_index};
+ghost use Rattle.labelcore.specs.Ranges.{IsMask};
 ghost use Rattle.qrdata.specs.Versions.{side_of, total_codewords};
 ghost use Rattle.qrmatrix.specs.Bits.{bit};
 ghost use Rattle.qrmatrix.specs.Modules.{is_inside};
@@ -11,7 +12,8 @@ ghost use Rattle.qrmatrix.specs.Private.Squares.{IsWithin};
 use crate::penalty::penalty;
 use crate::square::{SIDE, Square};
 use crate::unmasked::Unmasked;
-use qrdata::{Codewords, Level, Mask, Version, are_bytes};
+use labelcore::Level;
+use qrdata::{Mask, Version, Words, are_bytes};
 use std::marker::Model;
 
 /// The width of the quiet zone on each side of a symbol, in modules (ISO/IEC 18004, 9.1).
@@ -38,17 +40,18 @@ impl Model for Matrix {
 }
 
 impl Matrix {
-    /// Draws the codewords of a symbol under the given mask, or else under the mask of the lowest penalty,
+    /// Draws the codewords of a symbol under the given mask, 0 to 7, or else under the mask of the lowest penalty,
     /// the first of several (ISO/IEC 18004, 7.7 to 7.10). The modules read back as the version, the level and the
     /// codewords.
-    pub fn draw(version: Version, level: Level, mask: Option<Mask>, codewords: &Codewords) -> Matrix
-        requires { length codewords.now.items ≡ total_codewords version }
-        ensures { IsSymbolOf version level mask codewords.now.items result }
+    pub fn draw(version: Version, level: Level, mask: Option<u8>, words: &Words) -> Matrix
+        requires words { length words.now.items ≡ total_codewords version }
+        requires mask { IsMask mask }
+        ensures { IsSymbolOf version level mask words.now.items result }
     {
-        are_bytes(codewords);
-        let unmasked = Unmasked::draw(version, level, codewords);
+        are_bytes(words);
+        let unmasked = Unmasked::draw(version, level, words);
         let masked = match mask {
-            Some(mask) => unmasked.under(mask),
+            Some(number) => unmasked.under(Mask::of(number)),
             None => unmasked.under_best_mask(),
         };
         Matrix {
@@ -84,11 +87,12 @@ impl Matrix {
         self.side
     }
 
-    /// Returns the mask.
-    pub fn mask(&self) -> Mask
-        ensures { result ≡ self.now.mask }
+    /// Returns the number of the mask, 0 to 7.
+    pub fn mask(&self) -> u8
+        ensures value { result ≡ self.now.mask }
+        ensures known { result < 8 }
     {
-        self.mask
+        self.mask.number()
     }
 
     /// Returns the penalty of the modules (in the manner of ISO/IEC 18004, 7.8.3).

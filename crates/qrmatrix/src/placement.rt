@@ -10,7 +10,7 @@ ghost use Rattle.qrmatrix.specs.Private.Placing.{HasBits, IsStrip, MovesOn, Move
 ghost use Rattle.qrmatrix.specs.Private.Drawing.{MarksFree, PlacesCodewords};
 
 use crate::square::{SIDE, Square};
-use qrdata::{Codewords, Version};
+use qrdata::{Version, Words};
 
 /// Room for the codewords and zeros after them: enough that each module of the largest symbol has a bit, and seven
 /// bytes more.
@@ -233,7 +233,7 @@ fn place_strip(
 
 /// Places the codewords on the free modules, strip after strip from the right, upwards and downwards in turn (ISO/IEC
 /// 18004, 7.7.3).
-pub fn place(version: Version, codewords: &Codewords, free: &Square, modules: &mut Square)
+pub fn place(version: Version, codewords: &Words, free: &Square, modules: &mut Square)
     requires marked { MarksFree version free.now }
     requires light { (x y : ℕ) → x < side_of version → y < side_of version
         → is_free version x y ≡ true → value_at modules.old x y ≡ false }

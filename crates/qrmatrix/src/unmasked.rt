@@ -16,7 +16,8 @@ use crate::penalty::{penalty, penalty_below};
 use crate::placement::place;
 use crate::row_bits::low_ones;
 use crate::square::{SIDE, Square};
-use qrdata::{Codewords, Level, Mask, Version};
+use labelcore::Level;
+use qrdata::{Mask, Version, Words};
 
 /// Returns the mask that is tried in a turn: first mask 2, which most often has the lowest penalty, then the others.
 fn mask_in_turn(turn: u8) -> Mask
@@ -101,7 +102,7 @@ impl Masked {
 
 impl Unmasked {
     /// Draws the codewords without a mask.
-    pub fn draw(version: Version, level: Level, codewords: &Codewords) -> Unmasked
+    pub fn draw(version: Version, level: Level, codewords: &Words) -> Unmasked
         ensures { Draws version level codewords.now.items result }
     {
         let mut modules = Square::new();

@@ -1,9 +1,9 @@
-//! The texts of faults, of which no clause speaks; and runs over sinks whose flush fails, which the program's never do.
+//! The texts of faults, of which no clause speaks; runs over sinks whose flush fails, which the program's never do; and
+//! a file that the system does not have.
+use command::{End, OpenFault, open_file};
 use filter::{RunFault, Status, run};
-use labelcore::{Format, Options};
-use qrdata::Level;
+use labelcore::{FailAt, Format, Level, MemSink, MemSource, Options};
 use std::alloc::Global;
-use testing::{FailAt, MemSink, MemSource};
 
 /// Whether a fault is shown as this text.
 fn shows(alloc: Global, fault: RunFault, text: &str) -> bool {
@@ -70,4 +70,14 @@ fn flushes_fail(rt: HostRuntime) {
     assert!(rt;
         (second.image_calls == right.image_calls) & (second.message_calls == right.message_calls)
     );
+}
+
+#[test]
+fn no_file(rt: HostRuntime) {
+    match open_file(&rt, rt.alloc(), "no-such-file") {
+        Ok(_) => panic!(rt; "there is none"),
+        Err(fault) => assert!(rt; fault == OpenFault::NoFile),
+    }
+    assert!(rt; End::NoFile.status() == 3);
+    assert!(rt; End::NoFile.line() == "labels: cannot open file\n");
 }

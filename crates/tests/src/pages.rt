@@ -2,11 +2,11 @@
 use device::{Buffered, Sink, write_whole};
 use filter::{Status, run};
 use gf256::{Generator, mul, pow_alpha};
-use labelcore::{Fault, Format, Item, LineBuf, Options, Scratch, Symbology, parse};
-use linear::{Ean8, Linear, Refusal, Row};
+use labelcore::{Fault, Format, Item, Level, LineBuf, Options, Scratch, Symbology, parse};
+use linear::{Ean8, Linear, Row};
 use linear_reading::LinearReading;
-use picture::{Bars, Framed, QuietZone, Scaled, write_pbm};
-use qrdata::{Codewords, Level, Version, choose, codewords};
+use picture::{Bars, Framed, Scaled, write_pbm};
+use qrdata::{Words, choose, codewords};
 use qrmatrix::Matrix;
 use reading::{
     BitRegion, Bits, Dots, labels_are_read, modules_are_read, read, read_modules,
@@ -35,10 +35,10 @@ fn page_of_linear(rt: HostRuntime) {
     let mut row = Row::new();
     assert!(rt; Ean8::encode(b"7351353", &mut row).is_ok());
     assert!(rt; row.len() == 67);
-    let refusal = Refusal::WrongCheckDigit { given: 0, right: 7 };
-    assert!(rt; Ean8::encode(b"73513530", &mut row) == Err(refusal));
+    let fault = Fault::WrongCheckDigit { given: 0, right: 7 };
+    assert!(rt; Ean8::encode(b"73513530", &mut row) == Err(fault));
     assert!(rt; row.is_empty());
-    assert!(rt; Ean8::QUIET_ZONE.left == 7);
+    assert!(rt; Ean8::QUIET_LEFT == 7);
 }
 
 #[test]
@@ -85,44 +85,48 @@ fn page_of_reading(rt: HostRuntime) {
 #[test]
 fn page_of_gf256(rt: HostRuntime) {
     let block = [32, 91, 11, 120, 209, 114, 220, 77, 67, 64, 236, 17, 236];
-    let mut ec_codewords = [0; 13];
-    Generator::new(13).ec_codewords(&block, &mut ec_codewords);
-    assert!(rt; ec_codewords == [168, 72, 22, 82, 217, 54, 156, 0, 46, 15, 180, 122, 16]);
+    let mut parity = [0; 13];
+    Generator::new(13).parity(&block, &mut parity);
+    assert!(rt; parity == [168, 72, 22, 82, 217, 54, 156, 0, 46, 15, 180, 122, 16]);
     assert!(rt; mul(2, 128) == 29 && pow_alpha(8) == 29);
 }
 
 #[test]
 fn page_of_qrdata(rt: HostRuntime) {
-    let plan = match choose(Version::of(1), Level::Q, b"HELLO WORLD") {
+    let mut options = Options::default();
+    options.label = options.label.with_level(Level::Q);
+    let plan = match choose(&options, b"HELLO WORLD") {
         Ok(plan) => plan,
         Err(_) => panic!(rt; "it does not fit"),
     };
     assert!(rt; plan.version().number() == 1 && plan.bits() == 74);
-    let mut symbol = Codewords::new();
-    codewords(&plan, &mut symbol);
+    let mut symbol = Words::new();
+    codewords(&plan, b"HELLO WORLD", &mut symbol);
     assert!(rt; symbol.len() == 26 && symbol[0] == 32 && symbol[1] == 91);
 }
 
 #[test]
 fn page_of_qrmatrix(rt: HostRuntime) {
-    let plan = match choose(Version::of(1), Level::M, b"01234567") {
+    let plan = match choose(&Options::default(), b"01234567") {
         Ok(plan) => plan,
         Err(_) => panic!(rt; "it does not fit"),
     };
-    let mut symbol = Codewords::new();
-    codewords(&plan, &mut symbol);
+    let mut symbol = Words::new();
+    codewords(&plan, b"01234567", &mut symbol);
     let matrix = Matrix::draw(plan.version(), plan.level(), None, &symbol);
-    assert!(rt; matrix.side() == 21 && matrix.mask().number() == 0 && matrix.penalty() == 297);
+    assert!(rt; matrix.side() == 21 && matrix.mask() == 0 && matrix.penalty() == 297);
 }
 
 #[test]
 fn page_of_qr_reading(rt: HostRuntime) {
-    let plan = match choose(Version::of(1), Level::Q, b"HELLO WORLD") {
+    let mut options = Options::default();
+    options.label = options.label.with_level(Level::Q);
+    let plan = match choose(&options, b"HELLO WORLD") {
         Ok(plan) => plan,
         Err(_) => panic!(rt; "it does not fit"),
     };
-    let mut symbol = Codewords::new();
-    codewords(&plan, &mut symbol);
+    let mut symbol = Words::new();
+    codewords(&plan, b"HELLO WORLD", &mut symbol);
     let matrix = Matrix::draw(plan.version(), plan.level(), None, &symbol);
     let data = qr_reading::read(&matrix.rows()[..matrix.side()]);
     assert!(rt; data.is_some_and(|data| data.as_slice() == b"HELLO WORLD".as_slice()));
@@ -131,13 +135,7 @@ fn page_of_qr_reading(rt: HostRuntime) {
 #[test]
 fn page_of_picture(rt: HostRuntime) {
     let row = [true, false, true];
-    let zone = QuietZone {
-        left: 1,
-        right: 1,
-        top: 0,
-        bottom: 0,
-    };
-    let picture = Scaled::new(Framed::new(Bars::new(&row, 1), zone), 2);
+    let picture = Scaled::new(Framed::new(Bars::new(&row, 1), 1, 1, 0, 0), 2);
     let mut sink = MemSink::<64>::new(64, 64);
     assert!(rt; write_pbm(&picture, &mut sink).is_ok());
     assert!(rt; sink.bytes() == b"P1\n10 2\n0011001100\n0011001100\n".as_slice());
@@ -154,10 +152,10 @@ fn page_of_labelcore(rt: HostRuntime) {
     line.extend(b"ean8 7351353");
     let mut scratch = Scratch::new();
     let data = b"7351353".as_slice();
-    assert!(rt; parse(&options, &line, &mut scratch) == Item::Drawn(Symbology::Ean8, label, data));
+    assert!(rt; parse(&options, &line, &mut scratch) == Item::Draw(Symbology::Ean8, options, data));
     line.clear();
     line.push(b'x');
-    assert!(rt; parse(&options, &line, &mut scratch) == Item::Refused(Fault::UnknownSymbology));
+    assert!(rt; parse(&options, &line, &mut scratch) == Item::Refuse(Fault::UnknownSymbology));
 }
 
 #[test]

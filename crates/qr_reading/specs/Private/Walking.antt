@@ -3,8 +3,8 @@ use Rattle.std.specs.Prelude.{◌≡◌, ◌<◌, ℕ, ◌+◌, ◌*◌, Bool, f
 use Rattle.std.specs.Prelude.{not, ◌||◌, Some, slice_index}
 use Rattle.std.specs.Bool.{beq, xor}
 use Rattle.std.specs.List.{flat_map, list_all, range_with_len}
-use Rattle.qrdata.specs.declared.level.Level.{Level}
-use Rattle.qrdata.specs.declared.level.Level.TheVariants.{L, M, Q, H}
+use Rattle.labelcore.specs.declared.level.Level.{Level}
+use Rattle.labelcore.specs.declared.level.Level.TheVariants.{L, M, Q, H}
 use Rattle.qrdata.specs.Versions.{side_of}
 use Rattle.qrmatrix.specs.Bits.{bit}
 use Rattle.qrmatrix.specs.Functions.{fixed_module, is_free}

@@ -1,6 +1,6 @@
 -- The plan of the smallest version in a range (ISO/IEC 18004, 7.4.1).
 use Rattle.std.specs.Prelude.{◌≡◌, ℕ, ◌-◌, ◌<◌, ◌≤◌, List, ◌∷◌, length, drop}
-use Rattle.qrdata.specs.declared.level.Level.{Level}
+use Rattle.labelcore.specs.declared.level.Level.{Level}
 use Rattle.qrdata.specs.declared.mode.Mode.{Mode}
 use Rattle.qrdata.specs.declared.mode.Segment.{Segment}
 use Rattle.qrdata.specs.declared.plan.TheConstants.{MAX_SEGMENTS}
@@ -25,7 +25,6 @@ pub record IsSmallestPlan (lowest highest : ℕ) (level : Level) (bytes : List �
   pub from : lowest ≤ plan.version
   pub to : plan.version ≤ highest
   pub same_level : plan.level ≡ level
-  pub same_bytes : plan.bytes ≡ bytes
   pub same_segments : plan.segments ≡ chosen_segments plan.version bytes
   pub fits : cost plan.version (chosen_segments plan.version bytes) ≤ capacity plan.version level
   pub smallest : (v : ℕ) → lowest ≤ v → v < plan.version → DoNotFit v level bytes

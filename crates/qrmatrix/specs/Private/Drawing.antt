@@ -1,7 +1,7 @@
 -- The square of modules after each step of drawing a symbol (ISO/IEC 18004, 7.7 to 7.9).
 use Rattle.std.specs.Prelude.{◌≡◌, ℕ, ◌<◌, ◌≤◌, ◌^◌, Bool, true, false, not, List, if◌then◌else◌, nat_lt, Option}
 use Rattle.std.specs.Prelude.{Some, None}
-use Rattle.qrdata.specs.declared.level.Level.{Level}
+use Rattle.labelcore.specs.declared.level.Level.{Level}
 use Rattle.qrdata.specs.Versions.{side_of}
 use Rattle.qrmatrix.specs.Bits.{bit}
 use Rattle.qrmatrix.specs.Functions.{Role, Function, Format, Version, role, is_free}

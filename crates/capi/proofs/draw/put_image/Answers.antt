@@ -1,4 +1,4 @@
 use Rattle.capi.proofs.draw.put_image.Goals as goal
 
-pub returns-in-Refused-clause-answers : goal.returns-in-Refused-clause-answers
-returns-in-Refused-clause-answers c = rw (c.in-Ok.is, c.in-Refused.is) (c.refused.ensures c.args.out.now)
+pub returns-in-Refuse-clause-answers : goal.returns-in-Refuse-clause-answers
+returns-in-Refuse-clause-answers c = rw (c.in-Ok.is, c.in-Refuse.is) (c.refused.ensures c.args.out.now)

@@ -14,7 +14,7 @@ returns c =
     (omega arith) (c.height.ensures.value ∙ ap (λ o. o.label.height) is) c.unwrap_or-height.ensures in
     let version = NumberIs-read f (codes "min-version") _ c.small_number-2.ensures 1 10 _ _ _ c.requires.min_version
     (omega arith) (omega arith)
-    (c.number-lowest.ensures.value ∙ c.min_version.ensures ∙ ap (λ o. o.label.min_version) is)
+    (c.min_version.ensures.value ∙ ap (λ o. o.label.min_version) is)
     c.unwrap_or-min_version.ensures in
     made c.new.result _ c.new.ensures.some c.new.ensures.value (record {
       scale_low = scale.at_least;

@@ -22,38 +22,38 @@ drawn_line number o e = grind arith
 refused_outcome : (o : Outcome Symbol) (fault : Fault) → refusal_of o ≡ Err fault → o ≡ refused fault
 refused_outcome o fault e = grind arith
 
-pub returns-in-Skipped-clause-sends : goal.returns-in-Skipped-clause-sends
-returns-in-Skipped-clause-sends g c text at =
-    rw (outcome-found c.args.options.now text c.in-Skipped.is (c.parse.ensures.item text at))
+pub returns-in-Skip-clause-sends : goal.returns-in-Skip-clause-sends
+returns-in-Skip-clause-sends g c text at =
+    rw (outcome-found c.args.options.now text c.in-Skip.is (c.parse.ensures.item text at))
     (event_took c.args.options.now.run _ _ (of_line c.args.number skipped) (g.met.O.Sink.took_none c.args.out.now)
     (g.met.E.Sink.took_none c.args.err.now))
 
-pub returns-in-Skipped-clause-status : goal.returns-in-Skipped-clause-status
-returns-in-Skipped-clause-status g c text at =
-    rw (outcome-found c.args.options.now text c.in-Skipped.is (c.parse.ensures.item text at))
+pub returns-in-Skip-clause-status : goal.returns-in-Skip-clause-status
+returns-in-Skip-clause-status g c text at =
+    rw (outcome-found c.args.options.now text c.in-Skip.is (c.parse.ensures.item text at))
     (drawn_line c.args.number skipped refl).1
 
-pub returns-in-Refused-clause-sends : goal.returns-in-Refused-clause-sends
-returns-in-Refused-clause-sends g c text at =
-    rw (outcome-found c.args.options.now text c.in-Refused.is (c.parse.ensures.item text at))
+pub returns-in-Refuse-clause-sends : goal.returns-in-Refuse-clause-sends
+returns-in-Refuse-clause-sends g c text at =
+    rw (outcome-found c.args.options.now text c.in-Refuse.is (c.parse.ensures.item text at))
     (c.refuse.ensures.sends c.args.options.now.run)
 
-pub returns-in-Refused-clause-status : goal.returns-in-Refused-clause-status
-returns-in-Refused-clause-status g c text at =
-    rw (outcome-found c.args.options.now text c.in-Refused.is (c.parse.ensures.item text at)) c.refuse.ensures.status
+pub returns-in-Refuse-clause-status : goal.returns-in-Refuse-clause-status
+returns-in-Refuse-clause-status g c text at =
+    rw (outcome-found c.args.options.now text c.in-Refuse.is (c.parse.ensures.item text at)) c.refuse.ensures.status
 
 pub returns-in-Ok-Ok : goal.returns-in-Ok-Ok
 returns-in-Ok-Ok g c =
     let options = c.args.options.now in
-    let o = outcome_of (symbol_of c.in-Drawn.label c.in-Drawn.symbology c.in-Drawn.bytes.now) in
+    let o = outcome_of (symbol_of c.in-Draw.own.label c.in-Draw.symbology c.in-Draw.bytes.now) in
     let h = c.in-Ok-Ok.ensures.drawn in
     let clean = drawn_line c.args.number o (sym h.refusal ∙ c.in-Ok-Ok.field-0-is) in
     let took = g.E.Sink.took c.args.err.now c.args.err.now in
     record {
-      sends = λ text at. rw (outcome-found options text c.in-Drawn.is (c.parse.ensures.item text at))
+      sends = λ text at. rw (outcome-found options text c.in-Draw.is (c.parse.ensures.item text at))
           (event_took options.run _ took (of_line c.args.number o) h.writes.bytes
           (subst took clean.0 (g.met.E.Sink.took_none c.args.err.now)));
-      status = λ text at. rw (outcome-found options text c.in-Drawn.is (c.parse.ensures.item text at)) clean.1;
+      status = λ text at. rw (outcome-found options text c.in-Draw.is (c.parse.ensures.item text at)) clean.1;
       sinks = record {
         counts = (h.writes.count, refl);
         out_unflushed = h.writes.unflushed;
@@ -65,19 +65,19 @@ returns-in-Ok-Ok g c =
 pub returns-in-Ok-Err : goal.returns-in-Ok-Err
 returns-in-Ok-Err g c =
     let options = c.args.options.now in
-    let o = outcome_of (symbol_of c.in-Drawn.label c.in-Drawn.symbology c.in-Drawn.bytes.now) in
+    let o = outcome_of (symbol_of c.in-Draw.own.label c.in-Draw.symbology c.in-Draw.bytes.now) in
     let h = c.in-Ok-Err.ensures.drawn in
     let is = refused_outcome o c.in-Ok-Err.fault (sym h.refusal ∙ c.in-Ok-Err.field-0-is) in
     let none = subst (g.O.Sink.took c.args.out.now c.draw.new.out) (ap (image_of options.run) is) h.writes.bytes in
     let refuse = c.refuse-in-Ok-Err.ensures in
     record {
-      sends = λ text at. rw (outcome-found options text c.in-Drawn.is (c.parse.ensures.item text at) ∙ is)
+      sends = λ text at. rw (outcome-found options text c.in-Draw.is (c.parse.ensures.item text at) ∙ is)
           (both g.met.O.Sink.took_joined g.met.E.Sink.took_joined options.run c.args.out.now c.draw.new.out
           c.refuse-in-Ok-Err.new.out c.args.err.now c.args.err.now c.refuse-in-Ok-Err.new.err []
           (of_line c.args.number (refused c.in-Ok-Err.fault) ∷ []) c.refuse-in-Ok-Err.result
           (none_taken _ _ none (g.met.E.Sink.took_none c.args.err.now)) (refuse.sends options.run));
       status = λ text at.
-          rw (outcome-found options text c.in-Drawn.is (c.parse.ensures.item text at) ∙ is) refuse.status;
+          rw (outcome-found options text c.in-Draw.is (c.parse.ensures.item text at) ∙ is) refuse.status;
       sinks = record {
         counts = rw h.writes.count at refuse.sinks.counts;
         out_unflushed = λ e. h.writes.unflushed (refuse.sinks.out_unflushed e);
@@ -89,12 +89,12 @@ returns-in-Ok-Err g c =
 pub returns-in-Err : goal.returns-in-Err
 returns-in-Err g c =
     let options = c.args.options.now in
-    let o = outcome_of (symbol_of c.in-Drawn.label c.in-Drawn.symbology c.in-Drawn.bytes.now) in
+    let o = outcome_of (symbol_of c.in-Draw.own.label c.in-Draw.symbology c.in-Draw.bytes.now) in
     let writes = c.in-Err.ensures.drawn.writes in
     let out = g.O.Sink.took c.args.out.now c.draw.new.out in
     let err = g.E.Sink.took c.args.err.now c.args.err.now in
     record {
-      sends = λ text at. rw (outcome-found options text c.in-Drawn.is (c.parse.ensures.item text at))
+      sends = λ text at. rw (outcome-found options text c.in-Draw.is (c.parse.ensures.item text at))
           (event_stops options.run (taken out err) Images (of_line c.args.number o) [] writes.bytes
           (g.met.E.Sink.took_none c.args.err.now));
       status = λ text at. tt;

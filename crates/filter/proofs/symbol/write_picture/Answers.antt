@@ -1,5 +1,6 @@
-use Rattle.filter.proofs.Words.{ap, arith}
-use Rattle.picture.specs.Picture.{Picture}
+use Rattle.device.specs.Writing.{WritesText}
+use Rattle.filter.proofs.Words.{ap, arith, subst, text_of}
+use Rattle.picture.specs.Picture.{Picture, enlargement}
 use Rattle.filter.proofs.FilterLaws.{enlarged}
 use Rattle.filter.proofs.symbol.write_picture.Goals as goal
 
@@ -10,3 +11,9 @@ new-picture-requires-clause-fits g c =
       enlarged _ c.from.result (omega (arith, c.requires.width)) (omega (arith, c.scale.ensures.high)),
       enlarged _ c.from.result (omega (arith, c.requires.height)) (omega (arith, c.scale.ensures.high)),
     )
+
+pub returns : goal.returns
+returns g c =
+    subst (λ (p : Picture). WritesText g.O.Sink c.args.out.now c.write_text.new.out
+    (text_of c.args.run.now.format (enlargement p c.args.run.now.scale)) c.write_text.result) c.new.ensures
+    (rw (c.format.ensures, c.new-picture.ensures, c.from.ensures, c.scale.ensures.value) at c.write_text.ensures)

@@ -9,8 +9,8 @@ pub returns : goal.returns
 returns c =
     let count = c.args.count in
     let block = c.args.block.now in
-    let remainder = c.ec_codewords.new.out in
-    let are = subst (λ k. AreEcCodewords k block remainder) c.requires.count.0 c.ec_codewords.ensures in
+    let remainder = c.parity.new.out in
+    let are = subst (λ k. AreEcCodewords k block remainder) c.requires.count.0 c.parity.ensures in
     c.eq.ensures
     ∙ ap (bytes_eq c.args.ec_codewords.now) (take_at remainder _ count are.remainder.ec_codewords_length)
     ∙ remainder_tests count block c.args.ec_codewords.now remainder are c.requires.count.1 c.requires.short

@@ -14,7 +14,7 @@ use Rattle.qr_reading.proofs.block_reading.read_data.Goals as goal
 pub split_at-requires : goal.split_at-requires
 split_at-requires c =
     let sound = IsSound-of c.args.version c.args.level c.prove_range.ensures in
-    omega (arith, sound.all, c.data_codewords.ensures, c.if-codewords-total_codewords.false, c.total_codewords.ensures)
+    omega (arith, sound.all, c.data_words.ensures, c.if-codewords-total_words.false, c.total_words.ensures)
 
 pub sound_blocks-requires-clause-short : goal.sound_blocks-requires-clause-short
 sound_blocks-requires-clause-short c =
@@ -56,6 +56,6 @@ returns c =
     ∙ (lengths_hold version level).0 in
     let many : length (byte_bits c.in-Some.message.items) ≡ 8 * size =
     omega (arith, length-byte_bits c.in-Some.message.items, all) in
-    rw (← data_in-blocks version level codewords (c.if-codewords-total_codewords.false ∙ c.total_codewords.ensures), ← sound)
+    rw (← data_in-blocks version level codewords (c.if-codewords-total_words.false ∙ c.total_words.ensures), ← sound)
     (c.read_message.ensures ∙ ap (λ l. segments_at version (length (byte_bits l)) (byte_bits l)) message
     ∙ ap (λ n. segments_at version n (byte_bits c.in-Some.message.items)) many)

@@ -15,17 +15,17 @@ use Rattle.qrdata.proofs.codeword_sequence.codewords.Goals as goal
 pub write_symbol-requires : goal.write_symbol-requires
 write_symbol-requires c =
     let plan = c.args.plan.now in
-    let fit = c.segments.ensures.fit in
-    let bits = segments_bits plan.version plan.segments plan.bytes in
-    let long = length-segments_bits plan.version plan.segments plan.bytes fit.cut in
+    let bytes = c.args.«data».now in
+    let fit = c.requires in
+    let bits = segments_bits plan.version plan.segments bytes in
+    let long = length-segments_bits plan.version plan.segments bytes fit.cut in
     record {
       whole = rw (
         c.as_slice.ensures.value,
         c.push_data.ensures,
         c.version-version.ensures.value,
         c.level-level.ensures,
-        c.segments.ensures.value,
-        c.bytes-bytes.ensures,
+        c.segments.ensures,
       )
           (length-data_codewords_of (data_codewords plan.version plan.level) bits (omega (arith, fit.fits)));
     }
@@ -34,29 +34,29 @@ pub returns : goal.returns
 unfolding symbol_codewords
 returns c =
     let plan = c.args.plan.now in
-    let fit = c.segments.ensures.fit in
+    let text = c.args.«data».now in
+    let fit = c.requires in
     let known = rw c.version-version.ensures.value at c.version-version.ensures.known in
-    let bytes = rw c.bytes-bytes.ensures at c.are_bytes.ensures in
+    let bytes = c.are_bytes.ensures in
     let written = c.write_symbol.new.codewords.items in
-    let value : written ≡ symbol_codewords plan.version plan.level plan.segments plan.bytes =
+    let value : written ≡ symbol_codewords plan.version plan.level plan.segments text =
     rw (
       c.write_symbol.ensures,
       c.as_slice.ensures.value,
       c.push_data.ensures,
       c.version-version.ensures.value,
       c.level-level.ensures,
-      c.segments.ensures.value,
-      c.bytes-bytes.ensures,
+      c.segments.ensures,
     ) refl in
-    let read : data_in plan.version plan.level written ≡ Some plan.bytes =
-    rw value (data_in-symbol_codewords plan.version plan.level plan.segments plan.bytes known.0 known.1
-    (recursion_from_All (λ b. b < 256) plan.bytes bytes) fit.cut fit.fits) in
+    let read : data_in plan.version plan.level written ≡ Some text =
+    rw value (data_in-symbol_codewords plan.version plan.level plan.segments text known.0 known.1
+    (recursion_from_All (λ b. b < 256) text bytes) fit.cut fit.fits) in
     let elements : All (λ w. w < 256) written = rw value (All-from_recursion (λ w. w < 256) _
-    (AreBytes-symbol_codewords plan.version plan.level plan.segments plan.bytes known.0 known.1)) in
+    (AreBytes-symbol_codewords plan.version plan.level plan.segments text known.0 known.1)) in
     record {
       value = value;
-      count = length-read plan.version plan.level written plan.bytes read;
+      count = length-read plan.version plan.level written text read;
       read = read;
-      guarded = IsGuarded-of plan.version plan.level written plan.bytes known elements read;
-      corrected = IsCorrected-of plan.version plan.level written plan.bytes known elements read;
+      guarded = IsGuarded-of plan.version plan.level written text known elements read;
+      corrected = IsCorrected-of plan.version plan.level written text known elements read;
     }

@@ -27,12 +27,12 @@ end-requires c = record {
     arith,
     ap length (all_bits c.push_segments.ensures c.requires.empty),
     c.requires.plan.fits,
-    c.data_codewords-size.ensures,
+    c.data_words-size.ensures,
     length-segments_bits c.args.version c.args.segments.now c.args.bytes.now c.requires.plan.cut,
   );
   size = omega (
     arith,
-    data_codewords-few c.args.version c.args.level c.data_codewords-size.ensures c.prove_range.ensures,
+    data_codewords-few c.args.version c.args.level c.data_words-size.ensures c.prove_range.ensures,
   );
 }
 
@@ -42,7 +42,7 @@ returns c =
     let bits = segments_bits c.args.version c.args.segments.now c.args.bytes.now in
     let size = data_codewords c.args.version c.args.level in
     let ended : bits_in c.end.new.self ≡ with_zeros (with_terminator (8 * size) bits) =
-    rw (c.end.ensures.bits, all_bits c.push_segments.ensures c.requires.empty, c.data_codewords-size.ensures) refl in
+    rw (c.end.ensures.bits, all_bits c.push_segments.ensures c.requires.empty, c.data_words-size.ensures) refl in
     let codewords : c.end.new.self.codewords.items
     ≡ codewords_of (length (with_zeros (with_terminator (8 * size) bits)) / 8) (with_zeros (with_terminator
     (8 * size) bits)) =
@@ -51,7 +51,7 @@ returns c =
     c.len.ensures.value ∙ (ap length codewords
     ∙ length-codewords_of (length (with_zeros (with_terminator (8 * size) bits)) / 8) (with_zeros (with_terminator
     (8 * size) bits))) in
-    rw (c.push_padding.ensures, count, codewords, c.data_codewords-size.ensures) refl
+    rw (c.push_padding.ensures, count, codewords, c.data_words-size.ensures) refl
 
 pub push_padding-requires : goal.push_padding-requires
 push_padding-requires c = record {
@@ -59,6 +59,6 @@ push_padding-requires c = record {
     arith,
     c.len.ensures.value,
     c.end.ensures.count,
-    data_codewords-few c.args.version c.args.level c.data_codewords-size.ensures c.prove_range.ensures,
+    data_codewords-few c.args.version c.args.level c.data_words-size.ensures c.prove_range.ensures,
   );
 }

@@ -55,7 +55,6 @@ returns-in-Some-clause-some c =
       from = room.from;
       to = room.to;
       same_level = refl;
-      same_bytes = refl;
       same_segments = refl;
       fits = omega (arith, bits.value, bits.fits);
       smallest = λ u from below. omega (

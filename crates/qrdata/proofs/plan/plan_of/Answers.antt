@@ -2,7 +2,7 @@ use Rattle.std.proofs.Common.{◌≡◌, ◌≤◌, ◌++◌, ℕ, List, drop, l
 use Rattle.std.proofs.lemmas.List.{drop_all}
 use Rattle.qrdata.specs.declared.mode.Segment.{Segment}
 use Rattle.qrdata.specs.Fewest.{chosen_segments}
-use Rattle.qrdata.proofs.FewestBitsLaws.{chosen_segments-nil, chosen_segments-is}
+use Rattle.qrdata.proofs.FewestBitsLaws.{chosen_segments-nil}
 use Rattle.qrdata.proofs.FirstsTableLaws.{IsNamed-first}
 use Rattle.qrdata.proofs.plan.plan_of.Goals as goal
 
@@ -26,15 +26,8 @@ whole version bytes place segments e past = rw (drop_all place bytes past, chose
 
 pub invariant_of-result : goal.invariant_of-result
 invariant_of-result c =
-    let bytes = c.args.bytes.now in
-    rw (whole c.args.version bytes c.loop-place.place c.loop-place.segments.items c.loop-place.invariant.0
-    c.loop-place-test.false) (
-      c.requires.bits.value,
-      record {
-        cut = chosen_segments-is c.args.version bytes;
-        fits = omega (arith, c.requires.bits.value, c.requires.bits.fits);
-      },
-    )
+    rw (whole c.args.version c.args.bytes.now c.loop-place.place c.loop-place.segments.items c.loop-place.invariant.0
+    c.loop-place-test.false) c.requires.bits.value
 
 pub returns : goal.returns
 returns c =

@@ -2,5 +2,5 @@ use Rattle.qrdata.proofs.VersionLaws.{IsSound-of}
 use Rattle.qrdata.proofs.version.Version.ec_codewords_per_block.Goals as goal
 
 pub returns-clause-value : goal.returns-clause-value
-returns-clause-value c = rw (c.from.ensures, c.place.ensures, ← c.self.view_is)
+returns-clause-value c = rw (c.from.ensures, c.place_of.ensures, ← c.self.view_is)
     ((IsSound-of c.self.inside.number c.args.level c.self.invariant).coded_ec_codewords _)

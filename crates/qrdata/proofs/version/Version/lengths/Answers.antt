@@ -6,8 +6,8 @@ use Rattle.qrdata.proofs.version.Version.lengths.Goals as goal
 pub overflow_add-size : goal.overflow_add-size
 overflow_add-size c = omega (
   arith,
-  div-le_self c.data_codewords-codewords.result c.block_count-blocks.result,
-  data_codewords-few c.args.self c.args.level c.data_codewords-codewords.ensures c.prove_range.ensures,
+  div-le_self c.data_words-codewords.result c.block_count-blocks.result,
+  data_codewords-few c.args.self c.args.level c.data_words-codewords.ensures c.prove_range.ensures,
 )
 
 pub returns : goal.returns
@@ -17,5 +17,5 @@ returns c =
       c.push_lengths.ensures,
       c.new-lengths.ensures,
       c.block_count-blocks.ensures.value,
-      c.data_codewords-codewords.ensures,
+      c.data_words-codewords.ensures,
     ) (IsSound-of c.args.self c.args.level c.prove_range.ensures).even

@@ -13,37 +13,37 @@ use Rattle.qrmatrix.proofs.matrix.Matrix.draw.Goals.{in-Some, in-None}
 
 -- the modules that are drawn
 shown : (c : goal.After-side) (x y : ℕ) → value_at c.match-mask.masked.modules x y
-    ≡ module_at c.args.version c.args.level c.match-mask.masked.mask c.args.codewords.now.items x y
+    ≡ module_at c.args.version c.args.level c.match-mask.masked.mask c.args.words.now.items x y
 shown c =
     let drawn = c.draw-unmasked.ensures in
     elim c.match-mask.branch [
       | in-Some w ↦
           rw (w.masked-is, ← drawn.same_version, ← drawn.same_level)
-          (w.under-masked.ensures.modules c.args.codewords.now.items drawn.placed)
+          (w.under-masked.ensures.modules c.args.words.now.items drawn.placed)
       | in-None w ↦
           rw (w.masked-is, ← drawn.same_version, ← drawn.same_level)
-          (w.under_best_mask-masked.ensures.modules c.args.codewords.now.items drawn.placed)
+          (w.under_best_mask-masked.ensures.modules c.args.words.now.items drawn.placed)
     ]
 
 below : (c : goal.After-side) → c.match-mask.masked.mask < 8
 below c = elim c.match-mask.branch [ in-Some w ↦ search rules | in-None w ↦ search rules ]
 
 mask_is : (c : goal.After-side) → c.match-mask.masked.mask
-    ≡ chosen_mask c.args.version c.args.level c.args.mask c.args.codewords.now.items
+    ≡ chosen_mask c.args.version c.args.level c.args.mask c.args.words.now.items
 unfolding chosen_mask
 mask_is c =
     let drawn = c.draw-unmasked.ensures in
     elim c.match-mask.branch [
-      | in-Some w ↦ rw (w.masked-is, w.under-masked.ensures.mask, w.in-Some.is) refl
+      | in-Some w ↦ rw (w.masked-is, w.under-masked.ensures.mask, w.of.ensures, w.in-Some.is) refl
       | in-None w ↦
           rw (w.masked-is, w.in-None.is, ← drawn.same_version, ← drawn.same_level)
-          (w.under_best_mask-masked.ensures.mask c.args.codewords.now.items drawn.placed)
+          (w.under_best_mask-masked.ensures.mask c.args.words.now.items drawn.placed)
     ]
 
 pub returns : goal.returns
 returns c =
     let v = c.args.version in
-    let codewords = c.args.codewords.now.items in
+    let codewords = c.args.words.now.items in
     let mask = c.match-mask.masked.mask in
     let bytes : All (λ w. w < 256) codewords = rw c.deref.ensures.0 at c.are_bytes.ensures in
     let same : value_at c.match-mask.masked.modules ≡ module_at v c.args.level mask codewords =
@@ -52,7 +52,7 @@ returns c =
     let dark = value_at c.match-mask.masked.modules in
     let reads : read_matrix c.side.result dark ≡ Some symbol =
     rw (same, c.side.ensures.value) (reads_back v c.args.level mask codewords c.side.ensures.known.0
-    c.side.ensures.known.1 (below c) c.requires bytes) in
+    c.side.ensures.known.1 (below c) c.requires.words bytes) in
     record {
       side = c.side.ensures.value;
       mask = mask_is c;
@@ -69,6 +69,6 @@ invariant_of-result c =
       most = let a = c.side.ensures.known.1 in omega arith;
       within = λ x y out.
           shown c x y
-          ∙ module_outside c.args.version c.args.level c.match-mask.masked.mask c.args.codewords.now.items x y
+          ∙ module_outside c.args.version c.args.level c.match-mask.masked.mask c.args.words.now.items x y
           (subst (λ n. is_inside n x y ≡ false) c.side.ensures.value out);
     }

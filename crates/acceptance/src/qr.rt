@@ -1,0 +1,547 @@
+//! QR: products and parity, codewords, the matrix, and whole symbols. Matrices are compared with slow ones (`slow`).
+ghost use Rattle.std.specs.Prelude.{◌≡◌, length};
+ghost use Rattle.qrdata.specs.Versions.{total_codewords};
+
+mod slow;
+
+use crate::support::{gives_however_cut, options_by, ran_by, text_of};
+use gf256::{Generator, mul, pow_alpha};
+use labelcore::{Fault, Level, Options};
+use qrdata::{Version, Words, choose, codewords};
+use qrmatrix::Matrix;
+use slow::{Square, format_word, modules_under, penalty, version_word};
+use std::alloc::{AllocError, Global};
+use std::test::Fail;
+
+#[test]
+fn products_and_powers(rt: HostRuntime) {
+    for x in 0u8..=255 {
+        assert!(rt; mul(0, x) == 0);
+    }
+    assert!(rt;
+        (mul(2, 128) == 29) & (pow_alpha(8) == 29) & (pow_alpha(255) == 1) & (pow_alpha(256) == 2)
+    );
+}
+
+/// Words, and their parity: one word with 7 and with 10, and the data words of two symbols.
+const PARITIES: &[(&[u8], &[u8])] = &[
+    (&[1], &[127, 122, 154, 164, 11, 68, 117]),
+    (&[1], &[216, 194, 159, 111, 199, 94, 95, 113, 157, 193]),
+    (
+        &[
+            0x10, 0x20, 0x0C, 0x56, 0x61, 0x80, 0xEC, 0x11, 0xEC, 0x11, 0xEC, 0x11, 0xEC, 0x11,
+            0xEC, 0x11,
+        ],
+        &[0xA5, 0x24, 0xD4, 0xC1, 0xED, 0x36, 0xC7, 0x87, 0x2C, 0x55],
+    ),
+    (
+        &[32, 91, 11, 120, 209, 114, 220, 77, 67, 64, 236, 17, 236],
+        &[168, 72, 22, 82, 217, 54, 156, 0, 46, 15, 180, 122, 16],
+    ),
+];
+
+/// Whether words have this parity, which is 1 to 30 words.
+fn has_parity(words: &[u8], want: &[u8]) -> bool {
+    let count = want.len();
+    if (count == 0) | (count > 30) {
+        return false;
+    }
+    let mut parity = [9; 30];
+    Generator::new(count).parity(words, &mut parity[..count]);
+    &parity[..count] == want
+}
+
+#[test]
+fn parities(rt: HostRuntime) {
+    for (words, want) in PARITIES {
+        assert!(rt; has_parity(words, want));
+    }
+    let zeros = [0; 40];
+    for count in 1..31 {
+        assert!(rt; has_parity(&[], &zeros[..count]) & has_parity(&zeros, &zeros[..count]));
+    }
+}
+
+/// A front, and a byte that follows it so often: data that is mostly one byte.
+type Data = (&'static [u8], &'static [u8], usize);
+
+/// The data of a symbol: its bytes are written one after another.
+fn bytes_of(alloc: Global, (front, byte, times): Data) -> Result<Vec<u8>, AllocError> {
+    text_of(alloc, &[(front, 1), (byte, times)])
+}
+
+/// Words of the command line and data. Then the version, the bits of the segments, and the words of the symbol that
+/// stand from a place on.
+const CODEWORDS: &[(&[&str], Data, u8, u32, usize, &[u8])] = &[
+    (
+        &["--mask", "2"],
+        (b"01234567", b"", 0),
+        1,
+        41,
+        0,
+        &[
+            0x10, 0x20, 0x0C, 0x56, 0x61, 0x80, 0xEC, 0x11, 0xEC, 0x11, 0xEC, 0x11, 0xEC, 0x11,
+            0xEC, 0x11, 0xA5, 0x24, 0xD4, 0xC1, 0xED, 0x36, 0xC7, 0x87, 0x2C, 0x55,
+        ],
+    ),
+    (
+        &["--level", "Q"],
+        (b"HELLO WORLD", b"", 0),
+        1,
+        74,
+        0,
+        &[
+            32, 91, 11, 120, 209, 114, 220, 77, 67, 64, 236, 17, 236, 168, 72, 22, 82, 217, 54,
+            156, 0, 46, 15, 180, 122, 16,
+        ],
+    ),
+    // A terminator of one bit, and no padding.
+    (
+        &["--level", "L"],
+        (b"", b"1", 41),
+        1,
+        151,
+        0,
+        &[0x10, 0xA4, 0x6F],
+    ),
+    (&["--level", "L"], (b"", b"1", 41), 1, 151, 18, &[0x16]),
+    (&["--level", "L"], (b"", b"1", 42), 2, 154, 0, &[]),
+    // A terminator of four bits, which fills the last word.
+    (
+        &["--level", "L"],
+        (b"", b"a", 17),
+        1,
+        148,
+        0,
+        &[
+            0x41, 0x16, 0x16, 0x16, 0x16, 0x16, 0x16, 0x16, 0x16, 0x16, 0x16, 0x16, 0x16, 0x16,
+            0x16, 0x16, 0x16, 0x16, 0x10,
+        ],
+    ),
+    (
+        &["--level", "L"],
+        (b"", b"a", 18),
+        2,
+        156,
+        0,
+        &[
+            0x41, 0x26, 0x16, 0x16, 0x16, 0x16, 0x16, 0x16, 0x16, 0x16, 0x16, 0x16, 0x16, 0x16,
+            0x16, 0x16, 0x16, 0x16, 0x16, 0x10, 0xEC, 0x11, 0xEC, 0x11, 0xEC, 0x11, 0xEC, 0x11,
+            0xEC, 0x11, 0xEC, 0x11, 0xEC, 0x11,
+        ],
+    ),
+    // The most letters and the most digits.
+    (&["--level", "L"], (b"", b"a", 271), 10, 2188, 0, &[]),
+    (&["--level", "L"], (b"", b"1", 652), 10, 2190, 0, &[]),
+    // Blocks of 15, 15, 16 and 16 words, in a version that is larger than it has to be.
+    (
+        &["--level", "Q", "--min-version", "5"],
+        (b"", b"a", 30),
+        5,
+        252,
+        0,
+        &[0x41, 0x16, 0x16, 0xEC, 0xE6, 0x16, 0x10, 0x11],
+    ),
+    (
+        &["--level", "Q", "--min-version", "5"],
+        (b"", b"a", 30),
+        5,
+        252,
+        56,
+        &[0x16, 0x16, 0xEC, 0xEC, 0x11, 0x11],
+    ),
+    (&["--level", "Q"], (b"", b"a", 30), 3, 252, 0, &[]),
+    (
+        &["--level", "H"],
+        (b"1", b"", 0),
+        1,
+        18,
+        0,
+        &[0x10, 0x04, 0x40, 0xEC, 0x11, 0xEC, 0x11, 0xEC, 0x11],
+    ),
+    // Four blocks in turn. The words are their own places, but for the first two, which begin with mode and count,
+    // and the last, which ends with the terminator.
+    (
+        &["--level", "Q", "--min-version", "5"],
+        (
+            b"\x10\x20\x30\x40\x50\x60\x70\x80\x90\xA0\xB0\xC0\xD0\xE0\xF1\x01\x11\x21\x31\x41\x51\x61\x71\x81\
+              \x91\xA1\xB1\xC1\xD1\xE1\xF2\x02\x12\x22\x32\x42\x52\x62\x72\x82\x92\xA2\xB2\xC2\xD2\xE2\xF3\x03\
+              \x13\x23\x33\x43\x53\x63\x73\x83\x93\xA3\xB3\xC3",
+            b"",
+            0,
+        ),
+        5,
+        492,
+        0,
+        &[
+            0x43, 15, 30, 46, 0xC1, 16, 31, 47, 2, 17, 32, 48, 3, 18, 33, 49, 4, 19, 34, 50, 5, 20,
+            35, 51, 6, 21, 36, 52, 7, 22, 37, 53, 8, 23, 38, 54, 9, 24, 39, 55, 10, 25, 40, 56, 11,
+            26, 41, 57, 12, 27, 42, 58, 13, 28, 43, 59, 14, 29, 44, 60, 45, 0x30,
+        ],
+    ),
+];
+
+/// The codewords of data, over old ones, with their version and the bits of its segments.
+pub fn planned(options: &Options, data: &[u8]) -> Option<(u8, u32, Words)> {
+    match choose(options, data) {
+        Ok(plan) => {
+            let mut words = Words::new();
+            let _ = words.try_push(7);
+            codewords(&plan, data, &mut words);
+            Some((plan.version().number(), plan.bits(), words))
+        }
+        Err(_) => None,
+    }
+}
+
+/// Whether these words are there from a place on.
+pub fn has_words(words: &Words, from: usize, want: &[u8]) -> bool {
+    match words.as_slice().get(from..) {
+        Some(rest) => rest.starts_with(want),
+        None => false,
+    }
+}
+
+#[test]
+fn codewords_of_data(rt: HostRuntime) -> Result<(), Fail> {
+    for (words, data, version, bits, from, want) in CODEWORDS {
+        let options = options_by(rt.alloc(), words)?;
+        let data = bytes_of(rt.alloc(), *data)?;
+        let Some((number, sum, all)) = planned(&options, data.as_slice()) else {
+            panic!(rt; "it does not fit");
+        };
+        assert!(rt; (number == *version) & (sum == *bits) & has_words(&all, *from, want));
+    }
+    Ok(())
+}
+
+/// One letter and one digit more than the most.
+#[test]
+fn data_that_does_not_fit(rt: HostRuntime) -> Result<(), Fail> {
+    let options = options_by(rt.alloc(), &["--level", "L"])?;
+    for data in [(b"".as_slice(), b"a".as_slice(), 272), (b"", b"1", 653)] {
+        let data = bytes_of(rt.alloc(), data)?;
+        assert!(rt;
+            matches!(
+                &choose(&options, data.as_slice()),
+                Err(Fault::DoesNotFit(Level::L))
+            )
+        );
+    }
+    Ok(())
+}
+
+/// Format words of some levels and masks, and the version words.
+#[test]
+fn format_and_version_words(rt: HostRuntime) {
+    assert!(rt;
+        (format_word(Level::L, 0) == 0x77C4)
+            & (format_word(Level::M, 0) == 0x5412)
+            & (format_word(Level::M, 2) == 0x5E7C)
+            & (format_word(Level::Q, 0) == 0x355F)
+            & (format_word(Level::H, 0) == 0x1689)
+    );
+    assert!(rt;
+        (version_word(Version::of(7)) == 0x07C94)
+            & (version_word(Version::of(8)) == 0x085BC)
+            & (version_word(Version::of(9)) == 0x09A99)
+            & (version_word(Version::of(10)) == 0x0A4D3)
+    );
+}
+
+/// The penalties of `01234567` at level M under each mask.
+const PENALTIES: [u32; 8] = [297, 533, 397, 452, 570, 637, 419, 406];
+
+#[test]
+fn penalties_choose_the_mask(rt: HostRuntime) -> Result<(), Fail> {
+    let options = options_by(rt.alloc(), &[])?;
+    let Some((_, _, words)) = planned(&options, b"01234567") else {
+        panic!(rt; "it does not fit");
+    };
+    assert!(rt; words.len() == Version::of(1).total_words());
+    for (mask, want) in PENALTIES.iter().enumerate() {
+        assert!(rt; mask < 8);
+        let matrix = Matrix::draw(Version::of(1), Level::M, Some(mask as u8), &words);
+        assert!(rt; (matrix.penalty() == *want) & (usize::from(matrix.mask()) == mask));
+    }
+    let matrix = Matrix::draw(Version::of(1), Level::M, None, &words);
+    assert!(rt; (matrix.mask() == 0) & (matrix.penalty() == 297));
+    let rows = Matrix::draw(Version::of(1), Level::M, Some(2), &words);
+    let rows = rows.rows();
+    assert!(rt;
+        (rows[0] == 0x1FDA7F) & (rows[6] == 0x1FD57F) & (rows[20] == 0x052F7F) & (rows[21] == 0)
+    );
+    Ok(())
+}
+
+/// What the words of a symbol are made of.
+#[derive(Clone, Copy)]
+enum Filling {
+    /// All bits are 0.
+    Zeros,
+    /// All bits are 1.
+    Ones,
+    /// Each word is the low byte of its place.
+    Places,
+}
+
+impl Filling {
+    /// So many words with this filling.
+    fn words(self, count: usize) -> Words {
+        let mut words = Words::new();
+        for i in 0..count {
+            let _ = words.try_push(match self {
+                Filling::Zeros => 0,
+                Filling::Ones => 255,
+                Filling::Places => (i % 256) as u8,
+            });
+        }
+        words
+    }
+}
+
+/// Whether the symbol has the modules of the slow form.
+fn has_modules(matrix: &Matrix, slow: &Square) -> bool {
+    let mut are_same = true;
+    for y in 0..matrix.side() {
+        for x in 0..matrix.side() {
+            are_same &= matrix.dark(x, y) == slow.get(x, y);
+        }
+    }
+    are_same
+}
+
+/// Whether the symbols of these words are those of the slow form: under each mask, and under the first mask of the
+/// lowest penalty where none is given.
+fn are_slow(version: Version, level: Level, words: &Words) -> bool
+    requires { length words.now.items ≡ total_codewords version }
+{
+    let chosen = Matrix::draw(version, level, None, words);
+    let mut best = 0;
+    let mut lowest = u64::MAX;
+    let mut are_same = chosen.side() == version.side();
+    for mask in 0..8u8 {
+        let slow = modules_under(version, level, mask, words);
+        let points = penalty(&slow, version.side());
+        let matrix = Matrix::draw(version, level, Some(mask), words);
+        are_same &= has_modules(&matrix, &slow)
+            & (matrix.mask() == mask)
+            & (u64::from(matrix.penalty()) == points);
+        if points < lowest {
+            lowest = points;
+            best = mask;
+        }
+        if chosen.mask() == mask {
+            are_same &= has_modules(&chosen, &slow) & (u64::from(chosen.penalty()) == points);
+        }
+    }
+    are_same & (chosen.mask() == best)
+}
+
+#[test]
+fn every_symbol_is_that_of_the_slow_form(rt: HostRuntime) {
+    for number in 1..11u8 {
+        let version = Version::of(number);
+        for level in [Level::L, Level::M, Level::Q, Level::H] {
+            for filling in [Filling::Zeros, Filling::Ones, Filling::Places] {
+                let words = filling.words(version.total_words());
+                assert!(rt; words.len() == version.total_words());
+                assert!(rt; are_slow(version, level, &words), "version {number}");
+            }
+        }
+    }
+}
+
+/// The pixels of the symbol of `01234567` at level M under mask 2.
+pub const EXAMPLE: &[&[u8]] = &[
+    b"00000000000000000000000000000",
+    b"00000000000000000000000000000",
+    b"00000000000000000000000000000",
+    b"00000000000000000000000000000",
+    b"00001111111001011011111110000",
+    b"00001000001001111010000010000",
+    b"00001011101010000010111010000",
+    b"00001011101011000010111010000",
+    b"00001011101010111010111010000",
+    b"00001000001010001010000010000",
+    b"00001111111010101011111110000",
+    b"00000000000010011000000000000",
+    b"00001011111001001011111000000",
+    b"00000001010110101001011000000",
+    b"00000010001101010100111110000",
+    b"00000000100001000001111000000",
+    b"00000001111110010100100000000",
+    b"00000000000010111110011000000",
+    b"00001111111001101011000000000",
+    b"00001000001010111110001010000",
+    b"00001011101010001001011000000",
+    b"00001011101011001001000000000",
+    b"00001011101010110100101000000",
+    b"00001000001000000001101100000",
+    b"00001111111011110100101000000",
+    b"00000000000000000000000000000",
+    b"00000000000000000000000000000",
+    b"00000000000000000000000000000",
+    b"00000000000000000000000000000",
+];
+
+/// The pixels of the symbol of `HELLO WORLD` at level Q, as another program draws it.
+const HELLO: &[&[u8]] = &[
+    b"00000000000000000000000000000",
+    b"00000000000000000000000000000",
+    b"00000000000000000000000000000",
+    b"00000000000000000000000000000",
+    b"00001111111000010011111110000",
+    b"00001000001011001010000010000",
+    b"00001011101001011010111010000",
+    b"00001011101011111010111010000",
+    b"00001011101011010010111010000",
+    b"00001000001001001010000010000",
+    b"00001111111010101011111110000",
+    b"00000000000011011000000000000",
+    b"00000101111011001110110100000",
+    b"00001011110100001111011100000",
+    b"00000010101100010011000000000",
+    b"00001011010001011000110000000",
+    b"00001101111111101110111110000",
+    b"00000000000010001001010000000",
+    b"00001111111001100110011110000",
+    b"00001000001010100100101110000",
+    b"00001011101011010010001110000",
+    b"00001011101010111000101000000",
+    b"00001011101001000010000110000",
+    b"00001000001011100111001100000",
+    b"00001111111001010000000100000",
+    b"00000000000000000000000000000",
+    b"00000000000000000000000000000",
+    b"00000000000000000000000000000",
+    b"00000000000000000000000000000",
+];
+
+/// A picture of these pixels: what stands before them, for a light one, for a dark one, and after them.
+pub fn picture_of(
+    alloc: Global,
+    pixels: &[&[u8]],
+    (before, light, dark, after): (&[u8], &[u8], &[u8], &[u8]),
+) -> Result<Vec<u8>, AllocError> {
+    let mut text = Vec::new(alloc);
+    text.extend_from_slice(before)?;
+    for row in pixels {
+        for pixel in *row {
+            text.extend_from_slice(if *pixel == b'1' { dark } else { light })?;
+        }
+        text.push(b'\n')?;
+    }
+    text.extend_from_slice(after)?;
+    Ok(text)
+}
+
+/// A plain PBM file of 29 by 29 pixels.
+pub const PBM: (&[u8], &[u8], &[u8], &[u8]) = (b"P1\n29 29\n", b"0", b"1", b"");
+
+/// A text picture.
+const ASCII: (&[u8], &[u8], &[u8], &[u8]) = (b"", b"  ", b"##", b"\n");
+
+/// Words of the command line, a line, and the picture of these pixels that it gives, of so many bytes.
+type Drawn = (
+    &'static [&'static str],
+    &'static [u8],
+    &'static [&'static [u8]],
+    (&'static [u8], &'static [u8], &'static [u8], &'static [u8]),
+    usize,
+);
+
+const DRAWN: &[Drawn] = &[
+    (&["--mask", "2"], b"qr 01234567\n", EXAMPLE, PBM, 879),
+    (
+        &["--mask", "2", "--format", "ascii"],
+        b"qr 01234567\n",
+        EXAMPLE,
+        ASCII,
+        1712,
+    ),
+    (&["--level", "Q"], b"qr HELLO WORLD\n", HELLO, PBM, 879),
+];
+
+#[test]
+fn symbols_module_by_module(rt: HostRuntime) -> Result<(), Fail> {
+    for (words, line, pixels, texts, len) in DRAWN {
+        let options = options_by(rt.alloc(), words)?;
+        let want = picture_of(rt.alloc(), pixels, *texts)?;
+        assert!(rt; want.len() == *len);
+        assert!(rt; gives_however_cut(&options, line, want.as_slice(), b""));
+    }
+    Ok(())
+}
+
+/// Words of the command line, and the data of a line. Then how its image begins, and its length, or its message.
+const SIZES: &[(&[&str], Data, &[u8], usize, &[u8])] = &[
+    (&["--level", "L"], (b"", b"1", 41), b"P1\n29 29\n", 879, b""),
+    (
+        &["--level", "L"],
+        (b"", b"1", 42),
+        b"P1\n33 33\n",
+        1131,
+        b"",
+    ),
+    (&["--level", "L"], (b"", b"a", 17), b"P1\n29 29\n", 879, b""),
+    (
+        &["--level", "L"],
+        (b"", b"a", 18),
+        b"P1\n33 33\n",
+        1131,
+        b"",
+    ),
+    (
+        &["--level", "L"],
+        (b"", b"a", 271),
+        b"P1\n65 65\n",
+        4299,
+        b"",
+    ),
+    (
+        &["--level", "L"],
+        (b"", b"a", 272),
+        b"",
+        0,
+        b"line 1: data does not fit version 10-L\n",
+    ),
+    (
+        &["--level", "L"],
+        (b"", b"1", 652),
+        b"P1\n65 65\n",
+        4299,
+        b"",
+    ),
+    (
+        &["--level", "L"],
+        (b"", b"1", 653),
+        b"",
+        0,
+        b"line 1: data does not fit version 10-L\n",
+    ),
+    (
+        &["--level", "Q", "--min-version", "5"],
+        (b"", b"a", 30),
+        b"P1\n45 45\n",
+        2079,
+        b"",
+    ),
+    (&["--level", "H"], (b"1", b"", 0), b"P1\n29 29\n", 879, b""),
+];
+
+#[test]
+fn symbols_of_each_size(rt: HostRuntime) -> Result<(), Fail> {
+    for (words, (front, byte, times), header, len, messages) in SIZES {
+        let options = options_by(rt.alloc(), words)?;
+        let line = text_of(
+            rt.alloc(),
+            &[(b"qr ", 1), (*front, 1), (*byte, *times), (b"\n", 1)],
+        )?;
+        let ran = ran_by(&options, line.as_slice(), 4096);
+        let images = ran.images.bytes();
+        assert!(rt; images.starts_with(header) & (images.len() == *len));
+        assert!(rt; gives_however_cut(&options, line.as_slice(), images, messages));
+    }
+    Ok(())
+}

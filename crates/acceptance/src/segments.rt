@@ -1,0 +1,236 @@
+//! Mixed segments: the lists that are chosen, and that no list costs less.
+use crate::qr::{has_words, planned};
+use crate::support::{Ran, gives_however_cut, options_by, ran_by, text_of};
+use labelcore::{Fault, Level, Options};
+use qrdata::{Mode, Segment, choose};
+use std::alloc::Global;
+use std::test::Fail;
+
+/// Words of the command line and data: a front, and digits after it. Then the segments, their bits, the version, and
+/// the first words of the symbol.
+type Chosen = (
+    &'static [&'static str],
+    (&'static [u8], usize),
+    &'static [Segment],
+    u32,
+    u8,
+    &'static [u8],
+);
+
+const CHOSEN: &[Chosen] = &[
+    (
+        &["--level", "H"],
+        (b"a123456789", 0),
+        &[
+            Segment {
+                mode: Mode::Byte,
+                len: 1,
+            },
+            Segment {
+                mode: Mode::Numeric,
+                len: 9,
+            },
+        ],
+        64,
+        1,
+        &[0x40, 0x16, 0x11, 0x02, 0x47, 0xB7, 0x23, 0x15, 0x00],
+    ),
+    // No terminator.
+    (
+        &["--level", "Q"],
+        (b"ab1234567890cd", 0),
+        &[
+            Segment {
+                mode: Mode::Byte,
+                len: 2,
+            },
+            Segment {
+                mode: Mode::Numeric,
+                len: 10,
+            },
+            Segment {
+                mode: Mode::Byte,
+                len: 2,
+            },
+        ],
+        104,
+        1,
+        &[
+            0x40, 0x26, 0x16, 0x21, 0x02, 0x87, 0xB7, 0x23, 0x15, 0x04, 0x02, 0x63, 0x64,
+        ],
+    ),
+    // Two lists of 44 bits: the longest first segment is chosen.
+    (
+        &["--level", "M"],
+        (b"a123", 0),
+        &[Segment {
+            mode: Mode::Byte,
+            len: 4,
+        }],
+        44,
+        1,
+        &[],
+    ),
+    // Three segments would take 61 bits.
+    (
+        &["--level", "M"],
+        (b"a12b", 0),
+        &[Segment {
+            mode: Mode::Byte,
+            len: 4,
+        }],
+        44,
+        1,
+        &[
+            0x40, 0x46, 0x13, 0x13, 0x26, 0x20, 0xEC, 0x11, 0xEC, 0x11, 0xEC, 0x11, 0xEC, 0x11,
+            0xEC, 0x11,
+        ],
+    ),
+    (
+        &["--level", "L"],
+        (b"a", 644),
+        &[
+            Segment {
+                mode: Mode::Byte,
+                len: 1,
+            },
+            Segment {
+                mode: Mode::Numeric,
+                len: 644,
+            },
+        ],
+        2191,
+        10,
+        &[],
+    ),
+];
+
+/// Whether data gets this list.
+fn is_chosen(options: &Options, data: &[u8], row: &Chosen) -> bool {
+    let (_, _, segments, bits, version, words) = row;
+    let is_listed = match choose(options, data) {
+        Ok(plan) => (plan.segments() == *segments) & (plan.bits() == *bits),
+        Err(_) => false,
+    };
+    let has_symbol = match planned(options, data) {
+        Some((number, _, all)) => (number == *version) & has_words(&all, 0, words),
+        None => false,
+    };
+    is_listed & has_symbol
+}
+
+/// Whether this is a run over the line that drew an image with this header, and each other way to cut the line gives
+/// the same.
+fn draws(ran: &Ran, options: &Options, line: &[u8], header: &[u8]) -> bool {
+    let images = ran.images.bytes();
+    images.starts_with(header) & gives_however_cut(options, line, images, b"")
+}
+
+/// The header of an image of this version, 1 or 10.
+fn header_of(version: u8) -> &'static [u8] {
+    if version == 1 {
+        b"P1\n29 29\n"
+    } else {
+        b"P1\n65 65\n"
+    }
+}
+
+/// Whether the line of this data has an image of this version.
+fn is_drawn(alloc: Global, options: &Options, data: &[u8], version: u8) -> Result<bool, Fail> {
+    let mut line = text_of(alloc, &[(b"qr ", 1)])?;
+    line.extend_from_slice(data)?;
+    let ran = ran_by(options, line.as_slice(), 4096);
+    Ok(draws(&ran, options, line.as_slice(), header_of(version)))
+}
+
+#[test]
+fn lists_of_segments(rt: HostRuntime) -> Result<(), Fail> {
+    for row in CHOSEN {
+        let options = options_by(rt.alloc(), row.0)?;
+        let data = text_of(rt.alloc(), &[(row.1.0, 1), (b"1", row.1.1)])?;
+        assert!(rt; is_chosen(&options, data.as_slice(), row));
+        assert!(rt; is_drawn(rt.alloc(), &options, data.as_slice(), row.4)?);
+    }
+    Ok(())
+}
+
+#[test]
+fn one_digit_too_many(rt: HostRuntime) -> Result<(), Fail> {
+    let options = options_by(rt.alloc(), &["--level", "L"])?;
+    let line = text_of(rt.alloc(), &[(b"qr a", 1), (b"1", 645)])?;
+    assert!(rt;
+        matches!(
+            &choose(&options, &line.as_slice()[3..]),
+            Err(Fault::DoesNotFit(Level::L))
+        )
+    );
+    let message = b"line 1: data does not fit version 10-L\n";
+    assert!(rt; gives_however_cut(&options, line.as_slice(), b"", message));
+    Ok(())
+}
+
+/// What the bits of a segment are in versions 1 to 9: a mode, a count, and the payload. There are none if the mode
+/// lacks one of the bytes, which are `1`, `A` and `a`.
+fn cost(mode: Mode, bytes: &[u8]) -> Option<u32> {
+    let len = bytes.len() as u32;
+    match mode {
+        Mode::Numeric => {
+            if bytes.contains(&b'A') | bytes.contains(&b'a') {
+                return None;
+            }
+            Some(14 + len / 3 * 10 + [0, 4, 7][bytes.len() % 3])
+        }
+        Mode::Alphanumeric => {
+            if bytes.contains(&b'a') {
+                return None;
+            }
+            Some(13 + len / 2 * 11 + len % 2 * 6)
+        }
+        Mode::Byte => Some(12 + 8 * len),
+    }
+}
+
+/// The fewest bits of all lists of segments of some bytes: each first segment, with each list of what is left.
+fn fewest_bits(bytes: &[u8]) -> u32 {
+    if bytes.is_empty() {
+        return 0;
+    }
+    let mut fewest = u32::MAX;
+    for len in 0..bytes.len() {
+        let (first, rest) = bytes.split_at(len + 1);
+        for mode in [Mode::Numeric, Mode::Alphanumeric, Mode::Byte] {
+            if let Some(bits) = cost(mode, first) {
+                fewest = fewest.min(bits.saturating_add(fewest_bits(rest)));
+            }
+        }
+    }
+    fewest
+}
+
+/// The text whose characters are the digits of a number to the base 3, of which `1`, `A` and `a` are the digits.
+fn text_of_number(number: u32) -> [u8; 6] {
+    let characters = [b'1', b'A', b'a'];
+    let mut text = [b'1'; 6];
+    let mut rest = number;
+    for character in text.iter_mut() {
+        *character = characters[(rest % 3) as usize];
+        rest /= 3;
+    }
+    text
+}
+
+#[test]
+fn no_list_costs_less(rt: HostRuntime) -> Result<(), Fail> {
+    let options = options_by(rt.alloc(), &[])?;
+    for (shorter, texts) in [3u32, 9, 27, 81, 243, 729].iter().enumerate() {
+        for number in 0..*texts {
+            let text = text_of_number(number);
+            let data = &text[..shorter + 1];
+            match choose(&options, data) {
+                Ok(plan) => assert!(rt; plan.bits() == fewest_bits(data)),
+                Err(_) => panic!(rt; "it does not fit"),
+            }
+        }
+    }
+    Ok(())
+}
