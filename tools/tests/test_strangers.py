@@ -278,6 +278,30 @@ class Bombs(unittest.TestCase):
         for lines in (prices, codes):
             self.ended("\n".join(lines).encode())
 
+    def test_a_row_of_cells_with_line_ends(self) -> None:
+        row = ";".join(['"a\nb"'] * 6000)
+        said = self.ended(f"EAN;Name\n{CODE};a\n{row}\n".encode(), "--code", "EAN")
+        self.assertIn("row 3: the row has 6000 cells", said)
+
+    def test_a_style_sheet_of_many_rules(self) -> None:
+        """The page is in memory once at a time."""
+        with tempfile.TemporaryDirectory() as folder:
+            path = Path(folder, "page.svg")
+            rules = "a{fill:red}" * 300_000
+            path.write_text(
+                '<svg xmlns="http://www.w3.org/2000/svg" width="60mm" height="40mm" viewBox="0 0 '
+                f'60 40"><style>{rules}</style><rect data-place="code" x="2" y="12" width="56" '
+                'height="26" fill="none"/></svg>'
+            )
+            code = (
+                "import resource, sys; from labeltools.designs.svg_design import read_design\n"
+                "read_design(sys.argv[1], (60.0, 40.0), (0.0,) * 4, None)\n"
+                "print(resource.getrusage(resource.RUSAGE_SELF).ru_maxrss >> 10)\n"
+            )
+            command = [sys.executable, "-c", code, str(path)]
+            done = subprocess.run(command, capture_output=True, cwd=support.OURS)
+        self.assertLess(int(done.stdout or 9999), 420, done.stderr)
+
     def test_a_budget(self) -> None:
         budget = Budget("a.csv", 10)
         budget.take(CELLS, 4_000_020)
