@@ -652,6 +652,22 @@ class Queues(unittest.TestCase):
             done = self.printed(*words, "--again", "lost")
         self.assertRegex(done.stderr.decode(), "5 labels sent to lost, .*; it waits in the queue")
 
+    def test_cups_of_another_computer(self) -> None:
+        """It is asked for no password: there only jobs that are not over count."""
+        self.add("far", "zebra", "socket://127.0.0.1:1")
+        words = (*self.ROLL, "--print", "far")
+        job = mock.patch("labeltools.sending.job.IDLE", 0.5)
+        here = mock.patch("labeltools.sending.marks.cups_library")
+        with job, here as library:
+            library().getServer.return_value = "printers.example"
+            self.assertRegex(self.printed(*words).stderr.decode(), "5 labels sent to far")
+            self.assertIn(b"has the same labels: it waits", self.printed(*words).stderr)
+            (sent,) = own_jobs("far")
+            self.assertRegex(sent.title, "-0$")
+            subprocess.run(["cancel", "-a", "far"], check=True)
+            self.scheduler.wait(lambda: sent.state().is_over)
+            self.assertRegex(self.printed(*words).stderr.decode(), "5 labels sent to far")
+
     def test_cups_that_is_started_again(self) -> None:
         """The job is found again, and nothing is asked of the next one."""
         with socket.create_server(("127.0.0.1", 0)) as free:
