@@ -457,6 +457,12 @@ class Queues(unittest.TestCase):
         self.assertNotEqual(before, after)
         self.assertTrue(numpy.array_equal(raster_of(before)[1], raster_of(after)[1]))
 
+    def test_where_a_label_printer_begins_stays(self) -> None:
+        """Its keeper has set it up so that labels are where they have to be."""
+        found = queue_of("zebra").plain
+        self.assertNotIn("zeLabelTop", found)
+        self.assertEqual(queue_of("generpcl").plain, {"Duplex": "None"})
+
     def test_the_resolution_of_a_queue_without_a_driver(self) -> None:
         """That is asked for, whatever the queue has for jobs that do not say it."""
         self.scheduler.add_driverless("other-dots")

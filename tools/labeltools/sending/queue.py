@@ -215,13 +215,14 @@ def queue_of(name: str, chosen: Mapping[str, str] = NOTHING_CHOSEN) -> Queue:
     for option, value in chosen.items():
         driver.markOption(option, value)
     own = dots_of(driver)
-    plain = neutral_options(driver, {*SETS_DOTS.findall(text)})
+    papers = papers_of_driver(text)
+    plain = neutral_options(driver, {*SETS_DOTS.findall(text)}, papers.is_office)
     words = resolutions_of(driver)
     dpi = dpi_of(own)
     device = connection().getPrinterAttributes(name).get("device-uri", "")
     uneven = UNKNOWN if dpi else own
     common = 0 if dpi or words else common_dots(text)
-    return Queue(name, dpi, words, uneven, papers_of_driver(text), plain, device, common)
+    return Queue(name, dpi, words, uneven, papers, plain, device, common)
 
 
 def job_options(job: Job, queue: Queue, chosen: Mapping[str, str]) -> Mapping[str, str]:
