@@ -11,6 +11,7 @@ from labeltools.commands import label_print, label_table
 from labeltools.common import budget, report
 from labeltools.layout import area, frame
 from labeltools.lines import file
+from labeltools.paper.sizes import A4
 from labeltools.printing import job
 from labeltools.sending import network, outlets, stream, watch
 from labeltools.sheets import workbook
@@ -107,7 +108,7 @@ class Pages(unittest.TestCase):
         support.needs("mandoc")
         named = {
             "--edge": job.EDGE,
-            "--page": job.A4,
+            "--page": A4,
             "--gap": job.NO_GAP,
             "--dots": job.RECEIPT_DOTS,
             "--to": "pdf",

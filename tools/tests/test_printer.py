@@ -457,6 +457,12 @@ class Queues(unittest.TestCase):
         self.assertNotEqual(before, after)
         self.assertTrue(numpy.array_equal(raster_of(before)[1], raster_of(after)[1]))
 
+    def test_where_a_label_printer_begins_stays(self) -> None:
+        """Its keeper has set it up so that labels are where they have to be."""
+        found = queue_of("zebra").plain
+        self.assertNotIn("zeLabelTop", found)
+        self.assertEqual(queue_of("generpcl").plain, {"Duplex": "None"})
+
     def test_the_resolution_of_a_queue_without_a_driver(self) -> None:
         """That is asked for, whatever the queue has for jobs that do not say it."""
         self.scheduler.add_driverless("other-dots")
@@ -651,6 +657,22 @@ class Queues(unittest.TestCase):
             )
             done = self.printed(*words, "--again", "lost")
         self.assertRegex(done.stderr.decode(), "5 labels sent to lost, .*; it waits in the queue")
+
+    def test_cups_of_another_computer(self) -> None:
+        """It is asked for no password: there only jobs that are not over count."""
+        self.add("far", "zebra", "socket://127.0.0.1:1")
+        words = (*self.ROLL, "--print", "far")
+        job = mock.patch("labeltools.sending.job.IDLE", 0.5)
+        here = mock.patch("labeltools.sending.marks.cups_library")
+        with job, here as library:
+            library().getServer.return_value = "printers.example"
+            self.assertRegex(self.printed(*words).stderr.decode(), "5 labels sent to far")
+            self.assertIn(b"has the same labels: it waits", self.printed(*words).stderr)
+            (sent,) = own_jobs("far")
+            self.assertRegex(sent.title, "-0$")
+            subprocess.run(["cancel", "-a", "far"], check=True)
+            self.scheduler.wait(lambda: sent.state().is_over)
+            self.assertRegex(self.printed(*words).stderr.decode(), "5 labels sent to far")
 
     def test_cups_that_is_started_again(self) -> None:
         """The job is found again, and nothing is asked of the next one."""

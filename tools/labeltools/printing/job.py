@@ -19,10 +19,10 @@ from labeltools.layout.area import Area, ARTICLE, NO_PURPOSE, PURPOSES, Wishes
 from labeltools.layout.letters import FONT
 from labeltools.lines.file import UNPRINTABLE
 from labeltools.paper.plan import Edges, Plan, plan_of, unprinted_edges, whole_plan_of
+from labeltools.paper.sizes import A4
 from labeltools.paper.stock import Grid, grid_sheet, Sheet, Size, stock_sheet
 from labeltools.printing.selection import Selection
 
-A4 = (210.0, 297.0)
 NO_GAP = (0.0, 0.0)
 EDGE = 5.0  # millimetres at the edge of a page of several labels where most printers print nothing
 DRAWING_DPI = 600

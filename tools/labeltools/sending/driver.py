@@ -26,9 +26,14 @@ KEPT = re.compile(
     r"thermal|sensor|tracking|print ?mode|"
     r"user|account|manage?ment|password|department|billing|access|\bpin\b|\bid\b|digit|job ?type|"
     r"hold|secure|"
-    r"quality|resolution|densit|dark|speed|rate\b|toner|\binks?\b|econo|smooth|halftone|dither|"
+    r"quality|resolution|densit|dark|speed|rate\b|toner|\binks?\b|econo|smooth|half ?ton|dither|"
     r"screen|contrast|bright|gamma|satur|sharp|"
     r"colou?r|gr[ae]y|black|cmyk|rgb|profile|render|trap|intent",
+    re.IGNORECASE,
+)
+# on a label printer also where labels lie, and how long they are
+KEPT_ON_LABELS = re.compile(
+    r"\btop\b|\bleft\b|offset|position|shift|align|margin|continuous|label|size|paper",
     re.IGNORECASE,
 )
 NOT_KEPT = re.compile(r"mark|overlay|stamp|separat|banner|cover|duplex|mirror|image", re.IGNORECASE)
@@ -65,7 +70,9 @@ def options_of(driver: Any) -> Iterator[Any]:
                 yield from part.options
 
 
-def neutral_options(driver: Any, set_dots: Container[str]) -> Mapping[str, str]:
+def neutral_options(
+    driver: Any, set_dots: Container[str], is_office: bool = True
+) -> Mapping[str, str]:
     """Returns the options of a driver that could change a page, each with its choice that does
     nothing, and those that set its dots, each as it is marked: the quality of a job, which a queue
     may have by another name, would change them.
@@ -78,15 +85,17 @@ def neutral_options(driver: Any, set_dots: Container[str]) -> Mapping[str, str]:
             continue
         if option.keyword in set_dots:
             found.update({option.keyword: name for name in marked})
-        elif len(names) > 1 and not is_kept(option):
+        elif len(names) > 1 and not is_kept(option, is_office):
             found.update({option.keyword: name for name in neutral_of(names)})
     return found
 
 
-def is_kept(option: Any) -> bool:
+def is_kept(option: Any, is_office: bool) -> bool:
     """Returns whether an option stays as a queue has it."""
     told = f"{spaced(option.keyword)} {option.keyword} {option.text}"
-    return KEPT.search(told) is not None and NOT_KEPT.search(told) is None
+    if NOT_KEPT.search(told):
+        return False
+    return bool(KEPT.search(told)) or not is_office and bool(KEPT_ON_LABELS.search(told))
 
 
 def spaced(name: str) -> str:

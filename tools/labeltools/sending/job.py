@@ -243,12 +243,13 @@ def taken_as(queue: str, title: str) -> int:
         time.sleep(LOOKS[1])
 
 
-def own_jobs(queue: str) -> Iterator[SentJob]:
-    """Yields the jobs of a queue that this user has sent; raises `ToolError`."""
+def own_jobs(queue: str, which: str = "all") -> Iterator[SentJob]:
+    """Yields the jobs of a queue that this user has sent, all of them or those that are
+    "not-completed"; raises `ToolError`.
+    """
+    names = ["job-id", *ASKED]
     with refusals(queue) as cups:
-        found = cups.getJobs(
-            which_jobs="all", my_jobs=True, requested_attributes=["job-id", *ASKED]
-        )
+        found = cups.getJobs(which_jobs=which, my_jobs=True, requested_attributes=names)
     for number, job in found.items():
         uri, title, created = (job.get(name) for name in ASKED)
         if unquote(str(uri).rpartition("/")[2]) == queue:

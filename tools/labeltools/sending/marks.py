@@ -2,7 +2,8 @@
 
 The mark of such a job is a subscription of CUPS to the end of jobs. The title of the job has its
 number, and a sum of what is printed. A run that learns how its job ended takes the mark away. CUPS
-keeps marks for a day, also if it is started again.
+keeps marks for a day, also if it is started again. That of another computer would ask for a
+password to take one away: its jobs have none, and only those that are not over count.
 """
 
 import hashlib
@@ -15,10 +16,11 @@ from urllib.parse import quote
 from labeltools.common.messages import ToolError
 from labeltools.common.text import give, joined, Remedy, Text
 from labeltools.printing.job import Job
-from labeltools.sending.cups import refusals
+from labeltools.sending.cups import cups_library, refusals
 from labeltools.sending.job import own_jobs, print_by, SentJob, Unseen
 from labeltools.sending.queue import NOTHING_CHOSEN, Queue
 
+NONE = 0  # the number of a job without a mark
 ENDS = ["job-completed"]  # of printed jobs, and of those that were cancelled or given up
 BLOCK = 1 << 20  # bytes that are read at once
 LETTERS = 16  # of a sum
@@ -53,13 +55,19 @@ def sum_of(file: IO[bytes]) -> str:
 
 
 def marked(queue: str, labels: str) -> Iterator[SentJob]:
-    """Yields the jobs of the same labels on a queue that still have their marks."""
+    """Yields the jobs of the same labels on a queue that have a mark still, or had none."""
     marks = marks_of(queue)
     with suppress(ToolError):
-        for sent in own_jobs(queue) if marks else ():
+        for sent in own_jobs(queue, "all" if marks else "not-completed"):
             found = MARKED.fullmatch(sent.title)
-            if found and found[1] == labels and int(found[2]) in marks:
+            if found and found[1] == labels and mark_of(sent) in {NONE, *marks}:
                 yield sent
+
+
+def mark_of(sent: SentJob) -> int:
+    """Returns the number of the mark of a job."""
+    found = MARKED.fullmatch(sent.title)
+    return int(found[2]) if found else NONE
 
 
 def check_end(sent: SentJob) -> None:
@@ -68,7 +76,8 @@ def check_end(sent: SentJob) -> None:
     """
     try:
         state = sent.state()
-        if state.is_over and not state.is_printed and not state.is_begun:
+        is_unprinted = not state.is_printed and not state.is_begun
+        if state.is_over and (is_unprinted or mark_of(sent) == NONE):
             return
         told = state.told
     except Unseen as error:
@@ -84,10 +93,11 @@ def uri_of(queue: str) -> str:
 
 
 def new_mark(queue: str) -> int:
-    """Returns the number of a new mark; 0 where CUPS makes none."""
+    """Returns the number of a new mark, if CUPS makes one."""
+    is_here = cups_library().getServer().startswith("/")  # a socket of this computer
     with suppress(ToolError), refusals(queue) as cups:
-        return int(cups.createSubscription(uri_of(queue), events=ENDS))
-    return 0
+        return int(cups.createSubscription(uri_of(queue), events=ENDS)) if is_here else NONE
+    return NONE
 
 
 def marks_of(queue: str) -> set[int]:
@@ -100,7 +110,6 @@ def marks_of(queue: str) -> set[int]:
 
 def unmark(sent: SentJob) -> None:
     """Takes the mark of a job away, once somebody was told how it ended."""
-    found = MARKED.fullmatch(sent.title)
-    if found and int(found[2]):
+    if mark_of(sent) != NONE:
         with suppress(ToolError), refusals(sent.queue) as cups:
-            cups.cancelSubscription(int(found[2]))
+            cups.cancelSubscription(mark_of(sent))

@@ -11,13 +11,13 @@ from typing import NamedTuple
 from labeltools.common.messages import BAD_ARGUMENTS, ToolError
 from labeltools.common.text import joined, Remedy, Text
 from labeltools.paper.plan import Edges, MILLIMETRES, POINTS
+from labeltools.paper.sizes import A4, is_near, LETTER
 from labeltools.paper.stock import Size, size_text
 from labeltools.printing.job import AS_GIVEN
 
 POINT = MILLIMETRES / POINTS
 NEAR = 0.5  # by which a page may differ from a paper: drivers round to points
 NO_EDGES: Edges = (0.0, 0.0, 0.0, 0.0)
-OFFICE = ((210.0, 297.0), (215.9, 279.4))  # A4 and Letter
 NARROW = 20.0  # narrower papers only label printers have
 NUMBER = r"\s*(-?[0-9.]+)"
 NAMED = r"^\*{}\s+([^/:\s]+)[^:\n]*:\s*\"" + NUMBER + r"{}\s*\""
@@ -82,7 +82,7 @@ class Papers:
         """Whether a printer of these papers is one for letters, and not for labels."""
         if any(min(paper.size) < NARROW for paper in self.known):
             return False
-        return any(is_near(paper.size, page) for paper in self.known for page in OFFICE)
+        return any(is_near(paper.size, page, NEAR) for paper in self.known for page in (A4, LETTER))
 
     def find(self, page: Size) -> PrinterPaper | None:
         """Returns the paper of a page, whose name is empty if it has none; None where there is no
@@ -91,7 +91,7 @@ class Papers:
         if self.is_too_wide(page):
             return None
         for paper in self.known:
-            if is_near(paper.size, page):
+            if is_near(paper.size, page, NEAR):
                 return self.within_head(paper)
         ends = zip(self.least, page, self.most)
         if all(least - NEAR <= side <= most + NEAR for least, side, most in ends):
@@ -158,11 +158,6 @@ class Papers:
         what = Text("{} says that it takes no paper below {}", printer, size_text(self.least))
         given = Text("if it takes {} all the same give {}", size_text(page), AS_GIVEN)
         return Unsaid(what, joined("; ", (given, SHEETS)), BAD_ARGUMENTS)
-
-
-def is_near(one: Size, other: Size) -> bool:
-    """Returns whether two sizes are one paper."""
-    return max(abs(one[0] - other[0]), abs(one[1] - other[1])) <= NEAR
 
 
 def apart(one: Size, other: Size) -> float:

@@ -12,6 +12,7 @@ from typing import Any
 from labeltools.common.messages import ToolError
 from labeltools.common.text import Text
 from labeltools.drawing.forms import PDF
+from labeltools.printing.job import is_direct
 from labeltools.sending.cups import connection, cups_library, queues
 from labeltools.sending.job import trouble_of
 from labeltools.sending.network import SCHEME
@@ -90,7 +91,9 @@ def direct_printer(key: str, way: str, kept: Mapping[str, str]) -> Printer:
 
 def lost_printer(key: str) -> Printer:
     """Returns a printer that is not there any more."""
-    way = NETWORK if key.startswith(SCHEME) else USB if "/" in key else QUEUE
+    way = QUEUE
+    if is_direct(key):
+        way = NETWORK if key.startswith(SCHEME) else USB
     return Printer(key, key.removeprefix(SCHEME), way, LOST, False)
 
 

@@ -11,6 +11,7 @@ from urllib.parse import urlsplit
 from labeltools.common.messages import BAD_ARGUMENTS, ToolError
 from labeltools.common.text import either, joined, NOTHING, Remedy, shell_line, shell_word, Text
 from labeltools.drawing.forms import PDF
+from labeltools.paper.sizes import is_near, NAMED
 from labeltools.paper.stock import Size
 from labeltools.printing.job import DRAWING_DPI, Job
 from labeltools.sending.cups import connection, cups_library, queues
@@ -27,15 +28,6 @@ from labeltools.sending.driver import (
 )
 from labeltools.sending.papers import Papers, papers_of_driver, papers_of_ipp, PrinterPaper, Unsaid
 
-# sizes of paper that CUPS has names of, in millimetres
-NAMED = {
-    "A3": (297.0, 420.0),
-    "A4": (210.0, 297.0),
-    "A5": (148.0, 210.0),
-    "A6": (105.0, 148.0),
-    "Letter": (215.9, 279.4),
-    "Legal": (215.9, 355.6),
-}
 NEAR = 0.3  # millimetres by which a page may differ from a paper with a name
 USUAL_DPI = (203, 300, 600)  # of label printers and of others
 RAW = {"raw": "true"}
@@ -223,13 +215,14 @@ def queue_of(name: str, chosen: Mapping[str, str] = NOTHING_CHOSEN) -> Queue:
     for option, value in chosen.items():
         driver.markOption(option, value)
     own = dots_of(driver)
-    plain = neutral_options(driver, {*SETS_DOTS.findall(text)})
+    papers = papers_of_driver(text)
+    plain = neutral_options(driver, {*SETS_DOTS.findall(text)}, papers.is_office)
     words = resolutions_of(driver)
     dpi = dpi_of(own)
     device = connection().getPrinterAttributes(name).get("device-uri", "")
     uneven = UNKNOWN if dpi else own
     common = 0 if dpi or words else common_dots(text)
-    return Queue(name, dpi, words, uneven, papers_of_driver(text), plain, device, common)
+    return Queue(name, dpi, words, uneven, papers, plain, device, common)
 
 
 def job_options(job: Job, queue: Queue, chosen: Mapping[str, str]) -> Mapping[str, str]:
@@ -284,6 +277,6 @@ def media_of(page: Size) -> str:
     ('A4', 'Custom.60x40mm')
     """
     for name, sides in NAMED.items():
-        if max(abs(page[0] - sides[0]), abs(page[1] - sides[1])) <= NEAR:
+        if is_near(page, sides, NEAR):
             return name
     return f"Custom.{page[0]:g}x{page[1]:g}mm"
