@@ -16,7 +16,7 @@ from dataclasses import replace
 from functools import partial
 from importlib import import_module
 from io import StringIO
-from itertools import product
+from itertools import permutations, product
 from pathlib import Path
 from types import SimpleNamespace
 from typing import Any, Callable
@@ -596,14 +596,44 @@ class WindowTest(Keeper):
         roll = ("--paper", "60x40", "--to", "zpl", "--dpi", "203")
         self.assertEqual(self.saved("labels.zpl"), self.by_commands(*roll))
 
-    def test_a_file_behind_a_label_printer_is_pdf(self) -> None:
-        """The language of a printer is not that of a file, which is opened by other programs."""
+    def test_a_file_of_sheets_behind_a_label_printer_is_pdf(self) -> None:
+        """The language of a printer is for a roll, and the button says it."""
         self.open()
-        self.change(roll=True, to="zpl", dpi="203")
-        self.remade(lambda: self.window.of_printers.choose(printers.FILE))
-        chosen = self.window.choices()
-        self.assertEqual((chosen["to"], chosen["dpi"], chosen["roll"]), ("pdf", "600", True))
+        printers.PRINTERS.keep("tcp://10.0.0.1", {"to": "zpl", "dpi": "300", "name": "Till"})
+        self.chosen("tcp://10.0.0.1")
+        for act, form, dpi, label in (
+            (lambda: self.window.of_printers.choose(printers.FILE), "zpl", "300", "Sa_ve ZPL…"),
+            (lambda: self.window.take({"sheet": True}), "pdf", "600", "Sa_ve PDF…"),
+            (lambda: self.window.take({"roll": True}), "zpl", "300", "Sa_ve ZPL…"),
+            (lambda: self.window.take({"to": "pdf"}), "pdf", "600", "Sa_ve PDF…"),
+        ):
+            self.remade(act)
+            chosen = self.window.choices()
+            self.assertEqual((chosen["to"], chosen["dpi"]), (form, dpi), label)
+            self.assertEqual(self.window.print_button.get_label(), label)
         self.assertTrue(self.saved("labels.pdf").startswith(b"%PDF-"))
+
+    def test_nothing_stays_of_the_printer_before(self) -> None:
+        """Each way from one printer to another one ends in what that one prints."""
+        scheduler.add("next-office", "plain")
+        scheduler.add("next-zebra", "zebra")
+        self.open()
+        printers.PRINTERS.keep("tcp://10.0.0.1", {"to": "escpos", "dpi": "180", "name": "Till"})
+        printers.PRINTERS.keep("tcp://10.0.0.2", {"to": "zpl", "dpi": "300", "name": "Shelf"})
+        wanted = {
+            "next-office": (False, "pdf", "600"),
+            "next-zebra": (True, "pdf", "203"),
+            "tcp://10.0.0.1": (True, "escpos", "180"),
+            "tcp://10.0.0.2": (True, "zpl", "300"),
+        }
+        for first, then in permutations((*wanted, printers.FILE), 2):
+            for key in (first, then):
+                self.chosen(key)
+            if then == printers.FILE and self.window.choices()["roll"]:
+                self.remade(lambda: self.window.take({"sheet": True}))
+            chosen = self.window.choices()
+            found = (chosen["roll"], chosen["to"], chosen["dpi"])
+            self.assertEqual(found, wanted.get(then, (False, "pdf", "600")), (first, then))
 
     def test_the_designs_that_come_with_it_are_a_folder_of_the_dialog(self) -> None:
         folders = self.window.design_opener.list_shortcut_folders()
@@ -1066,7 +1096,7 @@ class WindowTest(Keeper):
     def test_no_printer(self) -> None:
         """Then a file is saved; a printer in the network needs no CUPS."""
         self.open()
-        self.until(lambda: self.window.print_button.get_label() == "Sa_ve…")
+        self.until(lambda: self.window.print_button.get_label() == "Sa_ve PDF…")
         keys = [row[3] for row in self.window.printers]
         self.assertEqual(keys, ["add", "file"])
         with mock.patch.object(sending, "connection", side_effect=ToolError(NOTHING)):

@@ -2,8 +2,8 @@
 before it, and a currency behind it is below the cents. The decimal sign stays. Lengths are in sizes
 of the letters of the price.
 
-Digits are equally wide in the usual fonts. So what a price takes is measured once for all prices
-that differ only in digits behind the first letter.
+Digits are equally wide in the usual fonts, but for their white at the sides. So what a price takes
+is measured once for all prices that differ only in digits between the first and the last letter.
 """
 
 import math
@@ -15,7 +15,7 @@ from typing import NamedTuple
 from labeltools.layout.frame import PRICE_STYLES
 from labeltools.layout.letters import Letters
 
-KEPT = 128  # shapes of prices of which the extent is kept
+KEPT = 512  # shapes of prices of which the extent is kept
 ROUNDED_PRICE = 32  # parts of the size of letters to which widths are rounded up
 CENTS = 0.57  # letters of cents
 CURRENCY = 0.33  # letters of a currency
@@ -86,10 +86,12 @@ def is_currency(text: str) -> bool:
 def shape_of(price: str, letters: Letters) -> str:
     """Returns a price that takes as much as this one, and is the same for many.
 
-    >>> shape_of("12,80 €", Letters("DejaVu Sans"))
-    '10,00 €'
+    >>> [shape_of(price, Letters("DejaVu Sans")) for price in ("12,80 €", "$12.89", "7")]
+    ['10,00 €', '$00.09', '7']
     """
-    return price[:1] + price[1:].translate(ZEROS) if letters.has_equal_digits else price
+    if len(price) < 2 or not letters.has_equal_digits:
+        return price
+    return price[0] + price[1:-1].translate(ZEROS) + price[-1]
 
 
 @lru_cache(KEPT)

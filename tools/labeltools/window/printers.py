@@ -34,6 +34,8 @@ ICONS = {QUEUE: "printer-symbolic", USB: "printer-symbolic"}
 LANGUAGES = ("zpl", "escpos")  # of printers that take labels one by one
 USUAL_DPI = 203  # of these printers
 DRAWING_DPI = 600
+PDF = ("pdf", DRAWING_DPI)  # a form, and its dots an inch
+NAMES = {"pdf": "PDF", "zpl": "ZPL", "escpos": "ESC/POS"}
 TEST = b'#{"title":"Test","price":"1,00"}\ncode128 TEST-123\n'
 Shown = tuple[str, str, str, str]  # of the list: a name, an icon, a state, a key
 TEST_SIZE = "50x25"  # millimetres of a test label
@@ -47,6 +49,7 @@ class Printers:
         self.all: dict[str, Printer] = {}
         self.wanted = ""  # the key of the one that is chosen, or was when labels went out
         self.is_decided = False  # what it is sent, by choices of older versions
+        self.of_files = {False: PDF, True: PDF}  # the form of a file of sheets, and of a roll
         self.thread = ThreadPoolExecutor(1)
         window.printer.set_row_separator_func(lambda model, row: model[row][3] == NONE)
         window.printer.connect("notify::popup-shown", lambda *_: self.refresh())
@@ -112,8 +115,13 @@ class Printers:
             PRINTERS.keep(key, kept)
             self.all |= {one.key: one for one in printers({key: kept}) if one.key == key}
         self.is_decided = bool(choices.get("to"))
+        form, is_roll = choices.get("to"), choices.get("roll")
+        if is_roll and form in LANGUAGES:
+            self.of_files[True] = form, int(choices.get("dpi") or USUAL_DPI)
         if key:
             self.settle(key)
+        if key == FILE:
+            self.fit_file()
 
     def settle(self, key: str) -> None:
         """Shows a printer as chosen; it decides nothing."""
@@ -122,9 +130,12 @@ class Printers:
         self.show_button()
 
     def show_button(self) -> None:
-        """Names the button after what it does."""
-        is_file = self.wanted == FILE
-        self.window.print_button.set_label(_("Sa_ve…") if is_file else _("_Print…"))
+        """Names the button after what it does, and a file after its form."""
+        text = _("_Print…")
+        if self.wanted == FILE:
+            form = self.window.choices()["to"]
+            text = _("Sa_ve {form}…").format(form=NAMES.get(form, form))
+        self.window.print_button.set_label(text)
 
     def choose(self, key: str) -> None:
         """Chooses a printer: it decides the language, the dots, and sheets or a roll."""
@@ -134,14 +145,16 @@ class Printers:
         self.show_button()
         self.window.questions.clear()
         printer = self.chosen
-        if key == FILE and self.window.choices()["to"] in LANGUAGES:
-            self.decide("pdf", DRAWING_DPI, self.window.choices()["roll"])
+        if key == FILE:
+            self.fit_file()
+            self.window.make()
         elif printer is None or printer.is_lost:
             self.window.make()
         elif not printer.form:
             self.ask_language(printer)
         elif printer.form in LANGUAGES:
-            self.decide(printer.form, printer.dpi or USUAL_DPI, True)
+            self.of_files[True] = printer.form, printer.dpi or USUAL_DPI
+            self.decide(*self.of_files[True], True)
         else:
             self.window.has_labels = False  # they are for another printer
             self.window.let_out(False)
@@ -160,6 +173,17 @@ class Printers:
             self.add()
         elif key:
             self.choose(key)
+
+    def fit_file(self) -> None:
+        """Takes the form of a file, if one is saved: of sheets PDF or what was chosen for them, of a
+        roll the language of the last label printer.
+        """
+        chosen = self.window.choices()
+        form, dpi = self.of_files[chosen["roll"]]
+        if self.wanted in (FILE, "") and chosen["to"] != form:
+            with self.window.filling():
+                self.window.take({"to": form, "dpi": str(dpi)})
+        self.show_button()
 
     def decide_by_queue(self, key: str, future: "Future[Queue]") -> None:
         """Makes the labels for a queue, whose driver is known now."""
@@ -188,9 +212,13 @@ class Printers:
 
     def take_language(self, form: str) -> bool:
         """Keeps the language of a printer that takes labels one by one, which understands nothing
-        else; returns whether there is one.
+        else, or that of a file; returns whether there is such a printer.
         """
         printer = self.chosen
+        if printer is None:
+            usual = USUAL_DPI if form in LANGUAGES else DRAWING_DPI
+            self.of_files[self.window.choices()["roll"]] = form, usual
+            self.show_button()
         if printer is None or printer.way == QUEUE:
             return False
         if form in LANGUAGES:

@@ -139,7 +139,6 @@ class Window(Gtk.ApplicationWindow):
                 self.names_width.add_widget(one)
         for folder in filter(Path.is_dir, DESIGNS):
             self.design_opener.add_shortcut_folder(str(folder))
-        self.roll.connect("toggled", self.fit_paper)
         self.fit_paper()
         self.connect_after("key-press-event", self.on_key)
         self.completion.set_match_func(lambda *_: True)
@@ -253,13 +252,20 @@ class Window(Gtk.ApplicationWindow):
         """Closes the bar by Escape, where nothing else takes that key."""
         return bool(event.keyval == Gdk.KEY_Escape and self.events.hide())
 
-    def fit_paper(self, _roll: Any = None) -> None:
+    def fit_paper(self) -> None:
         """Shows what a sheet is chosen by, or a roll."""
         is_roll = self.roll.get_active()
         for part in (self.size, self.size_caption):
             part.set_visible(is_roll)
         for part in (self.stock, self.first, *self.first.list_mnemonic_labels()):
             part.set_visible(not is_roll)
+
+    def on_paper(self, _sheet: Any) -> None:
+        """Makes labels on a sheet, or on a roll."""
+        self.fit_paper()
+        if not self.is_filling:
+            self.of_printers.fit_file()
+            self.make()
 
     def on_destroy(self, _window: Any) -> None:
         """Ends work."""
