@@ -50,6 +50,12 @@ LANGUAGES = (
 )
 
 
+def commands_in(said: str) -> list[str]:
+    """The words of the commands that label-table proposes, each on a line of its own."""
+    lines = said.splitlines()
+    return [line.partition(" ")[2] for line in lines if line.startswith("label-table ")]
+
+
 def guessed(text: str, options: TableOptions = TableOptions()) -> Guess:
     """The guess of a table."""
     return guess_of(text.encode(), "table.csv", options, Silence())
@@ -120,29 +126,39 @@ class Guesses(unittest.TestCase):
             path = Path(folder, "Hofladen Mai.csv")
             path.write_text(f"Hofladen;\n{names}\n{row}\n")
             done = support.run("label-table", path)
-            asked, _, proposed = support.messages(done)[-1].partition("; try ")
-            self.assertIn("--price may be Normalpreis, Sonderpreis", asked)
             self.assertEqual((done.returncode, done.stdout), (2, b""))
+            prices = "Normalpreis", "Sonderpreis"
             self.assertEqual(
-                proposed,
-                "label-table --code Strichcode --title Produkt --copies 'Anzahl Etiketten' "
-                f"--header-row 2 '{path}'",
+                support.messages(done),
+                [
+                    "label-table: found the code in Strichcode, the title in Produkt, the number of "
+                    "labels in 'Anzahl Etiketten'",
+                    "label-table: only you know which column has the price: Normalpreis, Sonderpreis",
+                    "label-table: one of these makes the labels:",
+                    *(
+                        f"label-table --code Strichcode --title Produkt --price {price} --copies "
+                        f"'Anzahl Etiketten' --header-row 2 '{path}'"
+                        for price in prices
+                    ),
+                ],
             )
             path.write_text("Ware;Code;SKU;VK\nKugellager;M-10023;S-77120;4,20\n")
-            self.assertIn(
-                "--code may be Code, SKU; try "
-                + ", ".join(
-                    f"label-table --code {name} --title Ware --price VK --symbology code128 '{path}'"
+            said = support.run("label-table", path).stderr.decode()
+            self.assertIn("only you know which column has the code: Code, SKU\n", said)
+            self.assertEqual(
+                commands_in(said),
+                [
+                    f"--code {name} --title Ware --price VK --symbology code128 '{path}'"
                     for name in ("Code", "SKU")
-                ),
-                support.messages(support.run("label-table", path))[-1],
+                ],
             )
             said = support.messages(support.run("label-table", "--symbology", "qr", path))[-1]
             self.assertNotIn("code128", said)  # what was asked for stays
             self.check_proposals(Path(folder))
             path.write_text("Name;Ort\nUlla;Ulm\n")
             said = support.messages(support.run("label-table", path))[-1]
-            self.assertTrue(said.endswith("required: --code; try label-table --help"), said)
+            what = f"error: no column of {path} seems to have codes: "
+            self.assertEqual(said, f"label-table: {what}give --code and the column that has them")
             done = support.run("label-table", Path(folder, "none.csv"))
             self.assertIn("No such file", support.messages(done)[-1])
 
@@ -159,9 +175,9 @@ class Guesses(unittest.TestCase):
             with tempfile.TemporaryDirectory() as folder:
                 path = Path(folder, "table.csv")
                 path.write_text("\n".join([name, *codes.split()]))
-                said = support.messages(support.run_here("label-table", path))[-1]
+                said = support.run_here("label-table", path).stderr.decode()
                 self.assertIn(f"most codes in {name} are not EAN or UPC: ", said)
-                proposed = said.partition("; try label-table ")[2].split(", label-table ")
+                proposed = commands_in(said)
                 self.assertEqual(proposed, [f"--code {name} {one} {path}" for one in ways])
                 for one in proposed:
                     done = support.run_here("label-table", *shlex.split(one))
@@ -204,7 +220,7 @@ class Guesses(unittest.TestCase):
             path = Path(folder, "table.csv")
             path.write_text(text)
             said = support.run_here("label-table", path).stderr.decode()
-            words = shlex.split(said.partition("try label-table ")[2].partition(", label-")[0])
+            words = shlex.split(commands_in(said)[0])
             return said, support.run_here("label-table", *words)
 
     def test_the_plain_name_wins_and_the_others_are_named(self) -> None:
@@ -217,15 +233,17 @@ class Guesses(unittest.TestCase):
         ):
             price = names.split(";")[2]
             said, done = self.proposed_and_run(f"{names}\n{row}\n")
-            first, last = said.splitlines()
-            quoted = shlex.quote(price)
-            self.assertEqual(first, f"label-table: the price is {quoted}; others: {others}")
-            self.assertIn(f"--code EAN --title Name --price {quoted} ", last)
+            self.assertIn(f"\nlabel-table: others may have the price, too: {others}\n", said)
+            [command] = commands_in(said)
+            self.assertIn(f"--code EAN --title Name --price {shlex.quote(price)} ", command)
             self.assertIn(b'"price":"4,95"', done.stdout)
         for names in ("EAN;Name;Price;Sale price", "EAN;Name;Preis A;Preis B"):
             said, done = self.proposed_and_run(f"{names}\n{row[:-5]}\n")  # two that may be paid
-            self.assertIn("; --price may be ", said, names)
-            self.assertNotIn(b'"price"', done.stdout)
+            prices = names.split(";")[2:]
+            self.assertIn("\nlabel-table: only you know which column has the price: ", said)
+            for price, command in zip(prices, commands_in(said), strict=True):
+                self.assertIn(f" --price {shlex.quote(price)} ", command)
+            self.assertIn(b'"price"', done.stdout)
 
     def test_amounts_and_numbers_decide_where_names_do_not(self) -> None:
         """The command of a table whose names are plain, but for which one is meant."""
@@ -242,7 +260,7 @@ class Guesses(unittest.TestCase):
             self.assertEqual((done.returncode, done.stdout.count(b"ean13 ")), (0, 3), more)
         lines = ["priref;Objektnummer;Title", "40012;1956.012;Tea", "40013;1956.013a;Gum"]
         said, _ = self.proposed_and_run("\n".join(lines) + "\n")
-        self.assertIn("--code may be priref, Objektnummer; try label-table ", said)
+        self.assertIn("only you know which column has the code: priref, Objektnummer\n", said)
 
     def test_variants_of_a_shop(self) -> None:
         """Programs of shops write the title into the first row of an article alone."""
@@ -326,11 +344,11 @@ class Guesses(unittest.TestCase):
                 if wanted:
                     self.assertIn(f"the table is read as {wanted}, with words such as ", said)
                     self.assertIn(f": if letters are wrong, leave out --encoding {wanted}\n", said)
-                    words = shlex.split(said.partition("try label-table ")[2])
-                    done = support.run_here("label-table", *words)
+                    [command] = commands_in(said)
+                    done = support.run_here("label-table", *shlex.split(command))
                     self.assertIn(f'"title":"{title}"'.encode(), done.stdout)
                 else:
-                    self.assertNotIn("try label-table", said)
+                    self.assertEqual(commands_in(said), [])
                 done = support.run_here("label-table", "--code", "1", "--title", "2", path)
                 self.assertEqual((done.returncode, done.stdout), (1, b""), title)
                 self.assertIn(b" is not UTF-8, as line ", done.stderr)
@@ -428,7 +446,7 @@ class Guesses(unittest.TestCase):
         row = "4006381333931;<p>A <b>mild</b> tea</p>;Tea, mild\n"
         self.assertEqual(guessed(f"{names}\n{row}").columns["title"], 2)
 
-    def test_prices_of_programs_get_two_decimals_if_their_currency_is_known(self) -> None:
+    def test_prices_of_programs_get_two_decimals(self) -> None:
         for names, price, proposed, wanted in (
             ("EAN;Price (EUR);x", "0.8;y", "--price-as '0.00 EUR'", "0.80 EUR"),
             (
@@ -438,7 +456,9 @@ class Guesses(unittest.TestCase):
                 "34.00",
             ),
             ("EAN;Preis;x", '"0,8 €";y', "--price-as '0,00 ¤'", "0,80 €"),
-            ("EAN;Price;x", "0.8;y", "", "0.8"),
+            ("EAN;Price;x", "0.8;y", "--price-as 0.00", "0.80"),
+            ("EAN;Preis;x", "0,8;y", "--price-as 0,00", "0,80"),
+            ("EAN;Price;x", "1.859;y", "", "1.859"),  # which is no rounding
             ("EAN;Price (EUR);x", "0.80;y", "", "0.80"),
             ("EAN;Price;x", "3.44850000;y", "--price-as 0.00", "3.45"),  # which is too long
         ):
@@ -455,9 +475,9 @@ class Guesses(unittest.TestCase):
             with tempfile.TemporaryDirectory() as folder:
                 path = Path(folder, "table.xlsx")
                 path.write_bytes(kind(first, goods))
-                said = support.messages(support.run_here("label-table", path))[-1]
+                said = support.run_here("label-table", path).stderr.decode()
             if first is notes:
-                self.assertIn("try label-table --code EAN --title Name --sheet Goods ", said)
+                self.assertIn("\nlabel-table --code EAN --title Name --sheet Goods ", said)
             else:
                 self.assertIn("give --sheet Tabelle1 or Goods", said)
 
@@ -521,9 +541,9 @@ class Guesses(unittest.TestCase):
             path = Path(folder, "table.csv")
             path.write_text(text, encoding="cp1252" if "cp1252" in words else "utf-8")
             done = support.run("label-table", *words.split(), path)
-            proposed = support.messages(done)[-1].partition("; try ")[2]
+            proposed = commands_in(done.stderr.decode())[0]
             self.assertTrue(words in proposed and more in proposed, proposed)
-            done = support.run(*shlex.split(proposed))
+            done = support.run("label-table", *shlex.split(proposed))
             self.assertEqual((done.returncode, done.stderr), (0, b""), proposed)
             titles = 2 if "header-row 2" in more else 1
             self.assertEqual(done.stdout.count(b'"row"'), text.count("\n") - titles)

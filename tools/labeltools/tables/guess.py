@@ -55,8 +55,8 @@ class Guess:
     """The names of the columns; their places, from 0, by the options of label-table; how each
     column may be read that may have the codes; the row of the names, 0 where there is none; a text
     of each column; the `doubts` that only the keeper can settle, and the `others` that may be meant
-    beside what was found; columns that belong to these; the format that the prices need, if any;
-    and the columns of money that no customer pays, where there is no other one.
+    beside what was found; columns that belong to these; the formats that the prices need, by their
+    columns; and the columns of money that no customer pays, where there is no other one.
     """
 
     names: Sequence[str]
@@ -67,8 +67,13 @@ class Guess:
     doubts: Mapping[str, Sequence[int]] = field(default_factory=dict)
     others: Mapping[str, Sequence[int]] = field(default_factory=dict)
     beside: Mapping[str, int] = field(default_factory=dict)
-    price_as: str = ""
+    formats: Mapping[int, str] = field(default_factory=dict)
     unpaid: Sequence[int] = ()
+
+    @property
+    def price_as(self) -> str:
+        """The format that the prices of the column need which surely has them; empty for none."""
+        return self.formats.get(self.columns.get("price", -1), "")
 
     @property
     def rules(self) -> CodeRules:
@@ -159,7 +164,7 @@ def guess_by(columns: Samples) -> Guess:
         doubts={kind: choice.may_be for kind, choice in choices.items() if choice.is_asked},
         others={kind: places for kind, places in others.items() if places},
         beside=beside,
-        price_as=price_format(columns, price, beside),
+        formats=formats_of(columns, price, "currency" in beside),
         unpaid=[] if price.taken or is_single else unpaid_columns(columns, used),
     )
 
@@ -212,12 +217,15 @@ def columns_beside(
     }
 
 
-def price_format(columns: Samples, price: Choice, beside: Mapping[str, int]) -> str:
-    """Returns the format that the prices need; empty if they need none."""
-    if price.surely is None:
-        return ""
-    column = columns[price.surely]
-    return pattern_for(column.texts, column.name, "currency" in beside)
+def formats_of(columns: Samples, price: Choice, has_currencies: bool) -> Mapping[int, str]:
+    """Returns the formats that prices need, by their columns; `has_currencies` is whether another
+    column has the currencies.
+    """
+    patterns = (
+        (place, pattern_for(columns[place].texts, columns[place].name, has_currencies))
+        for place in price.taken
+    )
+    return {place: pattern for place, pattern in patterns if pattern}
 
 
 def text_in(cell: str) -> str:
