@@ -6,17 +6,19 @@ import re
 import sys
 from contextlib import suppress
 from dataclasses import fields, replace
-from typing import Any, Callable, Sequence, TypeVar
+from typing import Any, Callable, Mapping, Sequence, TypeVar
 
 from labeltools.common.arguments import flag, Parser, value, words_of, wrong_argument
 from labeltools.common.budget import Budget, TABLE
 from labeltools.common.messages import (
+    BAD_ARGUMENTS,
     BadArguments,
     Origin,
     quoted,
     sentence,
     Silence,
     ToolError,
+    visible,
     write_message,
 )
 from labeltools.common.process import CommandTalk, read_file, read_input, standard_output
@@ -24,7 +26,6 @@ from labeltools.common.report import listed
 from labeltools.common.text import (
     either,
     joined,
-    NOTHING,
     remedies_of,
     Remedy,
     shell_line,
@@ -60,13 +61,21 @@ SETTINGS = re.compile("[a-z-]+=[A-Za-z0-9]+(?:,[a-z-]+=[A-Za-z0-9]+)*")
 DELIMITER = re.compile('[^"\r\n\0 \x80-\U0010ffff]|tab|none')
 ROW_NUMBER = re.compile("[1-9][0-9]{0,6}")
 SIGNS = {"comma": ",", "point": ".", ",": ",", ".": "."}
-MOST_PROPOSED = 3  # commands
+MOST_PROPOSED = 8  # commands
 MOST_NAMED = 8  # columns of which one is meant
 NO_PRICE = Text(
     "no price is proposed, since these may be single things, such as tickets or library books"
 )
 PRICED = Remedy("price")
-OF_KINDS = {"code": Text("the code"), "title": Text("the title"), "price": Text("the price")}
+# what is found in the columns of options, in the order in which it is named
+OF_KINDS = {
+    "code": Text("the code"),
+    "title": Text("the title"),
+    "price": Text("the price"),
+    "unit-price": Text("the price of a unit"),
+    "old-price": Text("the old price"),
+    "copies": Text("the number of labels"),
+}
 MOST_ALIKE = 50  # messages about rows that differ in their cells alone
 AS_IN_TABLE = Remedy("price-as", says=Text("As in the table"), is_less=True)
 NOT_TOGETHER = Text(
@@ -284,8 +293,7 @@ def understood(words: Sequence[str]) -> argparse.Namespace:
     parser = table_parser()
     arguments = parser.parse_args(words)
     if arguments.code is None:
-        what = Text("the following arguments are required: --code")
-        raise BadArguments(what, proposed(words, arguments))
+        raise BadArguments(Text("the following arguments are required: --code"))
     check(parser, arguments)
     return arguments
 
@@ -323,12 +331,10 @@ def refuse_together(is_wrong: object, what: Text, given: Sequence[Remedy]) -> No
         raise BadArguments(what, Text("leave out {}", either(given)))
 
 
-def proposed(words: Sequence[str], arguments: argparse.Namespace) -> Text:
-    """Returns commands that may fit a table, each with all words that were given, and the columns
-    among which only the keeper knows the right one; nothing if it is not a file, or has no codes.
+def propose(words: Sequence[str], arguments: argparse.Namespace) -> None:
+    """Writes what the columns of a table seem to be for, and the commands that may be meant, each
+    whole and on a line of its own; raises `ToolError` if it cannot be read, or has no codes.
     """
-    if arguments.table in (None, "-"):
-        return NOTHING
     name, data = read_input(arguments.table, TABLE)
     options = TableOptions(file=made(FileOptions, arguments))
     budget = Budget(name, len(data))
@@ -340,27 +346,44 @@ def proposed(words: Sequence[str], arguments: argparse.Namespace) -> Text:
     sheet, guess = guess_of_sheets(data, options, budget)
     if sheet:
         words = ["--sheet", sheet, *words]
-    is_given = made(CodeRules, arguments) != CodeRules() or arguments.symbology_column is not None
-    commands = [
-        command_for(guess, code, rules, words, arguments)
-        for code, ways in guess.codes.items()
-        for rules in ([CodeRules()] if is_given else ways.rules)
-    ]
-    say_of_others(guess)
-    said = []
-    for at, ways in guess.codes.items():
-        if ways.problem and not is_given:
-            name = column_word(guess.names, at)
-            said.append(Text("most codes in {} are not EAN or UPC: {}", name, ways.problem))
+    if not guess.codes:
+        what = Text("no column of {} seems to have codes", name)
+        raise BadArguments(what, Text("give {} and the column that has them", Remedy("code")))
+    say_what_is_found(guess, arguments)
+    commands = commands_for(guess, words, arguments)
+    one, several = Text("this command makes the labels:"), Text("one of these makes the labels:")
+    write_message(TOOL, several if len(commands) > 1 else one)
+    for command in commands:
+        print(visible(command), file=sys.stderr)
+
+
+def is_given(arguments: argparse.Namespace) -> bool:
+    """Returns whether it was said how the codes are read."""
+    return made(CodeRules, arguments) != CodeRules() or arguments.symbology_column is not None
+
+
+def commands_for(
+    guess: Guess, words: Sequence[str], arguments: argparse.Namespace
+) -> Sequence[str]:
+    """Returns the commands that may be meant, each with the words that were given: one for each way
+    of reading the codes, and for each answer to what only the keeper knows, as long as they are
+    not too many.
+    """
+    ways = [
+        (place, rules)
+        for place, reading in guess.codes.items()
+        for rules in ([CodeRules()] if is_given(arguments) else reading.rules)
+    ][:MOST_PROPOSED]
+    answers: list[Mapping[str, int]] = [{}]
     for kind, places in guess.doubts.items():
-        if (
-            len(places) > 1
-            or kind != "code"
-            or not any(one.problem for one in guess.codes.values())
-        ):
-            said.append(Text("--{} may be {}", kind, words_for(guess, places)))
-    tried = Text("try {}", joined(", ", commands[:MOST_PROPOSED]))
-    return joined("; ", [*said, tried]) if commands else NOTHING
+        is_asked = kind != "code" and not getattr(arguments, kind)
+        if is_asked and len(answers) * len(places) * len(ways) <= MOST_PROPOSED:
+            answers = [{**answer, kind: place} for answer in answers for place in places]
+    return [
+        command_for(guess, {**guess.columns, **answer, "code": place}, rules, words, arguments)
+        for place, rules in ways
+        for answer in answers
+    ]
 
 
 def guess_of_sheets(data: bytes, options: TableOptions, budget: Budget) -> tuple[str, Guess]:
@@ -383,62 +406,99 @@ def guess_of_sheets(data: bytes, options: TableOptions, budget: Budget) -> tuple
         return found.popitem()
 
 
-def say_of_others(guess: Guess) -> None:
-    """Writes which column is proposed where others are named alike, and which price was not."""
-    for kind, name in OF_KINDS.items():
-        if guess.others.get(kind):
-            others = words_for(guess, guess.others[kind])
-            if kind in guess.columns:
-                found = words_for(guess, [guess.columns[kind]])
-                write_message(TOOL, Text("{} is {}; others: {}", name, found, others))
-            elif kind == "price":
-                hint = Text("give {} and its column if they have one, as {}", PRICED, others)
-                write_message(TOOL, sentence(NO_PRICE, hint))
+def say_what_is_found(guess: Guess, arguments: argparse.Namespace) -> None:
+    """Writes in which columns something was found, which others there are, and what only the keeper
+    knows.
+    """
+    found = {kind: [place] for kind, place in guess.columns.items() if kind != "code"}
+    if len(guess.codes) == 1:
+        found = {"code": [*guess.codes], **found}
+    if "title" in guess.beside:
+        found["title"] = [*found["title"], guess.beside["title"]]
+    parts = [
+        Text("{} in {}", name, words_for(guess, found[kind]))
+        for kind, name in OF_KINDS.items()
+        if kind in found and not getattr(arguments, kind.replace("-", "_"))
+    ]
+    if parts:
+        write_message(TOOL, Text("found {}", joined(", ", parts)))
+    for kind, places in guess.others.items():
+        if kind in guess.columns:
+            others = words_for(guess, places)
+            write_message(TOOL, Text("others may have {}, too: {}", OF_KINDS[kind], others))
+    for place, reading in guess.codes.items():
+        if reading.problem and not is_given(arguments):
+            name = column_word(guess.names, place)
+            what = Text("most codes in {} are not EAN or UPC: {}", name, reading.problem)
+            write_message(TOOL, what)
+    for kind, places in guess.doubts.items():
+        if len(places) > 1 or kind != "code":
+            which = words_for(guess, places)
+            write_message(
+                TOOL, Text("only you know which column has {}: {}", OF_KINDS[kind], which)
+            )
+    if not arguments.price:
+        say_of_no_price(guess)
+
+
+def say_of_no_price(guess: Guess) -> None:
+    """Writes why no price is proposed, if a column has money."""
+    if "price" in guess.columns or "price" in guess.doubts:
+        return
+    if "price" in guess.others:
+        others = words_for(guess, guess.others["price"])
+        hint = Text("give {} and its column if they have one, as {}", PRICED, others)
+        write_message(TOOL, sentence(NO_PRICE, hint))
+    elif guess.unpaid:
+        unpaid = words_for(guess, guess.unpaid)
+        what = Text("no price is proposed, since customers seem not to pay what is in {}", unpaid)
+        write_message(TOOL, sentence(what, Text("give {} and its column if they do", PRICED)))
 
 
 def words_for(guess: Guess, places: Sequence[int]) -> str:
     """Returns the columns at some places as a command has them, the first ones of many."""
-    words = [shell_word(column_word(guess.names, at)) for at in places]
+    words = [shell_word(column_word(guess.names, place)) for place in places]
     return ", ".join(words[:MOST_NAMED] + [".."] * (len(words) > MOST_NAMED))
 
 
 def command_for(
-    guess: Guess, code: int, rules: CodeRules, words: Sequence[str], arguments: argparse.Namespace
+    guess: Guess,
+    columns: Mapping[str, int],
+    rules: CodeRules,
+    words: Sequence[str],
+    arguments: argparse.Namespace,
 ) -> str:
-    """Returns the command that a guess proposes with the codes of a column, which are read by
-    rules.
-    """
-    columns = {**guess.columns, "code": code}
+    """Returns the command that has some columns, and reads the codes by rules."""
     options: dict[str, Any] = {
-        option: column_word(guess.names, columns[option])
-        for option in ("code", "title", "price", "copies")
-        if option in columns and not getattr(arguments, option)
+        kind: column_word(guess.names, columns[kind])
+        for kind in OF_KINDS
+        if kind in columns and not getattr(arguments, kind.replace("-", "_"))
     }
     if "title" in options and "title" in guess.beside:
         options["title"] = [options["title"], column_word(guess.names, guess.beside["title"])]
-    options |= more_options(guess, arguments)
+    options |= more_options(guess, arguments, columns.get("price"))
     options["symbology"] = rules.symbology if rules.is_free else ""
     options["fill-zeros"] = rules.fill_zeros
     options["without-check-digit"] = rules.without_check_digit
     if arguments.header_row is None and arguments.has_header is None:
-        is_asked = guess.header > 1 or column_word(guess.names, code).isdecimal()
+        is_asked = guess.header > 1 or column_word(guess.names, columns["code"]).isdecimal()
         options["header-row"] = guess.header if is_asked else 0
         options["no-header"] = not guess.header
     return shell_line([TOOL, *words_of(options), *words])
 
 
-def more_options(guess: Guess, arguments: argparse.Namespace) -> dict[str, str]:
+def more_options(guess: Guess, arguments: argparse.Namespace, price: int | None) -> dict[str, str]:
     """Returns what a proposed command has for variants, and for prices as programs write numbers,
     if nothing was given for them.
     """
     found = {}
     if "variants-of" in guess.beside and not arguments.title:
         found["variants-of"] = column_word(guess.names, guess.beside["variants-of"])
-    is_given = arguments.price or arguments.price_as or arguments.price_text
-    if guess.price_as and not (is_given or arguments.currency):
+    is_said = arguments.price or arguments.price_as or arguments.price_text
+    if price is not None and price in guess.formats and not (is_said or arguments.currency):
         if "currency" in guess.beside:
             found["currency"] = column_word(guess.names, guess.beside["currency"])
-        found["price-as"] = guess.price_as
+        found["price-as"] = guess.formats[price]
     return found
 
 
@@ -456,7 +516,12 @@ def older_lines(path: str) -> LinesFile:
 def run() -> int:
     """Reads the table, and then writes its lines; returns the status."""
     gc.disable()  # no row leaves a cycle behind, and looking for them takes a tenth of the time
-    arguments = understood(sys.argv[1:])
+    words = sys.argv[1:]
+    arguments = table_parser().parse_args(words)
+    if arguments.code is None and arguments.table not in (None, "-"):
+        propose(words, arguments)
+        return BAD_ARGUMENTS
+    arguments = understood(words)
     output = standard_output()
     options = table_options(arguments)
     name, data = read_input(arguments.table, TABLE)

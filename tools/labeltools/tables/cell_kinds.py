@@ -5,7 +5,7 @@ from contextlib import suppress
 from decimal import Decimal
 
 from labeltools.common.messages import RowError
-from labeltools.tables.money import parse
+from labeltools.tables.money import parse, parse_unit_price
 
 # what may be the number of an article: three digits and more, but neither a date nor a count
 ARTICLE = re.compile(
@@ -54,6 +54,16 @@ def is_charged(text: str) -> bool:
 def has_currency(text: str) -> bool:
     """Returns whether a text is a price with a currency; raises `RowError`."""
     return bool(parse(text).currency)
+
+
+def has_unit(text: str) -> bool:
+    """Returns whether a text is the price of a unit, as 7,96 €/kg; raises `RowError`.
+
+    >>> has_unit("7,96 €/kg"), has_unit("1 kg = 7,96 €"), has_unit("7,96 €")
+    (True, True, False)
+    """
+    price = parse_unit_price(text)
+    return bool(price.unit or price.basis)
 
 
 def is_money(text: str) -> bool:

@@ -7,7 +7,6 @@ from decimal import Decimal
 from enum import IntEnum
 from functools import cached_property
 from os.path import commonprefix
-from typing import NamedTuple
 
 from labeltools.tables.cell_kinds import is_money, price_in
 from labeltools.tables.code_readings import has_lost_zeros, is_code, LEAST, passing_share
@@ -16,21 +15,6 @@ from labeltools.tables.name_words import column_words, words_in
 
 DIGITS = re.compile("[0-9]+")
 MANY = 6  # names that begin alike by no chance
-
-
-class Places(NamedTuple):
-    """The places of the columns that may be meant, and that of the one that surely is."""
-
-    may_be: Sequence[int]
-    surely: int | None = None
-    is_none: bool = False  # surely none of them
-    variants_of: int | None = None  # the column of what rows without a title are variants of
-    second: int | None = None  # the other part of the title, as a last name
-
-    @property
-    def is_asked(self) -> bool:
-        """Whether only the keeper knows the right one."""
-        return bool(self.may_be) and self.surely is None and not self.is_none
 
 
 class Plainness(IntEnum):

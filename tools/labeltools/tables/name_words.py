@@ -10,6 +10,7 @@ from labeltools.common.word_lists import lists_by_section, lists_of
 
 COLUMN_WORDS = Path(__file__).with_name("columns.list")
 HUMP = re.compile("(?<=[a-z]{2})(?=[A-Z])|(?<=[A-Z]{2})(?=[A-Z][a-z]{2})")  # as in `salePrice`
+WORD = r"\bb2[bc]\b|[^\W\d_]+"  # b2b has a digit
 # letters that Unicode does not take apart, and one that is a letter of its own
 FOLDED = str.maketrans(
     {**dict(zip("łøđðı", "loddi")), "å": "aa", "º": "o", "%": " percent ", "+": " plus "}
@@ -78,7 +79,7 @@ def words_in(name: str) -> Iterator[str]:
     >>> [*words_in("Prix de réf. (inkl. MwSt)")], [*words_in("Code à barres")]
     (['prix', 'de', 'ref', 'inklmwst'], ['codeabarres'])
     """
-    words = re.findall(r"[^\W\d_]+", folded(HUMP.sub(" ", name)))
+    words = re.findall(WORD, folded(HUMP.sub(" ", name)))
     while words:
         count = MOST_IN_ONE
         while count > 1 and "".join(words[:count]) not in joined_words():

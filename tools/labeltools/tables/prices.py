@@ -334,16 +334,17 @@ def are_currencies(texts: Sequence[str]) -> bool:
 
 
 def pattern_for(texts: Sequence[str], name: str, has_codes: bool) -> str:
-    """Returns the format of prices that are as programs write numbers, empty where they are not, or
-    the currency is not known: their column has it in each cell or in its name, or another one has
-    its code. Prices that cannot be printed as they stand get two decimals without it.
+    """Returns the format of prices that are as programs write numbers, empty where they are not. It
+    has the currency if that is known: their column has it in each cell or in its name, or another
+    one has its code. Else only prices that cannot be printed as they stand, or that have a single
+    decimal, get two.
 
     >>> pattern_for(["0.8", "49.9"], "Price (EUR)", False), pattern_for(["0,8"], "Preis", True)
     ('0.00 EUR', '0,00 ¤')
     >>> pattern_for(["0.80 €", "49.9 €"], "Price", False), pattern_for(["0.8"], "Price", False)
-    ('0.00 ¤', '')
-    >>> pattern_for(["0.80", "49"], "Price (EUR)", False)
-    ''
+    ('0.00 ¤', '0.00')
+    >>> pattern_for(["0.80", "49"], "Price (EUR)", False), pattern_for(["1.859"], "Price", False)
+    ('', '')
     >>> pattern_for(["0.80000000"], "Price", False)
     '0.00'
     """
@@ -356,7 +357,8 @@ def pattern_for(texts: Sequence[str], name: str, has_codes: bool) -> str:
     if has_codes or prices and all(one.currency for one in prices):
         named = frozenset("¤")
     is_long = any(one.decimals > MOST_DECIMALS for one in odd)
-    if not odd or len(named) != 1 and not is_long:
+    are_short = all(one.decimals == 1 for one in odd)
+    if not odd or len(named) != 1 and not (is_long or are_short):
         return ""
     return f"0{odd[0].point}00 {min(named) if len(named) == 1 else ''}".rstrip()
 

@@ -148,7 +148,8 @@ class Table:
     def with_guessed(self) -> str:
         """Returns the words by which the table is read, with what is guessed and has no control."""
         nothing = table_command.table_parser().parse_args([])
-        more = table_command.more_options(self.guess, nothing)
+        price = self.guess.columns.get("price")
+        more = table_command.more_options(self.guess, nothing, price)
         found = [Remedy(name, value) for name, value in more.items() if name != "price-as"]
         if "code" in self.guess.columns and self.guess.rules.fill_zeros:
             found.append(Remedy("fill-zeros"))

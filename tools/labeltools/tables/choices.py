@@ -1,0 +1,380 @@
+"""Which column of a table has the code, the title, the price and so on: what is proved, what most
+evidence speaks for, and what only the keeper knows.
+"""
+
+from collections.abc import Collection, Mapping, Sequence
+
+from labeltools.tables.amounts import (
+    is_above_costs,
+    is_never_above,
+    is_paid_beside,
+    MOST_COMPARED,
+    with_taxes,
+)
+from labeltools.tables.candidates import (
+    are_different_texts,
+    CODE,
+    CODES,
+    costs_in,
+    is_of_books,
+    is_of_money,
+    is_of_other,
+    is_plain_title,
+    may_be_amounts,
+    may_be_code,
+    may_be_title,
+    NO_PRICES,
+    PAID,
+    PRICE,
+    Samples,
+    TITLE,
+)
+from labeltools.tables.cell_kinds import COUNT, has_unit, is_charged
+from labeltools.tables.code_readings import CodeReading, is_isbn_10, LEAST, passing_share
+from labeltools.tables.column_samples import ColumnSample, Plainness
+from labeltools.tables.evidence import evidences_of
+from labeltools.tables.scores import Choice, probable_choice
+from labeltools.tables.variants import variants_in
+
+NO_KEYS = ("prices", "cost", "stock")  # what says nothing about which rows are variants
+
+
+def code_choice(columns: Samples) -> Choice:
+    """Returns which column has the codes: some, wherever a column may have them."""
+    may_be = code_candidates(columns)
+    found = probable_choice(evidences_of(may_be, CODE, columns))
+    if found.is_none:
+        return Choice(sorted(found.may_be))
+    if found.surely is None:
+        return found
+    rivals = code_rivals(may_be, found.surely)
+    is_asked = bool(rivals) or is_of_other(may_be[found.surely])
+    return Choice(sorted({*found.may_be, *rivals})) if is_asked else found
+
+
+def code_rivals(columns: Samples, chosen: int) -> Collection[int]:
+    """Returns the columns of which only the keeper knows if they have the code, and not the chosen
+    one: an article has another EAN there; or neither is one or named so; or few rows have the
+    chosen one, where all have a number of their country, or of their own as old books.
+    """
+    code = columns[chosen]
+    others = {
+        place: column
+        for place, column in columns.items()
+        if place != chosen and not is_of_other(column)
+    }
+    if code.filled < LEAST:
+        is_rare = is_of_books(code)
+        return [place for place, other in others.items() if is_rare or other.says("national")]
+    others = {place: other for place, other in others.items() if not other.says("ids")}
+    if code.has_codes:
+        return [place for place, other in others.items() if are_two_codes(code, other)]
+    checked = [place for place, other in columns.items() if is_other_code(other)]
+    return checked or others if not code.says(*CODES) else checked
+
+
+def is_other_code(column: ColumnSample) -> bool:
+    """Returns whether a column has EAN or UPC of something else than articles and books."""
+    return column.has_codes and is_of_other(column) and not is_of_books(column)
+
+
+def are_two_codes(column: ColumnSample, other: ColumnSample) -> bool:
+    """Returns whether two columns have other codes of the same article; an ISBN is one of them."""
+    if not other.has_codes or is_of_books(column) or is_of_books(other):
+        return False
+    pairs = zip(map(bare_code, column.cells), map(bare_code, other.cells))
+    return any(code and beside and code != beside for code, beside in pairs)
+
+
+def code_candidates(columns: Samples) -> Samples:
+    """Returns the columns that may have the codes: those with right check digits, but for one with
+    the codes of the fullest one again, as a UPC-A that is there as an EAN-13, too. If none of these
+    are surely those of the articles, other numbers are meant, too: those that are named as codes,
+    or else any, but for those of something else.
+    """
+    may_be = {place: column for place, column in columns.items() if may_be_code(column)}
+    if any(column.has_codes for column in may_be.values()):
+        may_be = {place: one for place, one in may_be.items() if not one.has(is_isbn_10)}
+    checked = {place: column for place, column in may_be.items() if column.has_codes}
+    fullest = max(checked, key=lambda place: checked[place].filled, default=-1)
+    again = [
+        place
+        for place, column in checked.items()
+        if place != fullest and has_codes_of(column, checked[fullest])
+    ]
+    checked = {**without(checked, again)}
+    own = {place: column for place, column in may_be.items() if not is_of_other(column)}
+    if any(place in own and not is_of_books(column) for place, column in checked.items()):
+        national = {place: column for place, column in own.items() if column.says("national")}
+        return dict(sorted({**checked, **national}.items()))
+    numbers = without(own, [*again, *checked])
+    named = {place: column for place, column in numbers.items() if column.says("codes")}
+    return dict(sorted([*checked.items(), *(named or numbers or without(may_be, again)).items()]))
+
+
+def has_codes_of(column: ColumnSample, other: ColumnSample) -> bool:
+    """Returns whether the codes of a column are those of another one, as far as it has them."""
+    pairs = zip(map(bare_code, column.cells), map(bare_code, other.cells))
+    return all(code in ("", beside) for code, beside in pairs)
+
+
+def bare_code(text: str) -> str:
+    """Returns a code without what separates its digits, and without zeros in front."""
+    return "".join(filter(str.isalnum, text)).lstrip("0")
+
+
+def title_choice(columns: Samples, taken: Collection[int]) -> Choice:
+    """Returns which column has the title, of those that are not taken."""
+    may_be = title_candidates(columns, taken)
+    if may_be:
+        found = probable_choice(evidences_of(may_be, TITLE, columns))
+        near = {place: may_be[place] for place in found.may_be}
+        return Choice(sorted(near)) if is_title_asked(near, found.surely) else found
+    free = without(columns, taken)
+    texts = [place for place, column in free.items() if are_different_texts(column)]
+    return Choice(texts, texts[0]) if len(texts) == 1 else Choice()
+
+
+def is_title_asked(columns: Samples, chosen: int | None) -> bool:
+    """Returns whether only the keeper knows if a title is meant: beside others it is a part of a
+    name.
+    """
+    return chosen is not None and len(columns) > 1 and bool(columns[chosen].says("parts"))
+
+
+def title_candidates(columns: Samples, taken: Collection[int]) -> Samples:
+    """Returns the columns that may have the title, of those that are not taken."""
+    free = without(columns, taken).items()
+    may_be = {place: column for place, column in free if may_be_title(column)}
+    long = [place for place, column in may_be.items() if column.says("long")]
+    return without(may_be, long) if any(one.says("short") for one in may_be.values()) else may_be
+
+
+def without(columns: Samples, taken: Collection[int]) -> Samples:
+    """Returns the columns that are not taken."""
+    return {place: column for place, column in columns.items() if place not in taken}
+
+
+def name_parts(columns: Samples, taken: Collection[int]) -> Sequence[int]:
+    """Returns the two columns of a first and a last name, which are one title; none if another one
+    has the whole name, or if things have titles, too.
+    """
+    free = title_candidates(columns, taken)
+    plain = {place: column for place, column in free.items() if is_plain_title(column)}
+    parts = [place for place, column in plain.items() if column.says("parts")]
+    names = [place for place in plain if plain[place].says("titles") and place not in parts]
+    if not parts or len(parts) + len(names) != 2:
+        return ()
+    is_whole = any(has_part(plain[name], plain[part]) for name in names for part in parts)
+    are_persons = all(plain[name].says("persons") for name in names)
+    are_things = any(column.says("articles", "descriptions") for column in plain.values())
+    return () if is_whole or are_things or not are_persons else sorted([*parts, *names])
+
+
+def has_part(column: ColumnSample, part: ColumnSample) -> bool:
+    """Returns whether most texts of a column have those of another one in them."""
+    pairs = [(whole, text) for whole, text in zip(column.cells, part.cells) if whole and text]
+    return 2 * sum(text in whole for whole, text in pairs) >= len(pairs)
+
+
+def price_choice(columns: Samples, taken: Collection[int]) -> Choice:
+    """Returns which column has the price, by what amounts prove, and else by what is probable. If
+    none is it surely, the keeper is asked about a column of money.
+    """
+    may_be, proved = price_candidates(columns, taken)
+    if proved is not None and not are_two_paid(may_be, proved):
+        return Choice(sorted(may_be), proved)
+    if not may_be:
+        return Choice(net_places(without(columns, taken)))
+    found = probable_choice(evidences_of(may_be, PRICE, columns))
+    near = {place: may_be[place] for place in found.may_be}
+    if found.surely is not None:
+        rivals = near | advised_beside(may_be, found.surely)
+        price = may_be[found.surely]
+        is_known = is_named_price(price) or is_above_costs(price, costs_in(columns))
+        if is_known and not is_price_asked(rivals, found.surely):
+            return found
+        near = rivals
+    asked = [place for place in near if not found.is_none or is_of_money(columns[place])]
+    return Choice(sorted(asked))
+
+
+def is_named_price(column: ColumnSample) -> bool:
+    """Returns whether the name of a column says that it has prices, or nothing at all."""
+    return not column.words or bool(column.says(*PAID, "priced", "advised", "regular", "sale"))
+
+
+def price_candidates(columns: Samples, taken: Collection[int]) -> tuple[Samples, int | None]:
+    """Returns the columns that may have the price, without those of which another one has the tax,
+    and the only one of which amounts prove that it has the tax, if there is one.
+    """
+    free = without(columns, taken)
+    amounts = {
+        place: column
+        for place, column in free.items()
+        if may_be_amounts(column) and not column.says("cost", "old")
+    }
+    bare, whole = with_taxes(amounts)
+    paid = {
+        place: column
+        for place, column in amounts.items()
+        if place in whole or place not in bare and not column.says(*NO_PRICES)
+    }
+    may_be = without_same(paid) if any(column.texts for column in paid.values()) else {}
+    return may_be, min(whole) if len(whole) == 1 else None
+
+
+def without_same(columns: Samples) -> Samples:
+    """Returns columns of prices, of those with the same amounts in the same currency the one that
+    is most plainly what customers pay; without usual prices that are never below such a one.
+    """
+    plainest: dict[object, int] = {}
+    for place in sorted(columns, key=lambda place: (not is_plain_price(columns[place]), place)):
+        column = columns[place]
+        plainest.setdefault((tuple(column.cells), column.says("currencies")), place)
+    left = {place: columns[place] for place in sorted(plainest.values())}
+    plain = [column for column in left.values() if is_plain_price(column)][:MOST_COMPARED]
+    return {
+        place: column
+        for place, column in left.items()
+        if not column.says("regular")
+        or not any(is_never_above(other, column) for other in plain if other is not column)
+    }
+
+
+def is_plain_price(column: ColumnSample) -> bool:
+    """Returns whether a name says that customers pay it, and no more."""
+    is_own = not column.says("advised", "regular", "sale")
+    return is_own and column.plainness(*PAID) is Plainness.PLAIN
+
+
+def net_places(columns: Samples) -> Sequence[int]:
+    """Returns the columns of prices without a tax, or of a measure, with those of prices that have
+    no amounts: one of them may be meant if no other column has prices.
+    """
+    amounts = {place: column for place, column in columns.items() if may_be_amounts(column)}
+    unpaid = [place for place, column in amounts.items() if column.says("cost", "old")]
+    left = without(amounts, unpaid)
+    is_net = any(column.says("net") and column.texts for column in left.values())
+    return [place for place in left if left[place].says("net", "prices")] if is_net else []
+
+
+def advised_beside(columns: Samples, chosen: int) -> Samples:
+    """Returns the advised prices of which one that seems to be the price is so far below, or so odd,
+    that the shop may pay it itself.
+    """
+    price = columns[chosen]
+    return {
+        place: column
+        for place, column in columns.items()
+        if column.says("advised")
+        and column is not price
+        and charged(column) >= LEAST
+        and not is_paid_beside(price, column)
+    }
+
+
+def is_price_asked(columns: Samples, chosen: int) -> bool:
+    """Returns whether only the keeper knows if customers pay a price: they may pay another one, or
+    the shop may pay it itself.
+    """
+    price = columns[chosen]
+    others = [column for column in columns.values() if column.cells != price.cells]
+    full = [column for column in others if charged(column) >= LEAST]
+    if price.says("advised", "sale"):
+        is_sure = not others
+    elif price.says("regular") and not price.says("sold"):
+        is_sure = all(column.says("sale") for column in full)
+    else:
+        usual = [column for column in full if column.says("regular")]
+        is_sure = all(is_never_above(price, column) for column in usual)
+        is_sure = is_sure and not advised_beside(columns, chosen)
+    return not is_sure or are_two_paid(columns, chosen)
+
+
+def are_two_paid(columns: Samples, chosen: int) -> bool:
+    """Returns whether customers may pay a price or another one: in several currencies, or one for
+    most articles that are for sale; or few rows have the price.
+    """
+    others = [column for column in columns.values() if column.cells != columns[chosen].cells]
+    full = [column for column in (columns[chosen], *others) if charged(column) >= LEAST]
+    currencies = {word[:3] for column in columns.values() for word in column.says("currencies")}
+    kinds = {bool(column.says("sale")) for column in full}
+    return len(currencies) > 1 or columns[chosen] not in full or len(kinds) > 1
+
+
+def charged(column: ColumnSample) -> float:
+    """Returns which part of the cells have an amount above zero, or an error in place of one."""
+    return column.part(is_charged) * column.filled
+
+
+def paid_columns(columns: Samples, taken: Collection[int]) -> Sequence[int]:
+    """Returns the columns of money that customers may pay, of those that are not taken."""
+    return [place for place in money_in(columns, taken) if not columns[place].says("cost", "old")]
+
+
+def unpaid_columns(columns: Samples, taken: Collection[int]) -> Sequence[int]:
+    """Returns the columns of money that no customer pays by their names, as costs."""
+    return [place for place in money_in(columns, taken) if columns[place].says(*NO_PRICES)]
+
+
+def money_in(columns: Samples, taken: Collection[int]) -> Sequence[int]:
+    """Returns the columns of money, of those that are not taken."""
+    free = without(columns, taken).items()
+    return [place for place, column in free if may_be_amounts(column) and is_of_money(column)]
+
+
+def unit_price_choice(columns: Samples, taken: Collection[int]) -> Choice:
+    """Returns which column has the price of a unit: only one has such prices."""
+    free = without(columns, taken)
+    found = [place for place, column in free.items() if column.has(has_unit)]
+    return Choice(found, found[0]) if len(found) == 1 else Choice()
+
+
+def old_price_choice(columns: Samples, taken: Collection[int], price: int) -> Choice:
+    """Returns which column has the price before a reduction: the only one that is named so, and
+    whose amounts are nowhere below those of the price.
+    """
+    free = without(columns, taken)
+    old = [
+        place for place, column in free.items() if column.says("old") and not column.says("cost")
+    ]
+    found = [place for place in old if is_never_above(columns[price], columns[place])]
+    return Choice(found, found[0]) if len(found) == 1 else Choice()
+
+
+def copies_choice(columns: Samples, taken: Collection[int]) -> Choice:
+    """Returns which column is named as numbers of labels, and has such numbers."""
+    free = without(columns, taken)
+    named = {place: column for place, column in free.items() if column.says("copies")}
+    counts = [
+        place
+        for place, column in named.items()
+        if passing_share(column.texts, COUNT.fullmatch) == 1
+    ]
+    return Choice(counts, counts[0] if len(counts) == 1 else None)
+
+
+def variants_place(columns: Samples, title: int) -> int | None:
+    """Returns the column that tells which rows without a title are variants of the one above."""
+    keys = [() if column.says(*NO_KEYS) else column.cells for column in columns.values()]
+    return variants_in(columns[title].cells, keys)
+
+
+def are_single_things(readings: Mapping[int, CodeReading], columns: Samples) -> bool:
+    """Returns whether columns that may have the codes say that each thing has a number of its own,
+    as copies of a book beside its ISBN; or others say that they are things of an inventory.
+    """
+    free = [columns[place] for place, reading in readings.items() if not reading.are_sure]
+    own = [column for column in free if column.says(*CODES) and not is_of_other(column)]
+    if any(reading.are_sure for reading in readings.values()):
+        return 0 < len(own) < len(readings)
+    is_copy = bool(own) and any(map(is_of_books, columns.values()))
+    return is_copy or any(column.says("own-numbers") for column in own) or are_kept(columns)
+
+
+def are_kept(columns: Samples) -> bool:
+    """Returns whether columns say that things are kept or lent, and not that they are sold."""
+    named = [column for column in columns.values() if column.texts]
+    is_sold = any(column.says("sold") for column in named)
+    return not is_sold and any(column.says("inventory") for column in named)

@@ -1,0 +1,181 @@
+"""The tables of the folder tables with their truth, and what the guess makes of each: whether it is right."""
+
+import functools
+import hashlib
+import tomllib
+from collections.abc import Collection, Iterator, Mapping, Sequence
+from contextlib import suppress
+from dataclasses import dataclass, replace
+from enum import StrEnum
+from typing import Any
+
+import support
+from labeltools.common.budget import Budget
+from labeltools.common.messages import Silence, ToolError
+from labeltools.common.text import remedies_of
+from labeltools.sheets.file_options import FileOptions
+from labeltools.tables.guess import columns_of, guess, Guess, guess_of
+from labeltools.tables.old_encoding import old_encoding
+from labeltools.tables.table_options import TableOptions
+
+FOLDER = support.TESTS / "tables"
+ROLES = ("code", "title", "price", "unit-price", "old-price", "copies")
+ONE_MEANT = ("code", "price")  # of which a label has one: of several right ones the keeper chooses
+
+
+class Verdict(StrEnum):
+    """What a guess is worth to the keeper of a table, from best to worst."""
+
+    RIGHT = "right"  # at once
+    FAIR = "fair"  # a question that only the keeper can answer
+    NEEDLESS = "needless"  # a question whose answer everybody knows
+    INCOMPLETE = "incomplete"  # a column is neither proposed nor asked about
+    BOLD = "bold"  # proposed, though only the keeper knows
+    WRONG = "wrong"  # another column is proposed
+
+
+ORDER = list(Verdict)
+
+
+@dataclass(frozen=True)
+class Truth:
+    """The columns that are right for each role, by their names; what a question is fair about; what
+    may be left out; and the row of the names.
+    """
+
+    names: Mapping[str, Sequence[str]]
+    ask: Collection[str] = ()
+    optional: Collection[str] = ()
+    header: int = 1
+
+    def is_asked(self, role: str) -> bool:
+        """Whether only the keeper knows which column has a role."""
+        return role in self.ask and role in ONE_MEANT and len(self.names.get(role, ())) > 1
+
+
+@dataclass(frozen=True)
+class Table:
+    """A table: its name, its columns as the guess looks at them, and its truth."""
+
+    name: str
+    columns: Sequence[Sequence[str]]
+    hidden: Collection[int]
+    header: int
+    truth: Truth
+
+    @property
+    def is_fitted(self) -> bool:
+        """Whether weights are fitted on it; else they are judged by it. Its name alone decides."""
+        return hashlib.sha256(self.name.encode()).digest()[0] % 2 == 0
+
+    def name_of(self, place: int) -> str:
+        """The name of a column, or its number."""
+        return self.columns[place][0] or str(place + 1)
+
+    def places(self, role: str) -> list[int]:
+        """The places of the columns that are right for a role."""
+        names = self.truth.names.get(role, ())
+        return [place for place in range(len(self.columns)) if self.name_of(place) in names]
+
+    def guess(self) -> Guess:
+        """What is guessed of it."""
+        return guess(self.columns, self.header, self.hidden)
+
+
+@functools.cache
+def tables() -> Sequence[Table]:
+    """The tables of the folder."""
+    truths = tomllib.loads((FOLDER / "truth.toml").read_text(encoding="utf-8"))
+    return [table_of(name, truth) for name, truth in truths.items()]
+
+
+def table_of(name: str, truth: Mapping[str, Any]) -> Table:
+    """A table of the folder, as its file is read."""
+    data = (FOLDER / name).read_bytes()
+    options = options_for(data, name)
+    found = guess_of(data, name, options, Silence())
+    has_names = found.header > 0
+    file = replace(options.file, has_header=has_names, header_row=found.header or None)
+    columns, header, hidden = columns_of(
+        data, name, replace(options, file=file), Silence(), Budget(name, len(data))
+    )
+    names = {
+        role: [truth[role]] if isinstance(truth[role], str) else truth[role]
+        for role in ROLES
+        if role in truth
+    }
+    meant = Truth(names, truth.get("ask", ()), truth.get("optional", ()), truth.get("header", 1))
+    return Table(name, columns, hidden, header, meant)
+
+
+def options_for(data: bytes, name: str) -> TableOptions:
+    """The options by which a table is read: its encoding, and the sheet that has codes."""
+    options = TableOptions()
+    old = old_encoding(data, name, options)
+    if old:
+        options = TableOptions(file=FileOptions(encoding=old.name))
+    try:
+        guess_of(data, name, options, Silence())
+    except ToolError as error:
+        for remedy in remedies_of(error.hint):
+            other = TableOptions(file=replace(options.file, sheet=remedy.value))
+            with suppress(ToolError):
+                found = guess_of(data, name, other, Silence())
+                if any(reading.are_sure for reading in found.codes.values()):
+                    return other
+        raise
+    return options
+
+
+@functools.cache
+def small_tables() -> Sequence[Table]:
+    """The tables of names.txt."""
+    text = (FOLDER / "names.txt").read_text(encoding="utf-8")
+    _, *blocks = text.strip("\n").split("\n\n")
+    return [*map(small_table, blocks)]
+
+
+def small_table(block: str) -> Table:
+    """A table of names.txt."""
+    uses, *rows = (line.split("\t") for line in block.split("\n"))
+    columns = [*zip(*rows, strict=True)]
+    names: dict[str, list[str]] = {}
+    for use, (name, *_) in zip(uses, columns):
+        names.setdefault(use.strip("?"), []).append(name)
+    asked = {use.strip("?") for use in uses if use.startswith("?")}
+    return Table(";".join(rows[0]), columns, (), 1, Truth(names, asked))
+
+
+def verdict_of(table: Table, found: Guess) -> tuple[Verdict, str]:
+    """What a guess is worth, and why."""
+    faults = [*faults_of(table, found)]
+    worst = max(faults, key=lambda fault: ORDER.index(fault[0]), default=(Verdict.RIGHT, ""))
+    return worst[0], "; ".join(why for _, why in faults)
+
+
+def faults_of(table: Table, found: Guess) -> Iterator[tuple[Verdict, str]]:
+    """What is not right about a guess."""
+    truth = table.truth
+    if truth.header and found.header != truth.header:
+        yield Verdict.WRONG, f"the names are in row {found.header}"
+    for role in ROLES:
+        wanted = truth.names.get(role, ())
+        proposed = found.columns.get(role)
+        offered = [table.name_of(place) for place in found.doubts.get(role, ())]
+        if role == "code" and len(offered) == 1 and offered == wanted:
+            continue  # one command is proposed
+        if proposed is not None:
+            name = table.name_of(proposed)
+            if name not in wanted:
+                yield Verdict.WRONG, f"{role} is {name}"
+            elif truth.is_asked(role):
+                yield Verdict.BOLD, f"{role} is {name}"
+        elif offered:
+            is_fair = role in truth.ask and (not wanted or not {*wanted}.isdisjoint(offered))
+            is_there = not wanted or not {*wanted}.isdisjoint(offered)
+            worth = (
+                Verdict.FAIR if is_fair else Verdict.NEEDLESS if is_there else Verdict.INCOMPLETE
+            )
+            yield worth, f"{role} may be {', '.join(offered)}"
+        elif wanted and role not in truth.optional:
+            yield Verdict.INCOMPLETE, f"no {role}"
