@@ -132,7 +132,7 @@ class Words(unittest.TestCase):
         for value, other in zip(VALUES, reversed(VALUES)):
             names = [value.strip() or "x", "EAN"]
             guess = Guess(names, {"code": 1, "title": 0}, {1: CodeReading()}, 1, ["", ""])
-            line = command_for(guess, 1, CodeRules(), ["--", other], arguments)
+            line = command_for(guess, guess.columns, CodeRules(), ["--", other], arguments)
             said.append(Text("{}", line))
             title = column_word(names, 0)
             titles = [f"--title={title}"] if title.startswith("-") else ["--title", title]
