@@ -310,13 +310,13 @@ class Sender:
         places = {record.code: record.origin for record in records}
         for printer, codes in printers.items():
             there = sorted((places[code], code) for code in codes if code in places)
-            for some in parts_of(there, MOST_RANGES if self.is_clear else 1):
+            for some in slices_of(there, MOST_RANGES if self.is_clear else 1):
                 words = f"--only {some[0][0].number}" if self.is_clear else by_code(some[0][1])
                 words = "--only ROW" if len(some) > 1 else words
                 named = places_text([place for place, _ in some], self.has_tables)
                 yield Text("{}: {}", named, may_be_on_paper(printer, words))
             others = [code.decode() for code in codes if code not in places]
-            for some in parts_of(others, MOST_RANGES):
+            for some in slices_of(others, MOST_RANGES):
                 yield Text(
                     "{}: may be on paper, from {}, and not in the input: look for it; if it is "
                     "there, change sending to taken in its line of the journal; if not, print it "
@@ -362,7 +362,7 @@ def labels_text(count: int) -> Text:
     return counted("{} label", "{} labels", count)
 
 
-def parts_of(found: Sequence[Any], size: int) -> Iterator[Sequence[Any]]:
+def slices_of(found: Sequence[Any], size: int) -> Iterator[Sequence[Any]]:
     """Yields what was found, as much of it as a message names."""
     return (found[start : start + size] for start in range(0, len(found), size))
 
