@@ -452,6 +452,17 @@ class Queues(unittest.TestCase):
                 before, after = map(without_comments, self.jobs_of(kind, *changes))
                 self.assertEqual(before, after)
 
+    def test_an_option_that_has_nothing_for_no_change(self) -> None:
+        """A queue is refused by its name, until something else is set there."""
+        self.add("four", "vendor")
+        self.scheduler.change("four", "QQPlaces=4up")
+        done = self.printed(*self.SHEET, "--print", "four")
+        self.assertEqual(done.returncode, 2)
+        said = "four is set to QQPlaces: 4up, which could change labels: choose something else"
+        self.assertIn(said, done.stderr.decode().replace("; ", ": "))
+        self.scheduler.change("four", "QQPlaces=TopLeft")
+        self.assertEqual(self.printed(*self.SHEET, "--print", "four").returncode, 0)
+
     def test_how_dark_a_queue_prints_stays(self) -> None:
         before, after = self.jobs_of("vendor", "QQDarkness=High")
         self.assertNotEqual(before, after)
