@@ -18,6 +18,7 @@ from pathlib import Path
 from typing import Any, Callable, Iterator, Sequence
 from unittest import mock
 
+import cups
 import numpy
 
 import drivers
@@ -669,6 +670,15 @@ class Queues(unittest.TestCase):
             done = self.printed(*words, "--again", "lost")
         self.assertRegex(done.stderr.decode(), "5 labels sent to lost, .*; it waits in the queue")
 
+    def test_cups_that_goes_away_as_it_takes_a_job(self) -> None:
+        """The job is found by its title; a job that CUPS never got is not said to be sent."""
+        for takes, said in ((True, "CUPS reports it as printed"), (False, "CUPS refuses plain: ")):
+            line = Leaving(takes)
+            with mock.patch("labeltools.sending.cups.connection", lambda line=line: line):
+                done = self.printed(*self.SHEET, "--print", "plain")
+            self.assertIn(said, done.stderr.decode())
+            self.assertEqual("labels sent to plain" in done.stderr.decode(), takes)
+
     def test_cups_of_another_computer(self) -> None:
         """It is asked for no password: there only jobs that are not over count."""
         self.add("far", "zebra", "socket://127.0.0.1:1")
@@ -753,6 +763,22 @@ class Queues(unittest.TestCase):
             done = support.run("label-print", *words, input=FIVE, PYTHONPATH=path)
         self.assertEqual(done.returncode, 1)
         self.assertIn(b"apt-get install python3-cups", done.stderr)
+
+
+class Leaving:
+    """A connection to CUPS that breaks off when a file is printed, which it may have taken."""
+
+    def __init__(self, takes: bool) -> None:
+        self.takes = takes
+        self.line = cups.Connection()
+
+    def __getattr__(self, name: str) -> Any:
+        return getattr(self.line, name)
+
+    def printFile(self, *given: Any) -> int:
+        if self.takes:
+            self.line.printFile(*given)
+        raise cups.IPPError(cups.IPP_SERVICE_UNAVAILABLE, "Service Unavailable")
 
 
 def without_comments(job: bytes) -> bytes:

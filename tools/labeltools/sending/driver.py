@@ -11,12 +11,12 @@ from labeltools.sending.papers import FOOMATIC
 
 DPI = re.compile(r"^(\d+)(?:x(\d+))?dpi")  # as drivers write it
 TOLD = re.compile(r"HWResolution\s*\[\s*(\d+)\S*\s+(\d+)")  # in the code that drivers run
+SECTIONS = range(6)  # of that code
+SETS_DOTS = re.compile(r'^\*(\w+)\s+[^:\n]+:\s*"[^"]*HWResolution', re.MULTILINE)  # an option
 LEAST_DPI = 180  # of a printer of labels
 COMMAND_DOTS = re.compile(r"-r(\d+)(?:x(\d+))?")  # of a program that a driver runs
 UNKNOWN = 0, 0
-SECTIONS = range(6)  # of that code
-SETS_DOTS = re.compile(r'^\*(\w+)\s+[^:\n]+:\s*"[^"]*HWResolution', re.MULTILINE)  # an option
-RESOLUTION = "Resolution"  # the option of drivers
+RESOLUTION = "Resolution"  # the options of drivers for it, and for paper
 PAPER = ("PageSize", "PageRegion")
 INSTALLED = "InstallableOptions"  # the group of what a printer is made of
 # What the keeper of a queue decides, and what is not on a page: its way through the printer, who
@@ -77,7 +77,7 @@ def options_of(driver: Any) -> Iterator[Any]:
                 yield from part.options
 
 
-def page_options(driver: Any, set_dots: Container[str], is_office: bool = True) -> Iterator[Any]:
+def page_options(driver: Any, set_dots: Container[str], is_office: bool) -> Iterator[Any]:
     """Yields the options of a driver that could change a page."""
     for option in options_of(driver):
         is_own = option.keyword in (*PAPER, RESOLUTION) or option.keyword in set_dots
@@ -85,9 +85,7 @@ def page_options(driver: Any, set_dots: Container[str], is_office: bool = True) 
             yield option
 
 
-def neutral_options(
-    driver: Any, set_dots: Container[str], is_office: bool = True
-) -> Mapping[str, str]:
+def neutral_options(driver: Any, set_dots: Container[str], is_office: bool) -> Mapping[str, str]:
     """Returns the options of a driver that could change a page, each with its choice that does
     nothing, and those that set its dots, each as it is marked: the quality of a job, which a queue
     may have by another name, would change them.
@@ -102,9 +100,7 @@ def neutral_options(
     return found
 
 
-def changing_options(
-    driver: Any, set_dots: Container[str], is_office: bool = True
-) -> Mapping[str, str]:
+def changing_options(driver: Any, set_dots: Container[str], is_office: bool) -> Mapping[str, str]:
     """Returns the options of a driver that are set to change pages, and have no choice that does
     nothing: what each is called, and the choice that is marked.
     """
