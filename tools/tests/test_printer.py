@@ -211,6 +211,18 @@ class Lines(unittest.TestCase):
         self.assertEqual(self.words(**grid), line)
         self.assertIn("media=Letter", self.words(**grid, page=(215.9, 279.4)))
 
+    def test_what_is_for_queues_is_loaded_only_for_them(self) -> None:
+        """A till waits for its first label, and the rest of these takes time."""
+        words = ["/usr/bin/python3", "-X", "importtime", str(support.TOOLS / "label-print")]
+        words += ["--paper", "60x40", "--dpi", "203", "--to", "zpl"]
+        line = b"ean13 4006381333931\n"
+        env = support.environment()
+        done = subprocess.run(words, input=line, capture_output=True, env=env)
+        self.assertTrue(done.stdout)
+        self.assertIn(b"labeltools.sending.sender", done.stderr)
+        for module in (b"sending.queue", b"sending.job", b"sending.marks", b"_hashlib"):
+            self.assertNotIn(module, done.stderr)
+
     def test_it_is_said_by_summary(self) -> None:
         done = support.printed("--paper", "60x40", "--dpi", "203", "--summary", input=LINES)
         line = (
