@@ -120,6 +120,7 @@ KINDS = {
     + own("QQShift", "None", "Small")
     + own("QQFrame", "PrinterDefault", "Double")
     + own("QQDarkness", "Default", "High")
+    + own("QQPlaces", "TopLeft", "4up")
     + option("Resolution", _300dpi="300 300"),
     # a tape of 24 mm, of any length
     "tape": "HWMargins 0 0 0 0\nVariablePaperSize Yes\nMinSize 36 36\nMaxSize 2000 2000\n"

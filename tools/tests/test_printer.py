@@ -18,6 +18,7 @@ from pathlib import Path
 from typing import Any, Callable, Iterator, Sequence
 from unittest import mock
 
+import cups
 import numpy
 
 import drivers
@@ -209,6 +210,18 @@ class Lines(unittest.TestCase):
         line = "lp -d NAME -o media=A4 -o Resolution=600dpi -o print-scaling=none FILE.pdf"
         self.assertEqual(self.words(**grid), line)
         self.assertIn("media=Letter", self.words(**grid, page=(215.9, 279.4)))
+
+    def test_what_is_for_queues_is_loaded_only_for_them(self) -> None:
+        """A till waits for its first label, and the rest of these takes time."""
+        words = ["/usr/bin/python3", "-X", "importtime", str(support.TOOLS / "label-print")]
+        words += ["--paper", "60x40", "--dpi", "203", "--to", "zpl"]
+        line = b"ean13 4006381333931\n"
+        env = support.environment()
+        done = subprocess.run(words, input=line, capture_output=True, env=env)
+        self.assertTrue(done.stdout)
+        self.assertIn(b"labeltools.sending.sender", done.stderr)
+        for module in (b"sending.queue", b"sending.job", b"sending.marks", b"_hashlib"):
+            self.assertNotIn(module, done.stderr)
 
     def test_it_is_said_by_summary(self) -> None:
         done = support.printed("--paper", "60x40", "--dpi", "203", "--summary", input=LINES)
@@ -452,6 +465,17 @@ class Queues(unittest.TestCase):
                 before, after = map(without_comments, self.jobs_of(kind, *changes))
                 self.assertEqual(before, after)
 
+    def test_an_option_that_has_nothing_for_no_change(self) -> None:
+        """A queue is refused by its name, until something else is set there."""
+        self.add("four", "vendor")
+        self.scheduler.change("four", "QQPlaces=4up")
+        done = self.printed(*self.SHEET, "--print", "four")
+        self.assertEqual(done.returncode, 2)
+        said = "four is set to QQPlaces: 4up, which could change labels: choose something else"
+        self.assertIn(said, done.stderr.decode().replace("; ", ": "))
+        self.scheduler.change("four", "QQPlaces=TopLeft")
+        self.assertEqual(self.printed(*self.SHEET, "--print", "four").returncode, 0)
+
     def test_how_dark_a_queue_prints_stays(self) -> None:
         before, after = self.jobs_of("vendor", "QQDarkness=High")
         self.assertNotEqual(before, after)
@@ -658,6 +682,15 @@ class Queues(unittest.TestCase):
             done = self.printed(*words, "--again", "lost")
         self.assertRegex(done.stderr.decode(), "5 labels sent to lost, .*; it waits in the queue")
 
+    def test_cups_that_goes_away_as_it_takes_a_job(self) -> None:
+        """The job is found by its title; a job that CUPS never got is not said to be sent."""
+        for takes, said in ((True, "CUPS reports it as printed"), (False, "CUPS refuses plain: ")):
+            line = Leaving(takes)
+            with mock.patch("labeltools.sending.cups.connection", lambda line=line: line):
+                done = self.printed(*self.SHEET, "--print", "plain")
+            self.assertIn(said, done.stderr.decode())
+            self.assertEqual("labels sent to plain" in done.stderr.decode(), takes)
+
     def test_cups_of_another_computer(self) -> None:
         """It is asked for no password: there only jobs that are not over count."""
         self.add("far", "zebra", "socket://127.0.0.1:1")
@@ -742,6 +775,22 @@ class Queues(unittest.TestCase):
             done = support.run("label-print", *words, input=FIVE, PYTHONPATH=path)
         self.assertEqual(done.returncode, 1)
         self.assertIn(b"apt-get install python3-cups", done.stderr)
+
+
+class Leaving:
+    """A connection to CUPS that breaks off when a file is printed, which it may have taken."""
+
+    def __init__(self, takes: bool) -> None:
+        self.takes = takes
+        self.line = cups.Connection()
+
+    def __getattr__(self, name: str) -> Any:
+        return getattr(self.line, name)
+
+    def printFile(self, *given: Any) -> int:
+        if self.takes:
+            self.line.printFile(*given)
+        raise cups.IPPError(cups.IPP_SERVICE_UNAVAILABLE, "Service Unavailable")
 
 
 def without_comments(job: bytes) -> bytes:

@@ -324,6 +324,18 @@ def is_found(page: Dots, bits: Dots, left: int, top: int, near: int) -> bool:
     return False
 
 
+def check_judge() -> None:
+    """Ends the trial if a code with a wrong dot is taken for the right one."""
+    wanted = bars("roll", 203)[0]
+    page = numpy.zeros((400, 600), dtype=numpy.uint8)
+    high, wide = wanted.dots.shape
+    page[5 : 5 + high, 7 : 7 + wide] = wanted.dots
+    is_right = is_found(page, wanted.dots, 7, 5, 9)
+    page[5 + high // 2, 7 + wide // 2] ^= 1
+    if not is_right or is_found(page, wanted.dots, 7, 5, 9):
+        sys.exit("the judge takes a wrong dot for a right one")
+
+
 def drawn_by_ghostscript(document: bytes, dpi: int) -> Sequence[Page]:
     """The pages of PostScript or PDF."""
     words = ["gs", "-q", "-dBATCH", "-dNOPAUSE", "-dSAFER", "-sDEVICE=pgmraw", f"-r{dpi}"]
@@ -347,6 +359,7 @@ def main() -> int:
     asked = arguments()
     support.needs("gs", "ppdc", "lpadmin")
     os.environ["LABELS"] = str(support.labels_program())
+    check_judge()
     pool.fetch(asked.folder)
     texts = pool.texts_of(pool.drawn(asked.folder, asked.seed, asked.count, asked.only))
     outcomes: Counter[str] = Counter()

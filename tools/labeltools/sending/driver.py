@@ -11,12 +11,12 @@ from labeltools.sending.papers import FOOMATIC
 
 DPI = re.compile(r"^(\d+)(?:x(\d+))?dpi")  # as drivers write it
 TOLD = re.compile(r"HWResolution\s*\[\s*(\d+)\S*\s+(\d+)")  # in the code that drivers run
+SECTIONS = range(6)  # of that code
+SETS_DOTS = re.compile(r'^\*(\w+)\s+[^:\n]+:\s*"[^"]*HWResolution', re.MULTILINE)  # an option
 LEAST_DPI = 180  # of a printer of labels
 COMMAND_DOTS = re.compile(r"-r(\d+)(?:x(\d+))?")  # of a program that a driver runs
 UNKNOWN = 0, 0
-SECTIONS = range(6)  # of that code
-SETS_DOTS = re.compile(r'^\*(\w+)\s+[^:\n]+:\s*"[^"]*HWResolution', re.MULTILINE)  # an option
-RESOLUTION = "Resolution"  # the option of drivers
+RESOLUTION = "Resolution"  # the options of drivers for it, and for paper
 PAPER = ("PageSize", "PageRegion")
 INSTALLED = "InstallableOptions"  # the group of what a printer is made of
 # What the keeper of a queue decides, and what is not on a page: its way through the printer, who
@@ -27,7 +27,7 @@ KEPT = re.compile(
     r"user|account|manage?ment|password|department|billing|access|\bpin\b|\bid\b|digit|job ?type|"
     r"hold|secure|"
     r"quality|resolution|densit|dark|speed|rate\b|toner|\binks?\b|econo|smooth|half ?ton|dither|"
-    r"screen|contrast|bright|gamma|satur|sharp|"
+    r"screen|contrast|bright|gamma|satur|sharp|image ?type|"
     r"colou?r|gr[ae]y|black|cmyk|rgb|profile|render|trap|intent",
     re.IGNORECASE,
 )
@@ -36,14 +36,21 @@ KEPT_ON_LABELS = re.compile(
     r"\btop\b|\bleft\b|offset|position|shift|align|margin|continuous|label|size|paper",
     re.IGNORECASE,
 )
-NOT_KEPT = re.compile(r"mark|overlay|stamp|separat|banner|cover|duplex|mirror|image", re.IGNORECASE)
+NOT_KEPT = re.compile(r"mark|overlay|stamp|separat|banner|cover|duplex|mirror", re.IGNORECASE)
+# what changes pages, in the choice of an option that has none of which it is clear that it does
+# nothing
+CHANGES = re.compile(
+    r"\dup|\d pages|booklet|zoom|\bfit|scal|enlarg|reduc|rotat|mirror|poster|tile|shrink|expand|"
+    r"landscape|watermark",
+    re.IGNORECASE,
+)
 # the choices of any other option that do nothing: the first of these that it has
 NEUTRAL = (
     re.compile(r"(none|off|false|no|not? ?used|disabled?|without)[a-z]?", re.IGNORECASE),
     re.compile(r"no(t|n)?[A-Z_ ].*|.*(None|Off|False)", re.ASCII),
     re.compile(r"0(mm|pt|deg|dpi|%)?|1|1-?up|100%?|portrait|single.*|crop", re.IGNORECASE),
     re.compile(
-        r"((use)?pri?nt?(er)?_?(s|def|set)|normal|default|standard|auto|prompt).*|"
+        r"((use)?pri?nt?(er)?_?(s|def|set)|normal|default|standard|prompt).*|"
         r".*(normal|default|standard)",
         re.IGNORECASE,
     ),
@@ -70,24 +77,46 @@ def options_of(driver: Any) -> Iterator[Any]:
                 yield from part.options
 
 
-def neutral_options(
-    driver: Any, set_dots: Container[str], is_office: bool = True
-) -> Mapping[str, str]:
+def page_options(driver: Any, set_dots: Container[str], is_office: bool) -> Iterator[Any]:
+    """Yields the options of a driver that could change a page."""
+    for option in options_of(driver):
+        is_own = option.keyword in (*PAPER, RESOLUTION) or option.keyword in set_dots
+        if not is_own and len(option.choices) > 1 and not is_kept(option, is_office):
+            yield option
+
+
+def neutral_options(driver: Any, set_dots: Container[str], is_office: bool) -> Mapping[str, str]:
     """Returns the options of a driver that could change a page, each with its choice that does
     nothing, and those that set its dots, each as it is marked: the quality of a job, which a queue
     may have by another name, would change them.
     """
     found = {}
     for option in options_of(driver):
-        marked = [choice["choice"] for choice in option.choices if choice.get("marked")]
-        names = [choice["choice"] for choice in option.choices]
-        if option.keyword in PAPER or option.keyword == RESOLUTION:
-            continue
-        if option.keyword in set_dots:
-            found.update({option.keyword: name for name in marked})
-        elif len(names) > 1 and not is_kept(option, is_office):
-            found.update({option.keyword: name for name in neutral_of(names)})
+        if option.keyword in set_dots and option.keyword != RESOLUTION:
+            found.update({option.keyword: choice["choice"] for choice in marked_of(option)})
+    for option in page_options(driver, set_dots, is_office):
+        neutral = neutral_of([choice["choice"] for choice in option.choices])
+        found.update({option.keyword: name for name in neutral})
     return found
+
+
+def changing_options(driver: Any, set_dots: Container[str], is_office: bool) -> Mapping[str, str]:
+    """Returns the options of a driver that are set to change pages, and have no choice that does
+    nothing: what each is called, and the choice that is marked.
+    """
+    found = {}
+    for option in page_options(driver, set_dots, is_office):
+        if neutral_of([choice["choice"] for choice in option.choices]):
+            continue
+        for choice in marked_of(option):
+            if CHANGES.search(f"{spaced(choice['choice'])} {choice['text']}"):
+                found[option.text] = choice["text"]
+    return found
+
+
+def marked_of(option: Any) -> Sequence[Mapping[str, Any]]:
+    """Returns the choice of an option that is marked, if it is one of its choices."""
+    return [choice for choice in option.choices if choice.get("marked")]
 
 
 def is_kept(option: Any, is_office: bool) -> bool:

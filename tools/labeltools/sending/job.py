@@ -224,9 +224,16 @@ def print_by(
             number = taken_as(queue.name, title)
             if not number:
                 raise
-        found = known_to(cups.getJobAttributes, number)  # nothing if it is over, and not kept
-        created = found.get("time-at-creation", 0 if found else int(time.time()))
-    return SentJob(queue.name, number, created, title)
+        return SentJob(queue.name, number, made_at(cups, number), title)
+
+
+def made_at(cups: Any, number: int) -> int:
+    """Returns when CUPS made a job, in seconds; 0 if CUPS went away in this moment."""
+    try:
+        found = known_to(cups.getJobAttributes, number)
+    except cups_library().IPPError:
+        return 0
+    return int(found.get("time-at-creation", time.time()))  # it may be over, and not kept
 
 
 def taken_as(queue: str, title: str) -> int:

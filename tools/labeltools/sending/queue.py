@@ -16,6 +16,7 @@ from labeltools.paper.stock import Size
 from labeltools.printing.job import DRAWING_DPI, Job
 from labeltools.sending.cups import connection, cups_library, queues
 from labeltools.sending.driver import (
+    changing_options,
     common_dots,
     dots_of,
     dpi_of,
@@ -70,7 +71,7 @@ class Queue:
     """A queue of CUPS: its name, the dots an inch that it prints if nothing is asked for (0: not
     known), and the word of its driver for each resolution; the dots across and down, where these
     are no multiple of each other; its papers; the options of its driver that leave pages as they
-    are.
+    are, and those that are set to change pages.
     """
 
     name: str
@@ -81,6 +82,7 @@ class Queue:
     plain: Mapping[str, str] = field(default_factory=dict)
     device: str = ""
     common: int = 0
+    changing: Mapping[str, str] = field(default_factory=dict)
 
     def dpi_for(self, is_sheet: bool) -> int:
         """Returns the dots an inch of labels that are printed here, 0 if they are not known. Sheets
@@ -104,6 +106,7 @@ class Queue:
                 raise self.refusal(dpi)
             return RAW
         self.check_dots(job)
+        self.check_changes()
         paper = self.paper(job)
         options = {"media": paper.name or media_of(job.plan.sheet.page)}
         if not self.dpi or self.dpi % dpi:
@@ -139,6 +142,15 @@ class Queue:
             hint = Text("look at its manual, and give {}", either(known))
             instead = Text("look at its manual, and choose it")
             raise Unsaid(what, hint.in_window(instead), BAD_ARGUMENTS)
+
+    def check_changes(self) -> None:
+        """Raises `ToolError` if a driver is set to change pages, and names no other choice that
+        would not.
+        """
+        for option, choice in self.changing.items():
+            what = Text("{} is set to {}: {}, which could change labels", self.name, option, choice)
+            hint = Text("choose something else there, in the settings of printers")
+            raise ToolError(what, hint, BAD_ARGUMENTS)
 
     def check_language(self, job: Job) -> None:
         """Raises `ToolError` if a queue is that of an office printer, which would print the bytes
@@ -216,13 +228,14 @@ def queue_of(name: str, chosen: Mapping[str, str] = NOTHING_CHOSEN) -> Queue:
         driver.markOption(option, value)
     own = dots_of(driver)
     papers = papers_of_driver(text)
-    plain = neutral_options(driver, {*SETS_DOTS.findall(text)}, papers.is_office)
+    of_pages = (driver, {*SETS_DOTS.findall(text)}, papers.is_office)
+    plain, changing = neutral_options(*of_pages), changing_options(*of_pages)
     words = resolutions_of(driver)
     dpi = dpi_of(own)
     device = connection().getPrinterAttributes(name).get("device-uri", "")
     uneven = UNKNOWN if dpi else own
     common = 0 if dpi or words else common_dots(text)
-    return Queue(name, dpi, words, uneven, papers, plain, device, common)
+    return Queue(name, dpi, words, uneven, papers, plain, device, common, changing)
 
 
 def job_options(job: Job, queue: Queue, chosen: Mapping[str, str]) -> Mapping[str, str]:
