@@ -10,7 +10,7 @@ from typing import Any
 from unittest import mock
 
 from guess_tables import small_tables, Table, tables, Verdict, verdict_of
-from labeltools.tables import amounts, candidates, choices, evidence, guess, scores
+from labeltools.tables import amounts, candidates, choices, evidence, scores
 from labeltools.tables.candidates import CODE, PRICE, ROLES, Samples
 from labeltools.tables.evidence import Evidences, evidences_of
 from labeltools.tables.guess import samples_from
@@ -148,26 +148,40 @@ def nothing_found(*_: Any) -> Any:
     return ()
 
 
+def nothing_known(*_: Any) -> Any:
+    """What a part gives that is switched off: it does not know."""
+    return None
+
+
 # the parts that can be switched off, by their modules
 PARTS: Sequence[tuple[Any, str, Callable[..., Any]]] = (
-    (choices, "is_code_asked", nothing),
     (choices, "has_codes_of", nothing),
-    (choices, "has_part", nothing),
-    (choices, "name_parts", nothing_found),
-    (choices, "advised_beside", lambda *_: {}),
-    (choices, "is_price_asked", nothing),
-    (choices, "are_two_paid", nothing),
-    (choices, "is_net", nothing),
-    (choices, "are_kept", nothing),
-    (choices, "are_single_things", nothing),
+    (choices, "is_isbn_10", nothing),
+    (choices, "code_rivals", nothing_found),
+    (choices, "is_other_code", nothing),
+    (choices, "are_two_codes", nothing),
+    (choices, "is_title_asked", nothing),
     (choices, "are_different_texts", nothing),
+    (choices, "name_parts", nothing_found),
+    (choices, "has_part", nothing),
+    (choices, "variants_place", nothing_known),
     (choices, "with_taxes", lambda *_: ((), ())),
-    (choices, "variants_place", lambda *_: None),
+    (choices, "net_places", nothing_found),
+    (choices, "is_named_price", lambda *_: True),
+    (choices, "is_above_costs", nothing),
+    (choices, "is_plain_price", nothing),
+    (choices, "without_same", lambda columns: columns),
+    (choices, "is_price_asked", nothing),
+    (choices, "advised_beside", lambda *_: {}),
+    (choices, "are_two_paid", nothing),
     (choices, "is_of_money", nothing),
     (choices, "is_of_other", nothing),
     (choices, "is_of_books", nothing),
+    (choices, "are_single_things", nothing),
+    (choices, "are_kept", nothing),
     (candidates, "is_of_other", nothing),
     (candidates, "is_plain_name", nothing),
+    (candidates, "is_weight", nothing),
     (evidence, "named_again", nothing_found),
     (evidence, "is_of_books", nothing),
     (amounts, "is_reduced", nothing),
@@ -186,12 +200,8 @@ def switched_off() -> int:
     usual = all_verdicts()
     useless = []
     for module, name, instead in PARTS:
-        holders = [part for part in (module, choices, guess) if hasattr(part, name)]
-        patches = [mock.patch.object(part, name, instead) for part in {*holders}]
-        for patch in patches:
-            patch.start()
-        changed = changes(usual)
-        mock.patch.stopall()
+        with mock.patch.object(module, name, instead):
+            changed = changes(usual)
         print(f"{name}: {', '.join(changed) or 'nothing'}", flush=True)
         useless += [] if changed else [name]
     for role in ROLES:

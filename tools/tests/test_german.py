@@ -53,7 +53,6 @@ only-code: --only-code names {}, which the input does not have
 print: --print: printers do not take {}
 stream: --stream prints each line
 variants-of: --variants-of needs --title
-no code: --{} may be {}
 print: CUPS prints an interrupted run again from its beginning; give --print tcp://HOST or /dev/usb/lp0
 cell: a grid needs --columns, --rows and --cell
 print: give --to pdf, zpl or escpos

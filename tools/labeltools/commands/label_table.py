@@ -25,6 +25,7 @@ from labeltools.common.process import CommandTalk, read_file, read_input, standa
 from labeltools.common.report import listed
 from labeltools.common.text import (
     either,
+    give,
     joined,
     remedies_of,
     Remedy,
@@ -388,22 +389,33 @@ def commands_for(
 
 def guess_of_sheets(data: bytes, options: TableOptions, budget: Budget) -> tuple[str, Guess]:
     """Returns a guess of a table, and the sheet that alone has EAN or UPC, where there are several;
-    raises `ToolError`.
+    raises `ToolError`, which offers only those that have some.
     """
     try:
         return "", guess_of(data, budget.name, options, Silence(), budget)
     except ToolError as error:
-        found = {}
-        for remedy in remedies_of(error.hint):
-            if remedy.option == "sheet":
-                one = replace(options, file=replace(options.file, sheet=remedy.value))
-                with suppress(ToolError):
-                    guess = guess_of(data, budget.name, one, Silence(), budget)
-                    if any(ways.are_sure for ways in guess.codes.values()):
-                        found[remedy.value] = guess
-        if len(found) != 1:
+        found = guesses_of_sheets(data, options, budget, error)
+        if len(found) == 1:
+            return found.popitem()
+        if not found:
             raise
-        return found.popitem()
+        right = give(*(Remedy("sheet", name) for name in found))
+        raise ToolError(error.what, right, error.status) from error
+
+
+def guesses_of_sheets(
+    data: bytes, options: TableOptions, budget: Budget, error: ToolError
+) -> dict[str, Guess]:
+    """Returns the guesses of the sheets that have EAN or UPC, by their names; an error names all."""
+    found = {}
+    for remedy in remedies_of(error.hint):
+        if remedy.option == "sheet":
+            file = replace(options.file, sheet=remedy.value)
+            with suppress(ToolError):
+                guess = guess_of(data, budget.name, replace(options, file=file), Silence(), budget)
+                if any(reading.are_sure for reading in guess.codes.values()):
+                    found[remedy.value] = guess
+    return found
 
 
 def say_what_is_found(guess: Guess, arguments: argparse.Namespace) -> None:

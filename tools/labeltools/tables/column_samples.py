@@ -14,6 +14,7 @@ from labeltools.tables.columns import NAME_WITH_DIGITS
 from labeltools.tables.name_words import column_words, words_in
 
 DIGITS = re.compile("[0-9]+")
+FIVE_DIGITS = re.compile("(?:[0-9][^0-9]?){5}")  # an EAN-8 without its three zeros has as many
 MANY = 6  # names that begin alike by no chance
 
 
@@ -72,6 +73,8 @@ class ColumnSample:
     @cached_property
     def has_codes(self) -> bool:
         """Whether most of its texts are EAN or UPC by their check digits."""
+        if not self.has(FIVE_DIGITS.search):  # most columns, at once
+            return False
         return self.has(is_code) or has_lost_zeros(self.texts)
 
     @cached_property
