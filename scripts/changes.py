@@ -102,11 +102,17 @@ def is_worked(declaration: Declaration) -> bool:
 
 
 def with_values(file: File, names: Container[str]) -> str:
-    """Returns the text of a file of worked values with these alone; nothing where it has none."""
-    worked = [one for one in file.declarations if is_worked(one)]
-    text = file.text if any(one.name in names for one in worked) else ""
-    for one in reversed(worked):
-        if text and one.name not in names:
+    """Returns the text of a file of worked values with these and those that they cite; nothing where it has none."""
+    worked = {one.name: one for one in file.declarations if is_worked(one)}
+
+    def cited_by(name: str) -> list[str]:
+        """The worked values that a worked value cites."""
+        return [cited for cited in reader.names_in(worked[name].tokens) if cited in worked]
+
+    kept = {*reader.reach([name for name in worked if name in names], cited_by)}
+    text = file.text if kept else ""
+    for name, one in reversed(worked.items()):
+        if text and name not in kept:
             begin, end = file.extent(one.tokens)
             text = text[:begin] + text[end:]
     return text

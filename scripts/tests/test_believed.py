@@ -166,3 +166,10 @@ class Sample(unittest.TestCase):
             left = changes.with_values(file, worked[-1:])
             self.assertEqual([name for name, text in texts.items() if text not in left], worked[:-1])
             self.assertEqual((changes.with_values(file, worked), changes.with_values(file, ["gone"])), (file.text, ""))
+
+    def test_worked_values_that_cite_others(self) -> None:
+        """What a proof cites is copied with it."""
+        (file,) = module("reader").files_at(TOP, [f"{TOP}/crates/filter/proofs/Examples.antt"])
+        copied = changes.with_values(file, ["other_number"])
+        are_there = [name for name in ("other_number", "image_read", "symbols_of_input") if f"\n{name} :" in copied]
+        self.assertEqual(are_there, ["other_number", "image_read"])

@@ -86,7 +86,7 @@ fn long_lines(alloc: Global, letters: usize, comment: usize) -> Result<Vec<u8>, 
 /// hold.
 #[derive(Clone, Copy)]
 struct Failure {
-    at: (u64, u64, u64),
+    fails: (u64, u64, u64),
     fault: RunFault,
     calls: (u64, u64, u64),
     held: (usize, usize),
@@ -94,9 +94,9 @@ struct Failure {
 
 /// Whether a run over the lines fails so. No device is called after the failure.
 fn fails_so(options: &Options, input: &[u8], failure: Failure) -> bool {
-    let mut source = FailAt::new(MemSource::new(input, 1, false), failure.at.0);
-    let mut out: FailAt<MemSink<91>> = FailAt::new(MemSink::new(1, 91), failure.at.1);
-    let mut err: FailAt<MemSink<39>> = FailAt::new(MemSink::new(1, 39), failure.at.2);
+    let mut source = FailAt::new(MemSource::new(input, 1, false), failure.fails.0);
+    let mut out: FailAt<MemSink<91>> = FailAt::new(MemSink::new(1, 91), failure.fails.1);
+    let mut err: FailAt<MemSink<39>> = FailAt::new(MemSink::new(1, 39), failure.fails.2);
     let result = run(*options, &mut source, &mut out, &mut err);
     (result == Err(failure.fault))
         & ((source.calls(), out.calls(), err.calls()) == failure.calls)
@@ -121,7 +121,7 @@ fn each_read_fails(rt: HostRuntime) -> Result<(), Fail> {
             39
         };
         let failure = Failure {
-            at: (call, 0, 0),
+            fails: (call, 0, 0),
             fault: RunFault::Read,
             calls: (call, 0, u64::from(written)),
             held: (0, usize::from(written)),
@@ -139,7 +139,7 @@ fn each_call_of_the_images_fails(rt: HostRuntime) -> Result<(), Fail> {
     for written in 0..=91u8 {
         let call = u64::from(written) + 1;
         let failure = Failure {
-            at: (0, call, 0),
+            fails: (0, call, 0),
             fault: RunFault::WriteOut,
             calls: (READS, call, 39),
             held: (usize::from(written), 39),
@@ -157,7 +157,7 @@ fn each_call_of_the_messages_fails(rt: HostRuntime) -> Result<(), Fail> {
     for written in 0..39u8 {
         let call = u64::from(written) + 1;
         let failure = Failure {
-            at: (0, 0, call),
+            fails: (0, 0, call),
             fault: RunFault::WriteMessages,
             calls: (READS_BEFORE_THE_MESSAGE, 0, call),
             held: (0, usize::from(written)),
@@ -165,7 +165,7 @@ fn each_call_of_the_messages_fails(rt: HostRuntime) -> Result<(), Fail> {
         assert!(rt; fails_so(&options, lines.as_slice(), failure));
     }
     let flush = Failure {
-        at: (0, 0, 40),
+        fails: (0, 0, 40),
         fault: RunFault::WriteMessages,
         calls: (READS, 92, 40),
         held: (91, 39),

@@ -157,50 +157,78 @@ fn lists_of_segments(rt: HostRuntime) -> Result<(), Fail> {
 #[test]
 fn one_digit_too_many(rt: HostRuntime) -> Result<(), Fail> {
     let options = options_by(rt.alloc(), &["--level", "L"])?;
-    let line = text_of(rt.alloc(), &[(b"qr a", 1), (b"1", 645)])?;
+    let data = text_of(rt.alloc(), &[(b"a", 1), (b"1", 645)])?;
     assert!(rt;
         matches!(
-            &choose(&options, &line.as_slice()[3..]),
+            &choose(&options, data.as_slice()),
             Err(Fault::DoesNotFit(Level::L))
         )
     );
+    let line = text_of(rt.alloc(), &[(b"qr a", 1), (b"1", 645)])?;
     let message = b"line 1: data does not fit version 10-L\n";
     assert!(rt; gives_however_cut(&options, line.as_slice(), b"", message));
     Ok(())
 }
 
-/// What the bits of a segment are in versions 1 to 9: a mode, a count, and the payload. There are none if the mode
-/// lacks one of the bytes, which are `1`, `A` and `a`.
-fn cost(mode: Mode, bytes: &[u8]) -> Option<u32> {
-    let len = bytes.len() as u32;
+/// The modes, by the digits of a number to the base 3.
+const MODES: [Mode; 3] = [Mode::Numeric, Mode::Alphanumeric, Mode::Byte];
+
+/// Whether a mode has a byte, which is `1`, `A` or `a`.
+fn has_byte(mode: Mode, byte: u8) -> bool {
     match mode {
-        Mode::Numeric => {
-            if bytes.contains(&b'A') | bytes.contains(&b'a') {
-                return None;
-            }
-            Some(14 + len / 3 * 10 + [0, 4, 7][bytes.len() % 3])
-        }
-        Mode::Alphanumeric => {
-            if bytes.contains(&b'a') {
-                return None;
-            }
-            Some(13 + len / 2 * 11 + len % 2 * 6)
-        }
-        Mode::Byte => Some(12 + 8 * len),
+        Mode::Numeric => byte == b'1',
+        Mode::Alphanumeric => byte != b'a',
+        Mode::Byte => true,
     }
 }
 
-/// The fewest bits of all lists of segments of some bytes: each first segment, with each list of what is left.
-fn fewest_bits(bytes: &[u8]) -> u32 {
-    if bytes.is_empty() {
-        return 0;
+/// The bits of a segment in versions 1 to 9: its mode, its count and its bytes. Three digits are 10 bits, two left over
+/// 7 and one 4; a pair of characters is 11 bits, one left over 6; a byte is 8.
+fn bits_of_segment(mode: Mode, len: u32) -> u32 {
+    match mode {
+        Mode::Numeric => (len / 3)
+            .saturating_mul(10)
+            .saturating_add([0, 4, 7][(len % 3) as usize])
+            .saturating_add(14),
+        Mode::Alphanumeric => (len / 2)
+            .saturating_mul(11)
+            .saturating_add(len % 2 * 6)
+            .saturating_add(13),
+        Mode::Byte => len.saturating_mul(8).saturating_add(12),
     }
+}
+
+/// The bits of the list of segments that two numbers stand for. The bits of `cuts`, the lowest first, say whether a
+/// segment ends after each byte, and the digits of `modes` to the base 3 are the modes. There is no such list if a mode
+/// lacks one of its bytes.
+fn bits_of_list(data: &[u8], cuts: u32, modes: u32) -> Option<u32> {
+    let mut bits: u32 = 0;
+    let mut len: u32 = 0;
+    let mut cuts_left = cuts;
+    let mut modes_left = modes;
+    for (place, byte) in data.iter().enumerate() {
+        let mode = MODES[(modes_left % 3) as usize];
+        if !has_byte(mode, *byte) {
+            return None;
+        }
+        len = len.saturating_add(1);
+        if (cuts_left % 2 == 1) | (place + 1 == data.len()) {
+            bits = bits.saturating_add(bits_of_segment(mode, len));
+            len = 0;
+            modes_left /= 3;
+        }
+        cuts_left /= 2;
+    }
+    Some(bits)
+}
+
+/// The fewest bits of all lists of segments of up to six bytes: every way to cut them, with every mode of each piece.
+fn fewest_bits(data: &[u8]) -> u32 {
     let mut fewest = u32::MAX;
-    for len in 0..bytes.len() {
-        let (first, rest) = bytes.split_at(len + 1);
-        for mode in [Mode::Numeric, Mode::Alphanumeric, Mode::Byte] {
-            if let Some(bits) = cost(mode, first) {
-                fewest = fewest.min(bits.saturating_add(fewest_bits(rest)));
+    for cuts in 0..32 {
+        for modes in 0..729 {
+            if let Some(bits) = bits_of_list(data, cuts, modes) {
+                fewest = fewest.min(bits);
             }
         }
     }

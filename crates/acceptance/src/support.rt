@@ -98,8 +98,8 @@ pub fn gives_however_cut(options: &Options, input: &[u8], images: &[u8], message
     if !by_pieces {
         return false;
     }
-    for at in 0..input.len() {
-        let (first, second) = input.split_at(at);
+    for place in 0..=input.len() {
+        let (first, second) = input.split_at(place);
         if !fed(options, first, second).gives(images, messages) {
             return false;
         }

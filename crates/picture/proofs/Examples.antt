@@ -3,7 +3,8 @@ use Rattle.std.specs.Prelude.{◌≡◌, ℕ, ◌/◌, ◌%◌, Bool, ◌==◌, 
 use Rattle.std.specs.Prelude.{false, Some, None, replicate, take, slice_set, slice_index_or}
 use Rattle.std.specs.List.{range_with_len}
 use Rattle.std.specs.Fmt.{digits}
-use Rattle.picture.specs.Picture.{Picture, bars, with_quiet_zone, enlargement}
+use Rattle.labelcore.specs.Lines.{ended_lines, ended_text}
+use Rattle.picture.specs.Picture.{Picture, bars, with_quiet_zone, enlargement, zone_with}
 use Rattle.picture.specs.declared.quiet_zone.QuietZone.{QuietZone}
 use Rattle.picture.specs.Text.{pbm_text, ascii_text}
 use Rattle.picture.specs.Reading.{Raster, pbm_pixels, ascii_pixels, is_white, raster, pbm_files, ascii_files, sample}
@@ -45,6 +46,11 @@ cut : (pbm_files (pbm_text large ++ pbm_text ean8_picture) ≡ pbm_text large �
     × (pbm_files (codes "P1\n1 1\n0\nP\nP11\n") ≡ codes "P1\n1 1\n0\nP\nP11\n" ∷ [])
 unfolding digits
 cut = (refl, refl, refl, refl, refl)
+
+-- the first byte of another file is no part of the one before it
+cut_of_ended : pbm_files (ended_text (codes "P1\n1 1\n0\nP")) ≡ codes "P1\n1 1\n0\n" ∷ []
+unfolding ended_text ended_lines
+cut_of_ended = refl
 
 large_sampled : sample (raster large) 3 zone ≡ Some
     ((true ∷ false ∷ true ∷ true ∷ []) ∷ (true ∷ false ∷ true ∷ true ∷ []) ∷ [])
@@ -101,6 +107,9 @@ text_pixels = (refl, refl, refl)
 -- (ISO/IEC 18004, 6.3.8)
 abbrev four_sides : QuietZone
 four_sides = record { left = 2; right = 1; top = 1; bottom = 2 }
+
+sides_of_zone : zone_with 2 1 3 4 ≡ record { left = 2; right = 1; top = 3; bottom = 4 }
+sides_of_zone = refl
 
 abbrev framed : Raster
 framed = record {
