@@ -3,6 +3,8 @@ use Rattle.std.proofs.Common.{◌≡◌, ℕ, ◌+◌, ◌-◌, ◌*◌, ◌<◌
 use Rattle.qrmatrix.specs.Private.Counting.{count_below, sum_below}
 use Rattle.qrmatrix.specs.Private.PenaltyParts.{penalty_without_finders}
 use Rattle.qrmatrix.specs.Penalty.{balance_penalty, dark_count, is_one_colour, run_penalty, square_penalty, window_points}
+use Rattle.qrmatrix.specs.Penalty.{shows_finder}
+use Rattle.qrmatrix.proofs.FinderLaws.{shows_finder-parts}
 use Rattle.qrmatrix.proofs.PenaltySumLaws.{dark_count-sum, run_penalty-sum, square_penalty-sum}
 use Rattle.qrmatrix.proofs.SumLaws.{sum_below_same}
 use Rattle.qrmatrix.proofs.WindowLaws.{count_same, five_equal}
@@ -20,6 +22,32 @@ runs-same n l k same =
     points-same l k i (same (i - 1) (omega arith)) (same i (omega arith)) (same (i + 1) (omega arith))
     (same (i + 2) (omega arith)) (same (i + 3) (omega arith)) (same (i + 4) (omega arith)))
     ∙ sym (run_penalty-sum n k)
+
+-- a window that looks like a finder pattern
+finder-same : (n i : ℕ) (l k : ℕ → Bool) → i < n - 10 → ((j : ℕ) → j < n → l j ≡ k j)
+    → shows_finder l i ≡ shows_finder k i
+finder-same n i l k h same =
+    rw (
+      shows_finder-parts l i,
+      shows_finder-parts k i,
+      same i (omega arith),
+      same (i + 1) (omega arith),
+      same (i + 2) (omega arith),
+      same (i + 3) (omega arith),
+      same (i + 4) (omega arith),
+      same (i + 5) (omega arith),
+      same (i + 6) (omega arith),
+      same (i + 7) (omega arith),
+      same (i + 7 + 1) (omega arith),
+      same (i + 7 + 2) (omega arith),
+      same (i + 7 + 3) (omega arith),
+      same (i + 4 + 1) (omega arith),
+      same (i + 4 + 2) (omega arith),
+      same (i + 4 + 3) (omega arith),
+      same (i + 4 + 4) (omega arith),
+      same (i + 4 + 5) (omega arith),
+      same (i + 4 + 6) (omega arith),
+    ) refl
 
 module _ (n : ℕ) (m k : ℕ → ℕ → Bool) (same : (x y : ℕ) → x < n → y < n → m x y ≡ k x y) where
   squares-same : square_penalty n m ≡ square_penalty n k
@@ -51,3 +79,11 @@ module _ (n : ℕ) (m k : ℕ → ℕ → Bool) (same : (x y : ℕ) → x < n �
       (λ x lx. runs-same n (λ y. m x y) (λ y. k x y) (λ y ly. same x y lx ly)) in
       let balance = ap (balance_penalty n) dark-same in
       omega (arith, squares-same)
+
+  pub finders-same : sum_below n (λ y. count_below (n - 10) (shows_finder (λ x. m x y)))
+      ≡ sum_below n (λ y. count_below (n - 10) (shows_finder (λ x. k x y)))
+  finders-same =
+      sum_below_same n (λ y. count_below (n - 10) (shows_finder (λ x. m x y)))
+      (λ y. count_below (n - 10) (shows_finder (λ x. k x y))) (λ y ly.
+      count_same (n - 10) (shows_finder (λ x. m x y)) (shows_finder (λ x. k x y)) (λ x lx.
+      finder-same n x (λ x. m x y) (λ x. k x y) lx (λ j lj. same j y lj ly)))

@@ -1,5 +1,5 @@
 -- Windows of lines by bits of rows.
-use Rattle.std.proofs.Common.{◌≡◌, ℕ, ◌+◌, ◌-◌, ◌*◌, ◌%◌, ◌^◌, ◌<◌, ◌≤◌, refl, ap, ◌∙◌, arith, Bool, ◌&&◌, add-one}
+use Rattle.std.proofs.Common.{◌≡◌, ℕ, ◌+◌, ◌-◌, ◌*◌, ◌%◌, ◌^◌, ◌<◌, refl, ap, ◌∙◌, arith, Bool, ◌&&◌, add-one}
 use Rattle.std.proofs.Common.{true, false, inl, inr, not}
 use Rattle.std.specs.Bool.{beq}
 use Rattle.std.specs.Int.{bit_not, w64}

@@ -4,6 +4,7 @@ ghost use Rattle.std.specs.Bool.{beq};
 ghost use Rattle.qrmatrix.specs.Private.Counting.{sum_below, count_below};
 ghost use Rattle.qrmatrix.specs.Bits.{bit};
 ghost use Rattle.qrmatrix.specs.Penalty.{is_uniform};
+ghost use Rattle.qrmatrix.specs.Private.PenaltyParts.{finder_from, light_from};
 
 /// Returns ones in the lowest `count` places, and zeros above.
 pub fn low_ones(count: usize) -> u32
@@ -57,6 +58,25 @@ pub fn uniform_five(row_bits: u32) -> u32
     let changes = changes_in(row_bits);
     let changes_of_two = changes | (changes >> 1);
     !(changes_of_two | (changes_of_two >> 2))
+}
+
+/// Returns the places of a row from which seven modules are those of a finder pattern: a dark one, then two changes, two
+/// places without one, and two changes.
+pub fn finders_from(row_bits: u32) -> u32
+    ensures { (i : ℕ) → i < 32 → bit result i ≡ finder_from (bit row_bits) i }
+{
+    let changes = changes_in(row_bits);
+    let two_changes = changes & (changes >> 1);
+    let one_change = changes | (changes >> 1);
+    row_bits & two_changes & !(one_change >> 2) & (two_changes >> 4)
+}
+
+/// Returns the places of a row from which one of four modules is dark.
+pub fn dark_in_four(row_bits: u32) -> u32
+    ensures { (i : ℕ) → i < 32 → bit result i ≡ not (light_from (bit row_bits) i) }
+{
+    let dark_in_two = row_bits | (row_bits >> 1);
+    dark_in_two | (dark_in_two >> 2)
 }
 
 /// Returns the penalty of runs in the lowest `count` places. `uniform` has the places at which windows of one colour

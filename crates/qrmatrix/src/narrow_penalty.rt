@@ -1,15 +1,17 @@
 //! The runs, the squares and the balance of the small symbols, by operations on whole rows of 32 bits: the compiler
 //! works on twice as many rows at once as of 64 bits.
-ghost use Rattle.std.specs.Prelude.{◌≡◌, ℕ, ◌+◌, ◌-◌, ◌*◌, ◌<◌, ◌≤◌, nat_lt, if◌then◌else◌};
+ghost use Rattle.std.specs.Prelude.{◌≡◌, ◌+◌, ◌-◌, ◌*◌, ◌<◌, ◌≤◌, nat_lt, if◌then◌else◌};
 ghost use Rattle.qrmatrix.specs.Private.Counting.{sum_below, count_below};
 ghost use Rattle.qrmatrix.specs.Private.Narrow.{IsNarrowSide, narrow_at};
 ghost use Rattle.qrmatrix.specs.Private.PenaltyParts.{row_penalty};
 ghost use Rattle.qrmatrix.specs.Bits.{bit};
-ghost use Rattle.qrmatrix.specs.Penalty.{run_penalty, is_one_colour};
+ghost use Rattle.qrmatrix.specs.Penalty.{run_penalty, is_one_colour, shows_finder};
 ghost use Rattle.qrmatrix.specs.Penalty.{window_points};
 
 use crate::narrow::row_at;
-use crate::narrow_bits::{agreeing, agreeing_five, ones_below, run_points, uniform_five};
+use crate::narrow_bits::{
+    agreeing, agreeing_five, dark_in_four, finders_from, ones_below, run_points, uniform_five,
+};
 use crate::penalty::balance;
 use crate::square::SIDE;
 
@@ -95,6 +97,34 @@ pub fn column_penalty(modules: &[u32; 32], side: usize) -> u32
     let mut total = column_runs(modules, side, 0);
     for y in 1..side - 4 {
         total += column_runs(modules, side, y);
+    }
+    total
+}
+
+/// Returns how many windows of a row look like a finder pattern.
+fn row_finders(row_bits: u32, side: usize) -> u32
+    requires side { IsNarrowSide side }
+    ensures value { result ≡ count_below (side - 10) (shows_finder (bit row_bits)) }
+    ensures bound { result ≤ side }
+{
+    let finders = finders_from(row_bits);
+    let dark = dark_in_four(row_bits);
+    ones_below(
+        (finders & !(dark >> 7)) | ((finders >> 4) & !dark),
+        side - 10,
+    )
+}
+
+/// Returns how many windows of all rows look like a finder pattern.
+pub fn all_row_finders(modules: &[u32; 32], side: usize) -> u32
+    requires side { IsNarrowSide side }
+    ensures value { result
+        ≡ sum_below side (λ y. count_below (side - 10) (shows_finder (λ x. narrow_at modules.now x y))) }
+    ensures bound { result ≤ SIDE * side }
+{
+    let mut total = 0;
+    for y in 0..side {
+        total += row_finders(row_at(modules, y), side);
     }
     total
 }

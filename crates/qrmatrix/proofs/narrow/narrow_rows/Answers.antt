@@ -3,8 +3,6 @@ use Rattle.std.proofs.Common.{get_or-set_other, get_or-set_same}
 use Rattle.std.specs.Prelude.{bit_and}
 use Rattle.std.proofs.lemmas.Bool.{cases_eq, lt-ltb}
 use Rattle.qrmatrix.specs.Bits.{bit}
-use Rattle.qrmatrix.specs.Private.Narrow.{narrow_at}
-use Rattle.qrmatrix.specs.Square.{value_at}
 use Rattle.qrmatrix.proofs.RowBitsLaws.{and_bit, low_bit}
 use Rattle.qrmatrix.proofs.narrow.narrow_rows.Goals as goal
 

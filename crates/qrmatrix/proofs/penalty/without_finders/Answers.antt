@@ -1,4 +1,4 @@
-use Rattle.std.proofs.Common.{◌∙◌, arith, sym}
+use Rattle.std.proofs.Common.{arith}
 use Rattle.qrmatrix.specs.Private.Narrow.{narrow_at}
 use Rattle.qrmatrix.specs.Square.{value_at}
 use Rattle.qrmatrix.proofs.NarrowLaws.{without_finders-same}
