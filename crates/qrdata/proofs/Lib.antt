@@ -17,6 +17,7 @@ pub mod DataReadingLaws
 pub mod DamageLaws
 pub mod CodewordByteLaws
 pub mod ReadFitLaws
+pub mod RunLaws
 pub mod SameWidthLaws
 pub mod SegmentReadingLaws
 pub mod SmallChoiceLaws

@@ -156,7 +156,7 @@ fn plan_of(version: Version, level: Level, bytes: &[u8], firsts: &Firsts, bits: 
     let mut segments = ArrayVec::new();
     let mut place = 0;
     while place < bytes.len() {
-        let first = firsts.at(bytes.len() - 1 - place);
+        let first = firsts.at(place);
         segments.push(first);
         place += usize::from(first.len);
     }
