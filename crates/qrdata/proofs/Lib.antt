@@ -15,6 +15,7 @@ pub mod PaddingLaws
 pub mod PayloadLaws
 pub mod DataReadingLaws
 pub mod DamageLaws
+pub mod DigitsLaws
 pub mod CodewordByteLaws
 pub mod ReadFitLaws
 pub mod RunLaws

@@ -1,5 +1,7 @@
 -- The plan of the smallest version in a range (ISO/IEC 18004, 7.4.1).
-use Rattle.std.specs.Prelude.{◌≡◌, ℕ, ◌<◌, ◌≤◌, List, ◌∷◌, length, drop}
+use Rattle.std.specs.Prelude.{◌≡◌, ℕ, ◌<◌, ◌≤◌, List, ◌∷◌, length, drop, IsTrue}
+use Rattle.std.specs.Char.{is_ascii_digit}
+use Rattle.std.specs.List.{list_all}
 use Rattle.labelcore.specs.declared.level.Level.{Level}
 use Rattle.qrdata.specs.declared.mode.Mode.{Mode}
 use Rattle.qrdata.specs.declared.mode.Segment.{Segment}
@@ -62,3 +64,8 @@ pub record FitsBits (version : ℕ) (level : Level) (bits : ℕ) (segments : Lis
   pub value : bits ≡ cost version segments
   pub fits : bits ≤ capacity version level
   pub short : length segments ≤ MAX_SEGMENTS
+
+-- the bytes are this many digits
+pub record AreDigits (len : ℕ) (bytes : List ℕ) : Type 0 where
+  pub size : length bytes ≡ len
+  pub digits : IsTrue (list_all is_ascii_digit bytes)
