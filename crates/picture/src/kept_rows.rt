@@ -50,6 +50,7 @@ pub fn write_kept_rows<T: PixelText, G: Grid, S: Sink>(
 }
 
 /// Writes the row of `width` pixels that are the bits of a number, the lowest first: one piece.
+#[inline(always)]
 fn write_row_bits<T: PixelText, S: Sink>(
     row: u64,
     width: usize,
