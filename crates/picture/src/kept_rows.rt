@@ -1,5 +1,5 @@
 //! The rows of a grid that is narrow enough to keep one of them: each row is rendered once for all that equal it.
-ghost use Rattle.std.specs.Prelude.{IfOk, IfErr, ◌+◌, ◌*◌, ◌^◌, ◌<◌, ◌≤◌, length, map, max, take};
+ghost use Rattle.std.specs.Prelude.{◌+◌, ◌*◌, ◌^◌, ◌<◌, ◌≤◌, length, map, max, take};
 ghost use Rattle.device.specs.Writing.{WritesText};
 ghost use Rattle.qrmatrix.specs.Bits.{bit};
 ghost use Rattle.picture.specs.Private.Rows.{EndsWith, repeated, row_text, rows_text};
@@ -77,15 +77,22 @@ fn write_equal_rows<T: PixelText, S: Sink>(
         (repeated count (row_text T.text T.row_end (take width kept.now))) result }
 {
     write_row::<T, S>(kept, width, sink)?;
-    let at_once = rows_at_once(T::row_len(width));
+    let len = T::row_len(width);
+    let at_once = rows_at_once(len);
     let mut written = 1;
-    // How many of the rows that were written last are repeated next.
-    let mut block = 1;
+    // How many rows to repeat next: twice as many as last time, or one where the sink no longer had these rows or no
+    // room for them.
+    let mut block: usize = 1;
     while written < count {
-        let rows = at_once.min(block).min(count - written);
-        let again = repeat_rows::<T, S>(kept, width, rows, sink)?;
-        written += again;
-        block = next_block(rows, again);
+        let rows = block.min(count - written);
+        if sink.repeat(rows * len) {
+            written += rows;
+            block = at_once.min(rows + rows);
+        } else {
+            repeat_row::<T, S>(kept, width, sink)?;
+            written += 1;
+            block = 1;
+        }
     }
     Ok(())
 }
@@ -97,42 +104,6 @@ fn rows_at_once(len: usize) -> usize
     ensures most { result * len ≤ max 4096 len }
 {
     (BLOCK / len.max(1)).max(1)
-}
-
-/// Returns how many rows to repeat next, after `again` of `rows` rows were: twice as many, or one row where the sink no
-/// longer has them all.
-fn next_block(rows: usize, again: usize) -> usize
-    requires { (0 < again) × (rows + again < 2 ^ 64) }
-    ensures { (0 < result) × (result ≤ rows + again) }
-{
-    if again == rows { rows + again } else { 1 }
-}
-
-/// Writes the row of `width` pixels at the front of `kept` `count` times, after it was written as often, where the sink
-/// repeats these rows at once: it still has them, and room for them. Else it writes the row once. Returns how many times
-/// it wrote it.
-fn repeat_rows<T: PixelText, S: Sink>(
-    kept: &[bool],
-    width: usize,
-    count: usize,
-    sink: &mut S,
-) -> Result<usize, IoFault>
-    requires some { 0 < count }
-    requires fits { width + 80 ≤ length kept.now }
-    requires last { EndsWith S.took sink.old
-        (repeated count (row_text T.text T.row_end (take width kept.now))) }
-    requires short { length (repeated count (row_text T.text T.row_end (take width kept.now))) < 2 ^ 64 }
-    ensures some { IfOk result (λ rows. (0 < rows) × (rows ≤ count)) }
-    ensures writes { IfOk result (λ rows. WritesText S.Sink sink.old sink.new
-        (repeated rows (row_text T.text T.row_end (take width kept.now))) result) }
-    ensures fails { IfErr result (λ _. WritesText S.Sink sink.old sink.new
-        (row_text T.text T.row_end (take width kept.now)) result) }
-{
-    if sink.repeat(count * T::row_len(width)) {
-        return Ok(count);
-    }
-    repeat_row::<T, S>(kept, width, sink)?;
-    Ok(1)
 }
 
 /// Writes the row of `width` pixels at the front of `kept`, which was written last. The sink repeats it where it still

@@ -1,5 +1,5 @@
 -- Data of digits alone is one segment in numeric mode.
-use Rattle.std.proofs.Common.{◌≡◌, ℕ, ◌+◌, ◌*◌, ◌/◌, ◌^◌, ◌<◌, ◌≤◌, List, [], ◌∷◌, drop, take, length, refl, sym, subst, ap}
+use Rattle.std.proofs.Common.{◌≡◌, ℕ, ◌+◌, ◌^◌, ◌<◌, ◌≤◌, List, [], ◌∷◌, drop, length, refl, sym, subst, ap}
 use Rattle.std.proofs.Common.{◌∙◌, arith}
 use Rattle.std.proofs.Common.{true, false, inl, inr, cond}
 use Rattle.std.specs.Prelude.{IsTrue, nat_lt}
@@ -13,7 +13,7 @@ use Rattle.qrdata.specs.declared.mode.Mode.TheVariants.{Numeric, Alphanumeric, B
 use Rattle.qrdata.specs.declared.mode.Segment.{Segment}
 use Rattle.qrdata.specs.Fewest.{chosen_segments}
 use Rattle.qrdata.specs.Private.SmallestPlan.{AreDigits, SameWidths}
-use Rattle.qrdata.specs.Segments.{IsFirstSegment, IsSegmentation, cost, count_width, payload_length}
+use Rattle.qrdata.specs.Segments.{IsSegmentation, cost, count_width, payload_length}
 use Rattle.qrdata.specs.Segments.{segment_length, segment_of}
 use Rattle.qrdata.proofs.ChoiceLimitLaws.{rising, same_mode}
 use Rattle.qrdata.proofs.FewestBitsLaws.{chosen_segments-best, chosen_segments-is, chosen_segments-nil}

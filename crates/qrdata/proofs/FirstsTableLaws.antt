@@ -1,13 +1,12 @@
 -- A table of best first segments is right in all versions whose character counts are as
 -- wide.
-use Rattle.std.proofs.Common.{◌≡◌, ℕ, zero, suc, [], ◌++◌, ◌+◌, ◌-◌, ◌<◌, ◌≤◌, List, ◌∷◌, drop, length, get_or, refl}
+use Rattle.std.proofs.Common.{◌≡◌, ℕ, ◌+◌, ◌<◌, ◌≤◌, List, ◌∷◌, drop, length}
 use Rattle.std.proofs.Common.{sym, subst, ap, ◌∙◌, arith, cond}
 use Rattle.std.specs.Prelude.{nat_lt}
-use Rattle.std.proofs.lemmas.List.{get_or_append_left, length-append, drop-drop, get_or-map, length-drop, length-map}
-use Rattle.std.proofs.Math.Seq.{get_or-append_seam}
+use Rattle.std.proofs.lemmas.List.{drop-drop, length-drop}
 use Rattle.std.proofs.lemmas.List.Sums.{sum_by-cons}
 use Rattle.labelcore.specs.declared.level.Level.{Level}
-use Rattle.qrdata.specs.declared.mode.Mode.TheVariants.{Byte, Numeric}
+use Rattle.qrdata.specs.declared.mode.Mode.TheVariants.{Byte}
 use Rattle.qrdata.specs.declared.mode.Segment.{Segment}
 use Rattle.qrdata.specs.Fewest.{chosen_segments}
 use Rattle.qrdata.specs.Private.Firsts.{first_at}
@@ -22,7 +21,6 @@ use Rattle.qrdata.proofs.ChoiceLimitLaws.{Agrees-if_fits}
 use Rattle.qrdata.proofs.FewestBitsLaws.{chosen_segments-is}
 use Rattle.qrdata.proofs.SameWidthLaws.{chosen_segments-same, cost-chosen_same}
 use Rattle.qrdata.proofs.VersionLaws.{IsSound-of, widest}
-use Rattle.qrdata.proofs.LengthLaws.{default_segment}
 
 -- the capacities of the versions whose character counts are as wide
 pub capacity_as_wide : (v w : ℕ) (level : Level) → SameWidths v w → 1 ≤ v → v ≤ 10 → capacity v level ≤ widest w

@@ -10,6 +10,7 @@ invariant-loop-written g l =
     record {
       some : 0 < l.block;
       known : l.block ≤ l.written;
+      few : l.block ≤ l.at_once;
       most : l.written ≤ l.count;
       rows : HasWritten g.S.Sink l.fn.sink l.sink (repeated l.written row);
     }

@@ -1,8 +1,7 @@
 use Rattle.std.proofs.Common.{◌≡◌, ◌∙◌, ◌+◌, ◌-◌, sym, subst, ap, arith, drop}
 use Rattle.std.proofs.lemmas.List.{length-drop}
 use Rattle.qrdata.specs.declared.segmentation.Choices.{Choices}
-use Rattle.qrdata.specs.Private.ChoiceView.{ChoiceView}
-use Rattle.qrdata.specs.Private.Table.{AreSmall, IsSmall, byte_choices, choices_of}
+use Rattle.qrdata.specs.Private.Table.{AreSmall, IsSmall, byte_choices}
 use Rattle.qrdata.proofs.RunLaws.{named_more, run_first, run_more}
 use Rattle.qrdata.proofs.SmallChoiceLaws.{AreSmall-of}
 use Rattle.qrdata.proofs.segmentation.write_run.Goals as goal
