@@ -1,5 +1,5 @@
 //! QR: products and parity, codewords, the matrix, and whole symbols. Matrices are compared with slow ones (`slow`).
-ghost use Rattle.std.specs.Prelude.{◌≡◌, ◌<◌, length};
+ghost use Rattle.std.specs.Prelude.{◌≡◌, length};
 ghost use Rattle.qrdata.specs.Versions.{total_codewords};
 
 mod slow;

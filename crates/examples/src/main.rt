@@ -1,5 +1,6 @@
-//! Three examples over the libraries: a run over a text in memory; a filter that is fed piece by piece, as by a caller
-//! who does the reading; and one QR symbol, shown on a dark terminal through a grid that this program defines.
+//! Examples over the libraries: a run over a text in memory; a filter that is fed piece by piece, as by a caller who
+//! does the reading; one QR symbol, shown on a dark terminal through a grid that this program defines; and a label of
+//! each symbology, in each format and at two scales.
 #![tactic(auto)]
 
 mod in_memory;
@@ -8,7 +9,7 @@ mod pieces;
 mod symbol;
 
 use device::StdSink;
-use filter::Status;
+use filter::{Status, run};
 use in_memory::draw_labels;
 use labelcore::{Format, Level, Options};
 use negative::Negative;
@@ -22,7 +23,8 @@ use testing::{MemSink, MemSource};
 fn main(rt: HostRuntime) -> io::Result<()> {
     draw_text(&rt)?;
     feed_pieces(&rt)?;
-    show_symbol(&rt)
+    show_symbol(&rt)?;
+    draw_each_symbology(&rt)
 }
 
 /// Draws the label of a text in memory, and prints how many bytes its picture has.
@@ -78,5 +80,33 @@ fn show_symbol(rt: &HostRuntime) -> io::Result<()> {
     match write_ascii(&picture, &mut StdSink::new(rt.stdout())) {
         Ok(()) => Ok(()),
         Err(_) => println!(rt; "a write failed"),
+    }
+}
+
+/// A line for each symbology.
+const LABELS: &[u8] =
+    b"ean13 4006381333931\nean8 7351353\nupca 03600029145\ncode128 PJJ123C\nqr 01234567\n";
+
+/// Draws these labels in each format, at two scales.
+fn draw_each_symbology(rt: &HostRuntime) -> io::Result<()> {
+    for format in [Format::Pbm, Format::Ascii] {
+        for scale in [1, 2] {
+            draw_lines(rt, format, scale)?;
+        }
+    }
+    Ok(())
+}
+
+/// Draws the labels one module high, or with mask 2, and prints the images.
+fn draw_lines(rt: &HostRuntime, format: Format, scale: u8) -> io::Result<()> {
+    let Some(options) = Options::new(format, scale, 1, Level::M, 1, Some(2), false) else {
+        return println!(rt; "options out of range");
+    };
+    let mut source = MemSource::new(LABELS, 4096, false);
+    let mut images = StdSink::new(rt.stdout());
+    let mut messages: MemSink<64> = MemSink::new(64, 64);
+    match run(options, &mut source, &mut images, &mut messages) {
+        Ok(_) => Ok(()),
+        Err(_) => println!(rt; "a sink failed"),
     }
 }

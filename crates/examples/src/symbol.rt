@@ -11,8 +11,8 @@ use labelcore::{Fault, Options};
 use qrdata::{Words, choose, codewords};
 use qrmatrix::Matrix;
 
-/// Returns the QR symbol of the bytes, in the smallest version that holds them at the level of the options. Its modules read
-/// back as the bytes.
+/// Returns the QR symbol of the bytes, in the smallest version that holds them at the level of the options. Its modules
+/// read back as the bytes.
 ///
 /// # Errors
 ///

@@ -9,9 +9,9 @@ use Rattle.filter.proofs.Words.{option_and_then, All-from_recursion, recursion_f
 use Rattle.filter.proofs.Words.{and-false, All-map, RunValues, picture_of, quiet_zone, symbol_of, qr_modules, cases_lt}
 use Rattle.filter.proofs.Words.{All-weaker, outcome_of, LabelValues, events_after, image_of, linear_symbol, get_or_past}
 use Rattle.std.specs.List.{AllByRecursion, flat_map, list_all}
-use Rattle.std.specs.Prelude.{codes}
 use Rattle.std.proofs.Math.Nat.{mul-pos}
 use Rattle.labelcore.proofs.LinesLaws.{AllOf-lines}
+use Rattle.labelcore.specs.Lines.{ended_text}
 use Rattle.labelcore.specs.declared.options.Format.{Format}
 use Rattle.labelcore.specs.declared.options.Format.TheVariants.{Pbm, Ascii}
 use Rattle.labelcore.specs.LineItem.{HasData}
@@ -23,6 +23,7 @@ use Rattle.picture.specs.ReadingLaws.{IsDrawable}
 use Rattle.picture.proofs.AsciiLaws.{ascii_files-flat_map, ascii_pixels-ascii_text}
 use Rattle.picture.proofs.CutLaws.{pbm_files-flat_map}
 use Rattle.picture.proofs.PbmLaws.{pbm_pixels-pbm_text}
+use Rattle.std.proofs.lemmas.List.{append-nil}
 use Rattle.picture.proofs.SampleLaws.{sample-raster, value_at-raster, common_row-bars}
 use Rattle.filter.proofs.DamageLaws.{IsGuarded-read, rows_read}
 use Rattle.filter.proofs.AloneLaws.{IsAlone-read, rows_alone}
@@ -275,12 +276,20 @@ module _ (run : RunValues) (label : LabelValues) (range : AreInRange run label) 
   outcome_read (Err fault) h = tt
 
   -- a stream of images, and a beginning of more
-  stream_cut : (format : Format) (pictures more : List Picture) (begun rest : List ℕ) → begun ≢ codes "P" → All IsDrawable pictures
+  stream_cut : (format : Format) (pictures more : List Picture) (begun rest : List ℕ) → All IsDrawable pictures
       → flat_map (text_of format) more ≡ begun ++ rest
-      → cut format (flat_map (text_of format) pictures ++ begun) ≡ map (text_of format) pictures ++ cut format begun
-  stream_cut Pbm pictures more begun rest some all e = pbm_files-flat_map pictures more begun rest some all e
-  stream_cut Ascii pictures more begun rest some all e = ascii_files-flat_map pictures more begun rest some
+      → cut format (ended_text (flat_map (text_of format) pictures ++ begun))
+      ≡ map (text_of format) pictures ++ cut format (ended_text begun)
+  stream_cut Pbm pictures more begun rest all e = pbm_files-flat_map.begins pictures more begun rest all e
+  stream_cut Ascii pictures more begun rest all e = ascii_files-flat_map.begins pictures more begun rest
       (All-weaker IsDrawable (λ p. 0 < p.width) (λ p h. h.some) pictures all) e
+
+  -- a stream of images, and no more
+  whole_cut : (format : Format) (pictures : List Picture) → All IsDrawable pictures
+      → cut format (flat_map (text_of format) pictures) ≡ map (text_of format) pictures
+  whole_cut Pbm pictures all = pbm_files-flat_map.whole pictures all
+  whole_cut Ascii pictures all = ascii_files-flat_map.whole pictures
+      (All-weaker IsDrawable (λ p. 0 < p.width) (λ p h. h.some) pictures all)
 
   all_read : (symbols : List Symbol) → AllByRecursion IsReadable symbols
       → AreRead run.format run.scale (map (text_of run.format) (map (picture_of run) symbols)) symbols
@@ -301,10 +310,10 @@ module _ (run : RunValues) (label : LabelValues) (range : AreInRange run label) 
   symbols_readable (flushes ∷ events) w = symbols_readable events w.1
 
   -- the images of a script, cut, are read as the full data of its symbols, whatever is begun after them
-  images_of_events_read : (events later : List Event) (begun rest : List ℕ) → begun ≢ codes "P" → AllByRecursion EventIsReadable events
+  images_of_events_read : (events later : List Event) (begun rest : List ℕ) → AllByRecursion EventIsReadable events
       → AllByRecursion EventIsReadable later → sent run Images later ≡ begun ++ rest
       → HoldsImages run.format run.scale (drawn_symbols events) (sent run Images events ++ begun) begun
-  images_of_events_read events later begun rest some w w' e =
+  images_of_events_read events later begun rest w w' e =
       let symbols = drawn_symbols events in
       let found = symbols_readable events w in
       let more = symbols_readable later w' in
@@ -314,7 +323,11 @@ module _ (run : RunValues) (label : LabelValues) (range : AreInRange run label) 
       record {
         images = map (text_of run.format) (map (picture_of run) symbols);
         parts = rw found.1 (stream_cut run.format (map (picture_of run) symbols)
-            (map (picture_of run) (drawn_symbols later)) begun rest some drawables (sym more.1 ∙ e));
+            (map (picture_of run) (drawn_symbols later)) begun rest drawables (sym more.1 ∙ e));
+        whole = λ none.
+            ap (cut run.format) (ap (λ (bytes : List ℕ). sent run Images events ++ bytes) none
+            ∙ append-nil (sent run Images events) ∙ found.1)
+            ∙ whole_cut run.format (map (picture_of run) symbols) drawables;
         read = all_read symbols found.0;
       }
 
@@ -363,7 +376,7 @@ module _ (options : Options) (range : AreInRange options.run options.label) wher
 
   -- what the script of a text sends reads back
   pub script_of_text_read : (text : List ℕ) → All (λ b. b < 256) text → ReadsBack options.run (script options text)
-  script_of_text_read text w front later begun rest some cut held =
+  script_of_text_read text w front later begun rest cut held =
       let parts = both_parts front later (subst (AllByRecursion EventIsReadable) cut (script_readable 0 (lines text)
       (AllOf-lines (λ b. b < 256) text (recursion_from_All (λ b. b < 256) text w)))) in
-      images_of_events_read options.run options.label range front later begun rest some parts.0 parts.1 held
+      images_of_events_read options.run options.label range front later begun rest parts.0 parts.1 held

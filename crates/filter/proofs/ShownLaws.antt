@@ -18,8 +18,6 @@ use Rattle.qrdata.specs.Fewest.{chosen_version}
 use Rattle.qrdata.proofs.ReadFitLaws.{unread-none_fits}
 use Rattle.qrdata.proofs.VersionSearchLaws.{NoneFits-chosen_none}
 use Rattle.filter.specs.Output.{line_number, message_of}
-use Rattle.labelcore.specs.declared.options.Format.{Format}
-use Rattle.labelcore.specs.declared.options.Format.TheVariants.{Ascii, Pbm}
 use Rattle.filter.specs.Readback.{AreRead}
 use Rattle.filter.specs.Reading.{cut}
 use Rattle.filter.specs.Run.{Produces}
@@ -167,18 +165,13 @@ module _ (options : Options) where
         told_is = (λ i. here.told_is i || there.told_is i);
       }
 
-cut_nil : (format : Format) → cut format [] ≡ []
-unfolding lines
-cut_nil Pbm = refl
-cut_nil Ascii = refl
-
 pub Shows-from : (options : Options) (gave : List ℕ → Type 0) (took : Channel → List ℕ → Type 0) (status : Status)
     → Produces options gave took (Ok status) → Shows options gave took status
 unfolding status_of
 Shows-from options gave took status p =
     let events = script options p.text in
     let stream = sent options.run Images events in
-    let h = p.read events [] [] [] (λ e. cc) (sym (append-nil events)) refl in
+    let h = p.read events [] [] [] (sym (append-nil events)) refl in
     let are = are_shown options 0 (lines p.text) h.images h.read in
     record {
       text = p.text;
@@ -186,8 +179,7 @@ Shows-from options gave took status p =
       shown = are.all;
       each = are.each;
       stream = stream;
-      images = ap (cut options.run.format) (sym (append-nil stream)) ∙ h.parts
-          ∙ ap (λ l. h.images ++ l) (cut_nil options.run.format) ∙ append-nil h.images ∙ are.images_are;
+      images = ap (cut options.run.format) (sym (append-nil stream)) ∙ h.whole refl ∙ are.images_are;
       took_images = p.sends Images;
       took_messages = subst (took Messages) are.messages_are (p.sends Messages);
       status_is = p.status ∙ ap (λ b. if b then Refused else Clean) are.told_is;

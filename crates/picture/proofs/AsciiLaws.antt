@@ -13,7 +13,7 @@ use Rattle.picture.specs.ReadingLaws.{FilesAreTexts, TextsAreRead}
 use Rattle.picture.specs.Text.{below, ascii_pixel, ascii_text, pixel_row}
 use Rattle.picture.specs.Reading.{line_pixels, lines_pixels, ascii_pixels, ascii_files}
 use Rattle.picture.proofs.LineLaws.{has_no_line_feed, with_ends}
-use Rattle.picture.proofs.CutLaws.{cut_after, cut_after-part, cut_after-with_ends, ended, files-flat_map}
+use Rattle.picture.proofs.CutLaws.{cut_after, cut_after-part, cut_after-with_ends, ended, files_are_texts}
 
 -- the letters of a row
 abbrev letters : Picture → ℕ → List ℕ
@@ -106,9 +106,9 @@ rows_not_blank p (y ∷ ys) some = rw (
 
 -- a stream of text pictures, each of some column, and what follows it is cut into them and what that is cut into
 pub ascii_files-flat_map : FilesAreTexts ascii_text ascii_files (λ p. 0 < p.width)
-ascii_files-flat_map ps more begun rest some all e = files-flat_map ascii_text ascii_lines (λ line next. is_blank line)
+ascii_files-flat_map = files_are_texts ascii_text ascii_lines (λ line next. is_blank line)
     (λ p. 0 < p.width) (λ ls. Unit {0}) ascii_text-lines (λ p some. no_line_feeds p (below p.height)) (λ p ls. tt)
-    first ps begun all tt where
+    first (λ more begun rest e. tt) tt where
       first : (p : Picture) (ls : List (List ℕ)) → 0 < p.width → Unit {0}
           → cut_after is_blank (ended (ascii_lines p) ++ ls) ≡ ended (ascii_lines p) ∷ cut_after is_blank ls
       first p ls some h =

@@ -1,6 +1,7 @@
 -- Streams of files, cut again.
 use Rattle.std.proofs.Common.{◌≡◌, ℕ, Bool, true, false, not, ◌==◌, List, [], ◌∷◌, ◌++◌, map, refl, ap, sym, ◌∙◌}
 use Rattle.std.proofs.Common.{flat_map, append_assoc, if◌then◌else◌, codes, take, get_or, subst}
+use Rattle.std.proofs.Common.{arith, length, length-append}
 use Rattle.std.specs.Prelude.{All, ◌≢◌}
 use Rattle.std.specs.List.{list_all, onto_first, concat, AllByRecursion}
 use Rattle.std.proofs.lemmas.List.{append-nil, map-append}
@@ -8,10 +9,13 @@ use Rattle.std.proofs.lemmas.List.Folds.{list_all-append}
 use Rattle.std.proofs.lemmas.Grind.{flat_map-append}
 use Rattle.std.proofs.lemmas.Bool.{and_parts, not-true}
 use Rattle.std.proofs.lemmas.List.Elements.{recursion_from_All}
+use Rattle.labelcore.specs.Lines.{ended_lines, ended_text, open_line}
+use Rattle.labelcore.proofs.LinesLaws.{IsCut-ended_lines}
 use Rattle.picture.specs.Picture.{Picture}
 use Rattle.picture.specs.ReadingLaws.{IsDrawable, FilesAreTexts}
 use Rattle.picture.specs.Text.{pbm_text}
 use Rattle.picture.specs.Reading.{cut_between, files, is_magic, pbm_files, whole_lines}
+use Rattle.picture.proofs.EndedLaws.{ended_text-with_ends}
 use Rattle.picture.proofs.LineLaws.{has_no_line_feed, with_ends}
 use Rattle.picture.proofs.PbmLineLaws.{pbm_lines, pbm_text-lines, no_line_feeds, no_more_magic}
 
@@ -127,12 +131,28 @@ module _ (text : Picture → List ℕ) (text_lines : Picture → List (List ℕ)
         cut_again ps more all.1 h,
       ) refl
 
-  pub files-flat_map : (ps : List Picture) (begun : List ℕ) → All IsSuch ps → Next (whole_lines begun)
+  files-flat_map : (ps : List Picture) (begun : List ℕ) → All IsSuch ps → Next (whole_lines begun)
       → files is_cut (flat_map text ps ++ begun) ≡ map text ps ++ files is_cut begun
   files-flat_map ps begun all h =
       let each = recursion_from_All IsSuch ps all in
       rw (stream_lines ps, cut_after-lines_and (flat_map text_lines ps) begun (no_more_line_feeds ps each))
       (cut_again ps (whole_lines begun) each h)
+
+  -- the texts end with a line feed
+  ended_stream : (ps : List Picture) (begun : List ℕ)
+      → ended_text (flat_map text ps ++ begun) ≡ flat_map text ps ++ ended_text begun
+  ended_stream ps begun = subst (λ (stream : List ℕ). ended_text (stream ++ begun) ≡ stream ++ ended_text begun)
+      (sym (stream_lines ps)) (ended_text-with_ends (flat_map text_lines ps) begun)
+
+  -- a beginning of more texts has to be such, up to its last line feed, that a part may begin there
+  pub files_are_texts : ((more : List Picture) (begun rest : List ℕ) → flat_map text more ≡ begun ++ rest
+      → Next (whole_lines (ended_text begun))) → Next [] → FilesAreTexts text (files is_cut) IsSuch
+  files_are_texts next_begun next_none = record {
+    whole = λ ps all. ap (files is_cut) (sym (append-nil (flat_map text ps)))
+        ∙ (files-flat_map ps [] all next_none ∙ append-nil (map text ps));
+    begins = λ ps more begun rest all e. ap (files is_cut) (ended_stream ps begun)
+        ∙ files-flat_map ps (ended_text begun) all (next_begun more begun rest e);
+  }
 
 -- a beginning of files begins with a line `P1`, or it is empty, or `P` alone
 magic_line : (begun : List ℕ) → list_all is_magic (take 1 (whole_lines (80 ∷ 49 ∷ 10 ∷ begun))) ≡ true
@@ -154,9 +174,22 @@ magic_begun (p ∷ ps) (b ∷ c ∷ d ∷ begun) rest some e =
     let same : 80 ∷ 49 ∷ 10 ∷ begun ≡ b ∷ c ∷ d ∷ begun = (λ i. first i ∷ second i ∷ third i ∷ begun) in
     subst (λ (xs : List ℕ). list_all is_magic (take 1 (whole_lines xs)) ≡ true) same (magic_line begun)
 
+-- lines, each with its line feed, are not `P` alone
+not_p : (ls : List (List ℕ)) → with_ends ls ≢ codes "P"
+not_p [] e = cc
+not_p ([] ∷ ls) e = cc
+not_p ((b ∷ line) ∷ ls) e =
+    omega (arith, ap length e, length-append (line ++ 10 ∷ []) (with_ends ls), length-append line (10 ∷ []))
+
+magic_ended : (more : List Picture) (begun rest : List ℕ) → flat_map pbm_text more ≡ begun ++ rest
+    → list_all is_magic (take 1 (whole_lines (ended_text begun))) ≡ true
+unfolding ended_text
+magic_ended more begun rest e =
+    magic_begun more (ended_text begun) (open_line begun ++ rest) (not_p (ended_lines begun))
+    (e ∙ ap (λ (xs : List ℕ). xs ++ rest) (IsCut-ended_lines begun).whole
+    ∙ append_assoc (ended_text begun) (open_line begun) rest)
+
 pub pbm_files-flat_map : FilesAreTexts pbm_text pbm_files IsDrawable
-pbm_files-flat_map ps more begun rest some all e =
-    files-flat_map pbm_text pbm_lines (λ line next. is_magic next) IsDrawable
+pbm_files-flat_map = files_are_texts pbm_text pbm_lines (λ line next. is_magic next) IsDrawable
     (λ ls. list_all is_magic (take 1 ls) ≡ true) pbm_text-lines no_line_feeds (λ p ls. refl)
-    (λ p ls such h. cut_before-part is_magic (codes "P1\n") _ ls (no_more_magic p such) h)
-    ps begun all (magic_begun more begun rest some e)
+    (λ p ls such h. cut_before-part is_magic (codes "P1\n") _ ls (no_more_magic p such) h) magic_ended refl

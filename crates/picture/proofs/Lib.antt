@@ -1,5 +1,6 @@
 pub mod AsciiLaws
 pub mod CutLaws
+pub mod EndedLaws
 pub mod Examples
 pub mod GridLaws
 pub mod HeaderLaws

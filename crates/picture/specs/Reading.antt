@@ -97,8 +97,8 @@ files is_cut stream = map concat (cut_between is_cut (whole_lines stream))
 abbrev pub is_magic : List ℕ → Bool
 is_magic line = bytes_eq line (codes "P1\n") || bytes_eq line (codes "P1")
 
--- the plain PBM files of a stream, which is cut before each line `P1`: each file begins with that line, and no other line
--- of it is such
+-- the plain PBM files of a stream, which is cut before each line `P1`: each file begins with that line, and no other
+-- line of it is such
 abbrev pub pbm_files : List ℕ → List (List ℕ)
 pbm_files stream = files (λ line next. is_magic next) stream
 

@@ -1,5 +1,6 @@
 -- What reading finds in the texts and the pixels of pictures (pbm(5), the plain format).
-use Rattle.std.specs.Prelude.{◌≡◌, ◌≢◌, ℕ, ◌^◌, ◌<◌, All, Option, Some, List, ◌++◌, Bool, map, flat_map, codes}
+use Rattle.std.specs.Prelude.{◌≡◌, ℕ, ◌^◌, ◌<◌, All, Option, Some, List, ◌++◌, Bool, map, flat_map}
+use Rattle.labelcore.specs.Lines.{ended_text}
 use Rattle.qrmatrix.specs.Square.{value_at}
 use Rattle.picture.specs.declared.quiet_zone.QuietZone.{QuietZone}
 use Rattle.picture.specs.Picture.{Picture, bars, with_quiet_zone, enlargement}
@@ -16,12 +17,13 @@ pub record IsDrawable (p : Picture) : Type 0 where
 abbrev pub TextsAreRead : (Picture → List ℕ) → (List ℕ → Option Raster) → (Picture → Type 0) → Type 0
 TextsAreRead text pixels IsSuch = (p : Picture) → IsSuch p → pixels (text p) ≡ Some (raster p)
 
--- a stream of texts of such pictures, with a beginning of more texts after them, is cut into these texts, and what the
--- beginning is cut into, unless this is the byte `P` alone, which is no line `P1` yet
-abbrev pub FilesAreTexts : (Picture → List ℕ) → (List ℕ → List (List ℕ)) → (Picture → Type 0) → Type 0
-FilesAreTexts text files IsSuch =
-    (ps more : List Picture) (begun rest : List ℕ) → begun ≢ codes "P" → All IsSuch ps → flat_map text more ≡ begun ++ rest
-    → files (flat_map text ps ++ begun) ≡ map text ps ++ files begun
+-- a stream of texts of such pictures is cut into these texts; with a beginning of more texts after them, it is cut up to
+-- its last line feed into these texts, and what the beginning is cut into up to its own
+pub record FilesAreTexts (text : Picture → List ℕ) (files : List ℕ → List (List ℕ)) (IsSuch : Picture → Type 0)
+    : Type 0 where
+  pub whole : (ps : List Picture) → All IsSuch ps → files (flat_map text ps) ≡ map text ps
+  pub begins : (ps more : List Picture) (begun rest : List ℕ) → All IsSuch ps → flat_map text more ≡ begun ++ rest
+      → files (ended_text (flat_map text ps ++ begun)) ≡ map text ps ++ files (ended_text begun)
 
 -- modules in their quiet zone, each drawn as a square of pixels, are sampled as these modules
 abbrev pub ModulesAreSampled : Type 0

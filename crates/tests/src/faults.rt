@@ -1,5 +1,5 @@
-//! The texts of faults, of which no clause speaks; runs over sinks whose flush fails, which the program's never do; and a
-//! file that the system does not have.
+//! The texts of faults, of which no clause speaks; runs over sinks whose flush fails, which the program's never do; and
+//! a file that the system does not have.
 use command::{End, OpenFault, open_file};
 use filter::{RunFault, Status, run};
 use labelcore::{FailAt, Format, Level, MemSink, MemSource, Options};
