@@ -4,8 +4,8 @@ their truth.
 
 usage: fit_guess.py [--write | --judge | --switch-off]
 
-The tables are in tools/tests/tables, their truth in truth.toml there, which says how a table is added. Small ones, which
-are about the names of columns, are in names.txt. The name of a table decides whether weights are fitted on it, or
+The tables are in tools/tests/tables, their truth in truth.toml there, which says how a table is added. Small ones
+about the names of columns are in names.txt. The name of a table decides whether weights are fitted on it, or
 whether it is only judged by: half of the tables are so, and nothing is ever made from these.
 
 The weights are those with which the right answers are most probable, and which are small (SMALL): the sum of the
@@ -14,8 +14,8 @@ right, each of them shall be equally probable. Without options they are compared
 tools/labeltools/tables/weights.list, and the status is 1 if they differ; --write writes them there.
 
 --judge prints what the guess makes of each table that it does not get right at once, and the sums.
---switch-off switches each fact and each weight off in turn, prints which verdicts change, and names those without which
-none does: they can go. It takes some minutes.
+--switch-off switches each fact and each weight off in turn, prints which verdicts change, and names those without
+which none does: they can go. It takes some minutes.
 """
 
 import importlib

@@ -14,7 +14,7 @@ from labeltools.common.budget import Budget
 from labeltools.common.messages import Silence, ToolError
 from labeltools.common.text import remedies_of
 from labeltools.sheets.file_options import FileOptions
-from labeltools.tables.guess import columns_of, guess, Guess, guess_of
+from labeltools.tables.guess import guess, Guess, guess_of, table_columns
 from labeltools.tables.old_encoding import old_encoding
 from labeltools.tables.table_options import TableOptions
 
@@ -96,7 +96,7 @@ def table_of(name: str, truth: Mapping[str, Any]) -> Table:
     found = guess_of(data, name, options, Silence())
     has_names = found.header > 0
     file = replace(options.file, has_header=has_names, header_row=found.header or None)
-    columns, header, hidden = columns_of(
+    columns, header, hidden = table_columns(
         data, name, replace(options, file=file), Silence(), Budget(name, len(data))
     )
     names = {

@@ -406,7 +406,7 @@ def guess_of_sheets(data: bytes, options: TableOptions, budget: Budget) -> tuple
 def guesses_of_sheets(
     data: bytes, options: TableOptions, budget: Budget, error: ToolError
 ) -> dict[str, Guess]:
-    """Returns the guesses of the sheets that have EAN or UPC, by their names; an error names all."""
+    """Returns the guesses of the sheets with EAN or UPC, by their names, which an error has."""
     found = {}
     for remedy in remedies_of(error.hint):
         if remedy.option == "sheet":

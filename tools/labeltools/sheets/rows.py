@@ -1,6 +1,6 @@
 """Rows of a table, of whatever kind its file is."""
 
-from typing import Container, Mapping, NamedTuple, Sequence
+from typing import Collection, Mapping, NamedTuple, Sequence
 
 from labeltools.common.messages import RowError
 from labeltools.common.text import Text
@@ -31,7 +31,7 @@ class Row(NamedTuple):
     is_hidden: bool = False
     merges: Sequence[Merge] = ()
     links: Mapping[int, str] | None = None
-    hidden_places: Container[int] = ()
+    hidden_places: Collection[int] = ()
 
     @property
     def width(self) -> int:

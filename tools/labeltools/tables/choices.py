@@ -33,23 +33,23 @@ from labeltools.tables.cell_kinds import COUNT, has_unit, is_charged
 from labeltools.tables.code_readings import CodeReading, is_isbn_10, LEAST, passing_share
 from labeltools.tables.column_samples import ColumnSample, Plainness
 from labeltools.tables.evidence import evidences_of
-from labeltools.tables.scores import Choice, probable_choice
+from labeltools.tables.scores import Decision, probable_choice
 from labeltools.tables.variants import variants_in
 
 NO_KEYS = ("prices", "cost", "stock")  # what says nothing about which rows are variants
 
 
-def code_choice(columns: Samples) -> Choice:
+def code_choice(columns: Samples) -> Decision:
     """Returns which column has the codes: some, wherever a column may have them."""
     may_be = code_candidates(columns)
     found = probable_choice(evidences_of(may_be, CODE, columns))
     if found.is_none:
-        return Choice(sorted(found.may_be))
+        return Decision(sorted(found.may_be))
     if found.surely is None:
         return found
     rivals = code_rivals(may_be, found.surely)
     is_asked = bool(rivals) or is_of_other(may_be[found.surely])
-    return Choice(sorted({*found.may_be, *rivals})) if is_asked else found
+    return Decision(sorted({*found.may_be, *rivals})) if is_asked else found
 
 
 def code_rivals(columns: Samples, chosen: int) -> Collection[int]:
@@ -123,16 +123,16 @@ def bare_code(text: str) -> str:
     return "".join(filter(str.isalnum, text)).lstrip("0")
 
 
-def title_choice(columns: Samples, taken: Collection[int]) -> Choice:
+def title_choice(columns: Samples, taken: Collection[int]) -> Decision:
     """Returns which column has the title, of those that are not taken."""
     may_be = title_candidates(columns, taken)
     if may_be:
         found = probable_choice(evidences_of(may_be, TITLE, columns))
         near = {place: may_be[place] for place in found.may_be}
-        return Choice(sorted(near)) if is_title_asked(near, found.surely) else found
+        return Decision(sorted(near)) if is_title_asked(near, found.surely) else found
     free = without(columns, taken)
     texts = [place for place, column in free.items() if are_different_texts(column)]
-    return Choice(texts, texts[0]) if len(texts) == 1 else Choice()
+    return Decision(texts, texts[0]) if len(texts) == 1 else Decision()
 
 
 def is_title_asked(columns: Samples, chosen: int | None) -> bool:
@@ -177,15 +177,15 @@ def has_part(column: ColumnSample, part: ColumnSample) -> bool:
     return 2 * sum(text in whole for whole, text in pairs) >= len(pairs)
 
 
-def price_choice(columns: Samples, taken: Collection[int]) -> Choice:
+def price_choice(columns: Samples, taken: Collection[int]) -> Decision:
     """Returns which column has the price, by what amounts prove, and else by what is probable. If
     none is it surely, the keeper is asked about a column of money.
     """
     may_be, proved = price_candidates(columns, taken)
     if proved is not None and not are_two_paid(may_be, proved):
-        return Choice(sorted(may_be), proved)
+        return Decision(sorted(may_be), proved)
     if not may_be:
-        return Choice(net_places(without(columns, taken)))
+        return Decision(net_places(without(columns, taken)))
     found = probable_choice(evidences_of(may_be, PRICE, columns))
     near = {place: may_be[place] for place in found.may_be}
     if found.surely is not None:
@@ -196,7 +196,7 @@ def price_choice(columns: Samples, taken: Collection[int]) -> Choice:
             return found
         near = rivals
     asked = [place for place in near if not found.is_none or is_of_money(columns[place])]
-    return Choice(sorted(asked))
+    return Decision(sorted(asked))
 
 
 def is_named_price(column: ColumnSample) -> bool:
@@ -260,8 +260,8 @@ def net_places(columns: Samples) -> Sequence[int]:
 
 
 def advised_beside(columns: Samples, chosen: int) -> Samples:
-    """Returns the advised prices of which one that seems to be the price is so far below, or so odd,
-    that the shop may pay it itself.
+    """Returns the advised prices of which one that seems to be the price is so far below, or so
+    odd, that the shop may pay it itself.
     """
     price = columns[chosen]
     return {
@@ -324,14 +324,14 @@ def money_in(columns: Samples, taken: Collection[int]) -> Sequence[int]:
     return [place for place, column in free if may_be_amounts(column) and is_of_money(column)]
 
 
-def unit_price_choice(columns: Samples, taken: Collection[int]) -> Choice:
+def unit_price_choice(columns: Samples, taken: Collection[int]) -> Decision:
     """Returns which column has the price of a unit: only one has such prices."""
     free = without(columns, taken)
     found = [place for place, column in free.items() if column.has(has_unit)]
-    return Choice(found, found[0]) if len(found) == 1 else Choice()
+    return Decision(found, found[0]) if len(found) == 1 else Decision()
 
 
-def old_price_choice(columns: Samples, taken: Collection[int], price: int) -> Choice:
+def old_price_choice(columns: Samples, taken: Collection[int], price: int) -> Decision:
     """Returns which column has the price before a reduction: the only one that is named so, and
     whose amounts are nowhere below those of the price.
     """
@@ -340,10 +340,10 @@ def old_price_choice(columns: Samples, taken: Collection[int], price: int) -> Ch
         place for place, column in free.items() if column.says("old") and not column.says("cost")
     ]
     found = [place for place in old if is_never_above(columns[price], columns[place])]
-    return Choice(found, found[0]) if len(found) == 1 else Choice()
+    return Decision(found, found[0]) if len(found) == 1 else Decision()
 
 
-def copies_choice(columns: Samples, taken: Collection[int]) -> Choice:
+def copies_choice(columns: Samples, taken: Collection[int]) -> Decision:
     """Returns which column is named as numbers of labels, and has such numbers."""
     free = without(columns, taken)
     named = {place: column for place, column in free.items() if column.says("copies")}
@@ -352,7 +352,7 @@ def copies_choice(columns: Samples, taken: Collection[int]) -> Choice:
         for place, column in named.items()
         if passing_share(column.texts, COUNT.fullmatch) == 1
     ]
-    return Choice(counts, counts[0] if len(counts) == 1 else None)
+    return Decision(counts, counts[0] if len(counts) == 1 else None)
 
 
 def variants_place(columns: Samples, title: int) -> int | None:

@@ -7,7 +7,7 @@ price at all; evidence.py gathers what these show, with what amounts.py proves; 
 by weights.list. Below the margin the keeper is asked.
 """
 
-from collections.abc import Collection, Container, Iterator, Mapping, Sequence
+from collections.abc import Collection, Iterator, Mapping, Sequence
 from dataclasses import dataclass, field, replace
 from itertools import islice, zip_longest
 
@@ -42,7 +42,7 @@ from labeltools.tables.column_samples import ColumnSample, DIGITS, samples_of
 from labeltools.tables.columns import column_names, texts_of
 from labeltools.tables.header_row import guessed_header
 from labeltools.tables.prices import are_currencies, pattern_for
-from labeltools.tables.scores import Choice
+from labeltools.tables.scores import Decision
 from labeltools.tables.table import head_of, Start
 from labeltools.tables.table_options import TableOptions
 
@@ -104,12 +104,12 @@ def guess_of(
         if not has_code and not any(map(found.is_named_as_code, found.codes)):
             return found
         options = replace(options, file=replace(file, has_header=False))
-    return guess(*columns_of(data, name, options, talk, budget))
+    return guess(*table_columns(data, name, options, talk, budget))
 
 
-def columns_of(
+def table_columns(
     data: bytes, name: str, options: TableOptions, talk: Talk, budget: Budget
-) -> tuple[Sequence[Sequence[str]], int, Container[int]]:
+) -> tuple[Sequence[Sequence[str]], int, Collection[int]]:
     """Returns the columns of a table, each with its name in front, the row of the names, and the
     places of the hidden ones; raises `ToolError` where it cannot be read.
     """
@@ -129,7 +129,7 @@ def sample_of(start: Start) -> Iterator[Row]:
     return islice(start.rows, max(1, min(SAMPLE, most)))
 
 
-def guess(columns: Sequence[Sequence[str]], header: int, hidden: Container[int] = ()) -> Guess:
+def guess(columns: Sequence[Sequence[str]], header: int, hidden: Collection[int] = ()) -> Guess:
     """Returns a guess from columns, each with its name in front, which may be empty. Hidden ones
     are only looked at if no other one has codes.
     """
@@ -152,11 +152,11 @@ def guess_by(columns: Samples) -> Guess:
     """Returns a guess without what belongs to the whole table, as the row of the names."""
     code = code_choice(columns)
     parts = name_parts(columns, code.taken)
-    title = Choice(parts, parts[0]) if parts else title_choice(columns, code.taken)
+    title = Decision(parts, parts[0]) if parts else title_choice(columns, code.taken)
     readings = readings_of(code, columns)
     is_single = bool(parts) or are_single_things(readings, columns)
     taken = {*code.taken, *title.taken, *parts}
-    price = Choice(is_none=True) if is_single else price_choice(columns, taken)
+    price = Decision(is_none=True) if is_single else price_choice(columns, taken)
     choices = {"code": code, "title": title, "price": price}
     choices |= choices_beside(columns, taken, price)
     found = {kind: choice.surely for kind, choice in choices.items() if choice.surely is not None}
@@ -177,12 +177,14 @@ def guess_by(columns: Samples) -> Guess:
     )
 
 
-def besides(choice: Choice) -> Sequence[int]:
+def besides(choice: Decision) -> Sequence[int]:
     """Returns what may have a role beside the column that surely has it; nothing if none has."""
     return [place for place in choice.may_be if choice.surely not in (None, place)]
 
 
-def choices_beside(columns: Samples, taken: Collection[int], price: Choice) -> Mapping[str, Choice]:
+def choices_beside(
+    columns: Samples, taken: Collection[int], price: Decision
+) -> Mapping[str, Decision]:
     """Returns the columns of further prices and of copies, of those that are not taken."""
     used = {*taken, *price.taken}
     found = {"unit-price": unit_price_choice(columns, used)}
@@ -192,7 +194,7 @@ def choices_beside(columns: Samples, taken: Collection[int], price: Choice) -> M
     return found | {"copies": copies_choice(columns, used)}
 
 
-def readings_of(code: Choice, columns: Samples) -> Mapping[int, CodeReading]:
+def readings_of(code: Decision, columns: Samples) -> Mapping[int, CodeReading]:
     """Returns how each column may be read that may have the codes."""
     places = code.may_be if code.surely is None else [code.surely]
     return {
@@ -210,7 +212,7 @@ def as_own(reading: CodeReading, column: ColumnSample, is_single: bool) -> CodeR
 
 
 def columns_beside(
-    columns: Samples, title: Choice, parts: Sequence[int], used: Collection[int]
+    columns: Samples, title: Decision, parts: Sequence[int], used: Collection[int]
 ) -> Mapping[str, int]:
     """Returns the columns that belong to others: the second one of a title, the one that says what
     is a variant of what, and the currencies of the prices.
@@ -225,7 +227,7 @@ def columns_beside(
     }
 
 
-def formats_of(columns: Samples, price: Choice, has_currencies: bool) -> Mapping[int, str]:
+def formats_of(columns: Samples, price: Decision, has_currencies: bool) -> Mapping[int, str]:
     """Returns the formats that prices need, by their columns; `has_currencies` is whether another
     column has the currencies.
     """

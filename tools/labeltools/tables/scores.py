@@ -17,7 +17,7 @@ Weights = Mapping[str, float]
 
 
 @dataclass(frozen=True)
-class Choice:
+class Decision:
     """Which column has a role: the one of the place `surely`; or one of those that `may_be` it,
     which only the keeper knows; or surely none, though some may be.
     """
@@ -46,7 +46,7 @@ def weights_of(role: str) -> Weights:
     return {name: float(weight) for name, [weight] in found.items()}
 
 
-def probable_choice(evidences: Evidences) -> Choice:
+def probable_choice(evidences: Evidences) -> Decision:
     """Returns the column that most probably has a role, if that is probable enough; the others
     that may have it are behind it, the most probable one first.
     """
@@ -56,8 +56,8 @@ def probable_choice(evidences: Evidences) -> Choice:
     near = [place for place in near if found[place] >= LEAST_ASKED] or near[:1]
     first = ranked[0]
     if found[first] < MARGIN:
-        return Choice(sorted(near))
-    return Choice(near, is_none=True) if first == NONE else Choice(near, first)
+        return Decision(sorted(near))
+    return Decision(near, is_none=True) if first == NONE else Decision(near, first)
 
 
 def probabilities(evidences: Evidences, weights: Weights) -> dict[int, float]:

@@ -175,8 +175,8 @@ class Printers:
             self.choose(key)
 
     def fit_file(self) -> None:
-        """Takes the form of a file, if one is saved: of sheets PDF or what was chosen for them, of a
-        roll the language of the last label printer.
+        """Takes the form of a file, if one is saved: of sheets PDF or what was chosen for them, of
+        a roll the language of the last label printer.
         """
         chosen = self.window.choices()
         form, dpi = self.of_files[chosen["roll"]]
