@@ -30,7 +30,7 @@ short_enough version Byte n = elim (nat_lt version 10) as
     [ true ↦ λ h. omega arith | false ↦ λ h. omega arith ]
 
 -- of segments of one length one in numeric mode is the shortest, and one in byte mode the longest
-rising : (version n : ℕ) → 0 < n
+pub rising : (version n : ℕ) → 0 < n
     → (segment_length version (segment_of Numeric n) < segment_length version (segment_of Alphanumeric n))
     × (segment_length version (segment_of Alphanumeric n) < segment_length version (segment_of Byte n))
 rising version n some = elim (nat_lt version 10) as (λ t. (4 + cond t 10 12 + (10 * n + 2) / 3
@@ -38,7 +38,7 @@ rising version n some = elim (nat_lt version 10) as (λ t. (4 + cond t 10 12 + (
     [ true ↦ (omega arith, omega arith) | false ↦ (omega arith, omega arith) ]
 
 -- so segments of one length and as many bits have one mode
-same_mode : (version n : ℕ) (a b : Mode) → 0 < n
+pub same_mode : (version n : ℕ) (a b : Mode) → 0 < n
     → segment_length version (segment_of a n) ≡ segment_length version (segment_of b n) → a ≡ b
 same_mode version n Numeric Numeric some same = refl
 same_mode version n Numeric Alphanumeric some same = absurd (omega (arith, rising version n some))

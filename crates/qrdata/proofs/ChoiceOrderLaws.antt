@@ -1,10 +1,9 @@
 -- The order of choices: fewer bits first, and of equally many the longer one.
-use Rattle.std.proofs.Common.{◌≡◌, ℕ, ◌-◌, ◌/◌, ◌%◌, ◌<◌, ◌≤◌, arith, inl, inr, Bool, true, false}
-use Rattle.std.specs.Prelude.{nat_lt, ◌||◌, ◌&&◌, ◌==◌}
+use Rattle.std.proofs.Common.{◌≡◌, ℕ, zero, suc, ◌%◌, ◌<◌, ◌≤◌, arith, inl, inr, true, false, refl}
 use Rattle.std.proofs.lemmas.Bool.{cases_lt, cond_both}
 use Rattle.std.proofs.lemmas.Bool.Decides.{nat_tests}
-use Rattle.qrdata.specs.Private.ChoiceView.{ChoiceView}
-use Rattle.qrdata.specs.Private.Table.{better_choice}
+use Rattle.qrdata.specs.Private.ChoiceView.{ChoiceView, choice_in, mode_at, rank_of}
+use Rattle.qrdata.specs.Private.Table.{better_choice, is_better}
 
 -- a choice comes no later than one of `bits` bits and this length
 pub record Beats (c : ChoiceView) (bits len : ℕ) : Type 0 where
@@ -19,10 +18,6 @@ Beats-then {c} {d} {bits} {len} first second = record {
     | inr longer ↦ omega (arith, first.low, second.strict (omega arith))
   ];
 }
-
--- whether d is the better one of c and d
-abbrev is_better : ChoiceView → ChoiceView → Bool
-is_better c d = nat_lt d.bits c.bits || (d.bits == c.bits && nat_lt c.segment.len d.segment.len)
 
 -- what holds of both holds of the better one
 pub better-one : (P : ChoiceView → Type 0) (c d : ChoiceView) → P c → P d → P (better_choice c d)
@@ -44,11 +39,17 @@ better-right c {d} {bits} {len} second = cond_both (is_better c d) d c (λ e. Be
     (λ no. Beats-then {c = c} {d = d}
     (record { low = grind (arith, nat_tests); strict = λ less. grind (arith, nat_tests) }) second)
 
--- the better choice is that of less weight, and of equal ones the first
-pub is_lighter : (w x : ℕ) → x < w → (nat_lt (x / 1024) (w / 1024)
-    || (x / 1024 == w / 1024 && nat_lt (1023 - w % 1024) (1023 - x % 1024))) ≡ true
-is_lighter w x less = grind (arith, nat_tests)
+-- the better choice is that of the lower key
+pub rank_of-mode_at : (rank : ℕ) → rank < 3 → rank_of (mode_at rank) ≡ rank
+rank_of-mode_at zero few = refl
+rank_of-mode_at (suc zero) few = refl
+rank_of-mode_at (suc (suc zero)) few = refl
+rank_of-mode_at (suc (suc (suc rank))) few = absurd (omega arith)
 
-pub is_no_lighter : (w x : ℕ) → w ≤ x → (nat_lt (x / 1024) (w / 1024)
-    || (x / 1024 == w / 1024 && nat_lt (1023 - w % 1024) (1023 - x % 1024))) ≡ false
-is_no_lighter w x more = grind (arith, nat_tests)
+pub is_lighter : (w x : ℕ) → w % 4 < 3 → x % 4 < 3 → x < w → is_better (choice_in w) (choice_in x) ≡ true
+is_lighter w x known_w known_x less = rw (rank_of-mode_at (w % 4) known_w, rank_of-mode_at (x % 4) known_x)
+    (grind (arith, nat_tests))
+
+pub is_no_lighter : (w x : ℕ) → w % 4 < 3 → x % 4 < 3 → w ≤ x → is_better (choice_in w) (choice_in x) ≡ false
+is_no_lighter w x known_w known_x more = rw (rank_of-mode_at (w % 4) known_w, rank_of-mode_at (x % 4) known_x)
+    (grind (arith, nat_tests))

@@ -1,20 +1,19 @@
--- A table of best first segments, from the shortest rest on, is right in all versions whose character counts are as
+-- A table of best first segments is right in all versions whose character counts are as
 -- wide.
-use Rattle.std.proofs.Common.{◌≡◌, ℕ, zero, suc, [], ◌++◌, ◌+◌, ◌-◌, ◌<◌, ◌≤◌, List, ◌∷◌, drop, length, get_or, refl}
+use Rattle.std.proofs.Common.{◌≡◌, ℕ, ◌+◌, ◌<◌, ◌≤◌, List, ◌∷◌, drop, length}
 use Rattle.std.proofs.Common.{sym, subst, ap, ◌∙◌, arith, cond}
 use Rattle.std.specs.Prelude.{nat_lt}
-use Rattle.std.proofs.lemmas.List.{get_or_append_left, length-append, drop-drop, get_or-map, length-drop, length-map}
-use Rattle.std.proofs.Math.Seq.{get_or-append_seam}
+use Rattle.std.proofs.lemmas.List.{drop-drop, length-drop}
 use Rattle.std.proofs.lemmas.List.Sums.{sum_by-cons}
 use Rattle.labelcore.specs.declared.level.Level.{Level}
-use Rattle.qrdata.specs.declared.mode.Mode.TheVariants.{Byte, Numeric}
+use Rattle.qrdata.specs.declared.mode.Mode.TheVariants.{Byte}
 use Rattle.qrdata.specs.declared.mode.Segment.{Segment}
 use Rattle.qrdata.specs.Fewest.{chosen_segments}
-use Rattle.qrdata.specs.Private.Firsts.{HasSegments, first_at}
+use Rattle.qrdata.specs.Private.Firsts.{first_at}
 use Rattle.qrdata.specs.declared.firsts.Firsts.{Firsts}
 use Rattle.qrdata.specs.Private.SmallestPlan.{FitsBits, IsTable, NamesBest, SameWidths}
 use Rattle.qrdata.specs.Segments.{IsSegmentation, cost, segment_length}
-use Rattle.qrdata.specs.Private.Table.{choices_of, fewest_bits, firsts_of}
+use Rattle.qrdata.specs.Private.Table.{NamesFirsts, choices_of, fewest_bits}
 use Rattle.qrdata.specs.Versions.{IsVersion, capacity}
 use Rattle.qrdata.proofs.BoundLaws.{few_segments}
 use Rattle.qrdata.proofs.BestChoiceLaws.{fewest_bits-le_cost}
@@ -22,50 +21,6 @@ use Rattle.qrdata.proofs.ChoiceLimitLaws.{Agrees-if_fits}
 use Rattle.qrdata.proofs.FewestBitsLaws.{chosen_segments-is}
 use Rattle.qrdata.proofs.SameWidthLaws.{chosen_segments-same, cost-chosen_same}
 use Rattle.qrdata.proofs.VersionLaws.{IsSound-of, widest}
-use Rattle.qrdata.proofs.LengthLaws.{default_segment}
-
-pub length-firsts_of : (version : ℕ) (bytes : List ℕ) → length (firsts_of version bytes) ≡ length bytes
-unfolding firsts_of
-length-firsts_of version [] = refl
-length-firsts_of version (b ∷ bytes) =
-    length-append (firsts_of version bytes) _ ∙ omega (arith, length-firsts_of version bytes)
-
--- each of the two lists of a table is as long as the table, and at a place they have the segment's mode and length
-pub table_sizes : {firsts : Firsts} {segments : List Segment} → HasSegments firsts segments
-    → (length firsts.modes.items ≡ length segments) × (length firsts.lengths.items ≡ length segments)
-table_sizes {firsts} {segments} table = (
-  ap length table.modes ∙ length-map segments (λ (s : Segment). s.mode),
-  ap length table.lengths ∙ length-map segments (λ (s : Segment). s.len),
-)
-
-first_at-is : {firsts : Firsts} {segments : List Segment} → HasSegments firsts segments → (place : ℕ)
-    → place < length segments → first_at firsts place ≡ get_or segments place default_segment
-first_at-is {firsts} {segments} table place inside = rw (
-  table.modes,
-  table.lengths,
-  get_or-map (λ (s : Segment). s.mode) segments place default_segment Numeric inside,
-  get_or-map (λ (s : Segment). s.len) segments place default_segment 0 inside,
-) refl
-
--- the first of each rest is behind those of the shorter rests
-get_or-firsts_of : (version : ℕ) (bytes : List ℕ) (k : ℕ) → k < length bytes
-    → get_or (firsts_of version bytes) (length bytes - 1 - k) default_segment
-    ≡ (choices_of version (drop k bytes)).best.segment
-unfolding firsts_of
-get_or-firsts_of version [] k h = absurd (omega arith)
-get_or-firsts_of version (b ∷ bytes) zero h =
-    let firsts = firsts_of version bytes in
-    let first = (choices_of version (b ∷ bytes)).best.segment in
-    let last : suc (length bytes) - 1 - 0 ≡ length firsts = omega (arith, length-firsts_of version bytes) in
-    ap (λ n. get_or (firsts ++ first ∷ []) n default_segment) last
-    ∙ get_or-append_seam firsts first [] default_segment
-get_or-firsts_of version (b ∷ bytes) (suc k) h =
-    let firsts = firsts_of version bytes in
-    let first = (choices_of version (b ∷ bytes)).best.segment in
-    let place : suc (length bytes) - 1 - suc k ≡ length bytes - 1 - k = omega arith in
-    ap (λ n. get_or (firsts ++ first ∷ []) n default_segment) place
-    ∙ get_or_append_left firsts (first ∷ []) default_segment (length bytes - 1 - k)
-    (omega (arith, length-firsts_of version bytes, h)) ∙ get_or-firsts_of version bytes k (omega arith)
 
 -- the capacities of the versions whose character counts are as wide
 pub capacity_as_wide : (v w : ℕ) (level : Level) → SameWidths v w → 1 ≤ v → v ≤ 10 → capacity v level ≤ widest w
@@ -107,16 +62,14 @@ FitsBits-of v w level bits same known bytes few fewest fits =
 -- plan_between, the only caller, has the loop's number for v and the highest version for w; one call of `fill`
 -- returns the limit and leaves the table
 pub NamesBest-of : (v w : ℕ) → SameWidths v w → (bytes : List ℕ) (limit : ℕ) (firsts : Firsts)
-    → length bytes ≤ 657 → limit ≤ widest w → HasSegments firsts (firsts_of w bytes) → NamesBest v bytes limit firsts
-NamesBest-of v w same bytes limit firsts few fits known = λ k inside small.
+    → length bytes ≤ 657 → limit ≤ widest w → NamesFirsts w bytes 0 firsts → NamesBest v bytes limit firsts
+NamesBest-of v w same bytes limit firsts few fits named = λ k inside small.
     let rest = drop k bytes in
     let agrees = Agrees-if_fits w rest (omega (arith, length-drop k bytes))
     (omega (arith, fewest_bits-below v w same rest)) in
     let whole = agrees.first (omega (arith, length-drop k bytes)) in
-    let is : first_at firsts (length bytes - 1 - k) ≡ (choices_of w rest).best.segment =
-    first_at-is known (length bytes - 1 - k) (omega (arith, length-firsts_of w bytes, inside))
-    ∙ get_or-firsts_of w bytes k inside in
-    subst (λ (s : Segment). s ∷ chosen_segments v (drop s.len rest) ≡ chosen_segments v rest) (sym is) (rw (
+    subst (λ (s : Segment). s ∷ chosen_segments v (drop s.len rest) ≡ chosen_segments v rest)
+    (sym (named k (omega arith) inside)) (rw (
       chosen_segments-same v w same (drop (choices_of w rest).best.segment.len rest),
       chosen_segments-same v w same rest,
     ) whole)
@@ -131,7 +84,7 @@ pub record IsNamed (version : ℕ) (bytes : List ℕ) (place limit : ℕ) (s : S
 pub IsNamed-first : {version : ℕ} {bytes : List ℕ} {limit : ℕ} {firsts : Firsts} {place : ℕ} {s : Segment}
     → place < length bytes → IsTable version bytes limit firsts
     → cost version (chosen_segments version (drop place bytes)) ≤ limit
-    → s ≡ first_at firsts (length bytes - 1 - place) → IsNamed version bytes place limit s
+    → s ≡ first_at firsts place → IsNamed version bytes place limit s
 IsNamed-first {version} {bytes} {limit} {firsts} {place} {s} h table fits found =
     let first : s ∷ chosen_segments version (drop s.len (drop place bytes))
     ≡ chosen_segments version (drop place bytes) = rw found (table.named place h fits) in

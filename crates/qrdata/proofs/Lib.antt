@@ -15,8 +15,10 @@ pub mod PaddingLaws
 pub mod PayloadLaws
 pub mod DataReadingLaws
 pub mod DamageLaws
+pub mod DigitsLaws
 pub mod CodewordByteLaws
 pub mod ReadFitLaws
+pub mod RunLaws
 pub mod SameWidthLaws
 pub mod SegmentReadingLaws
 pub mod SmallChoiceLaws

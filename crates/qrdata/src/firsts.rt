@@ -1,54 +1,48 @@
 //! The first of the best segments of each rest of the bytes.
-ghost use Rattle.arrayvec.specs.ArrayVec.{array_vec_len};
-ghost use Rattle.qrdata.specs.Private.Firsts.{HasSegments, first_at};
-ghost use Rattle.std.specs.Prelude.{◌≡◌, ◌<◌, [], ◌∷◌, ◌++◌};
+ghost use Rattle.qrdata.specs.Private.ChoiceView.{segment_in};
+ghost use Rattle.qrdata.specs.Private.Firsts.{first_at};
+ghost use Rattle.std.specs.Prelude.{◌≡◌, ◌<◌, ◌==◌, ℕ, if◌then◌else◌};
 
-use crate::mode::{Mode, Segment};
-use arrayvec::ArrayVec;
+use crate::mode::{Segment, mode_at};
 
 /// The most bytes that a table is made for: three bytes have ten bits at least, and a symbol of version 10 has at most
 /// 2192 data bits.
 pub(crate) const MAX_BYTES: usize = 657;
 
-/// The first of the best segments of each rest of the bytes, the shortest rest first. Modes and lengths are two lists,
-/// each of which is cleared faster than one of both.
+/// The first of the best segments of each rest of the bytes, at the place where the rest begins. A segment is a number: 4
+/// times 1023 less its length, plus the rank of its mode.
 #[derive(Drop)]
 pub(crate) struct Firsts {
-    modes: ArrayVec<Mode, MAX_BYTES>,
-    lengths: ArrayVec<u16, MAX_BYTES>,
+    codes: [u16; MAX_BYTES],
 }
 
 impl Firsts {
-    /// Makes an empty table.
-    pub(crate) fn new() -> Firsts
-        ensures { HasSegments result [] }
-    {
+    /// Makes a table that is not filled.
+    pub(crate) fn new() -> Firsts {
         Firsts {
-            modes: ArrayVec::new(),
-            lengths: ArrayVec::new(),
+            codes: [0; MAX_BYTES],
         }
     }
 
-    /// Writes one segment more at the end.
+    /// Writes the segment that a number stands for at a place.
     #[inline(always)]
-    pub(crate) fn push(&mut self, segment: Segment)
-        requires { (array_vec_len self.old.modes < MAX_BYTES) × (array_vec_len self.old.lengths < MAX_BYTES) }
-        ensures modes { self.new.modes.items ≡ self.old.modes.items ++ segment.mode ∷ [] }
-        ensures lengths { self.new.lengths.items ≡ self.old.lengths.items ++ segment.len ∷ [] }
+    pub(crate) fn put(&mut self, place: usize, code: u16)
+        requires { place < MAX_BYTES }
+        ensures { (k : ℕ) → first_at self.new k ≡ (if k == place then segment_in code else first_at self.old k) }
     {
-        self.modes.push(segment.mode);
-        self.lengths.push(segment.len);
+        self.codes[place] = code;
     }
 
     /// Returns the segment at a place.
     #[inline(always)]
     pub(crate) fn at(&self, place: usize) -> Segment
-        requires { (place < array_vec_len self.now.modes) × (place < array_vec_len self.now.lengths) }
+        requires { place < MAX_BYTES }
         ensures { result ≡ first_at self.now place }
     {
+        let code = self.codes[place];
         Segment {
-            mode: self.modes[place],
-            len: self.lengths[place],
+            mode: mode_at(code % 4),
+            len: 1023 - code / 4 % 1024,
         }
     }
 }

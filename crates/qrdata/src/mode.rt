@@ -1,4 +1,5 @@
 //! Modes and segments (ISO/IEC 18004, 7.3 and 7.4).
+ghost use Rattle.qrdata.specs.Private.ChoiceView.{mode_at, rank_of};
 ghost use Rattle.qrdata.specs.Segments.{alphanumeric_value, count_width, mode_indicator, payload_length};
 ghost use Rattle.std.specs.Prelude.{◌≡◌, ◌<◌, ◌≤◌};
 
@@ -59,6 +60,30 @@ impl Mode {
             Mode::Alphanumeric => (11 * len + 1) / 2,
             Mode::Byte => 8 * len,
         }
+    }
+}
+
+/// Returns the rank of a mode in the order that decides ties.
+#[inline(always)]
+pub(crate) fn rank_of(mode: Mode) -> usize
+    ensures { result ≡ rank_of mode }
+{
+    match mode {
+        Mode::Numeric => 0,
+        Mode::Alphanumeric => 1,
+        Mode::Byte => 2,
+    }
+}
+
+/// Returns the mode of a rank.
+#[inline(always)]
+pub(crate) fn mode_at(rank: u16) -> Mode
+    ensures { result ≡ mode_at rank }
+{
+    match rank {
+        0 => Mode::Numeric,
+        1 => Mode::Alphanumeric,
+        _ => Mode::Byte,
     }
 }
 

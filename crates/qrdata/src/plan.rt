@@ -2,14 +2,17 @@
 ghost use Rattle.qrdata.specs.Fewest.{chosen_segments};
 ghost use Rattle.labelcore.specs.declared.fault.Fault.TheVariants.{DoesNotFit};
 ghost use Rattle.qrdata.specs.PlanView.{FitsNowhere, IsBestPlan, plan_view};
-ghost use Rattle.qrdata.specs.Private.SmallestPlan.{FitsBits, HasRoom, HaveNoRoom, IsSmallestPlan, IsTable};
+ghost use Rattle.qrdata.specs.Private.SmallestPlan.{AreDigits, FitsBits, HasRoom, HaveNoRoom, IsSmallestPlan, IsTable};
 ghost use Rattle.qrdata.specs.Private.SmallestPlan.{NoPlan, SameWidths};
-ghost use Rattle.qrdata.specs.Segments.{cost};
+ghost use Rattle.qrdata.specs.Segments.{cost, segment_of};
+ghost use Rattle.qrdata.specs.declared.mode.Mode.TheVariants.{Numeric};
 ghost use Rattle.qrdata.specs.Versions.{IsVersion};
-ghost use Rattle.std.specs.Prelude.{◌≡◌, ◌+◌, ◌≤◌, IfErr, IfNone, IfOk, IfSome, ℕ};
+ghost use Rattle.std.specs.Char.{is_ascii_digit};
+ghost use Rattle.std.specs.List.{list_all};
+ghost use Rattle.std.specs.Prelude.{◌≡◌, ◌+◌, ◌<◌, ◌≤◌, IfErr, IfNone, IfOk, IfSome, List, [], ◌∷◌, ℕ};
 
-use crate::firsts::Firsts;
-use crate::mode::Segment;
+use crate::firsts::{Firsts, MAX_BYTES};
+use crate::mode::{Mode, Segment};
 use crate::segmentation::fill;
 use crate::version::Version;
 use arrayvec::ArrayVec;
@@ -125,11 +128,55 @@ fn plan_between(lowest: Version, highest: Version, level: Level, bytes: &[u8]) -
     if bytes.len() > 3 * highest.capacity(level) / 10 {
         return None;
     }
+    if !bytes.is_empty() && are_digits(bytes) {
+        return digits_between(lowest, highest, level, bytes.len());
+    }
     let mut firsts = Firsts::new();
     let bits = fill(highest, bytes, &mut firsts);
     match smallest_version(lowest, highest, level, bits) {
         Some(version) => Some(plan_of(version, level, bytes, &firsts, bits as u32)),
         None => None,
+    }
+}
+
+/// Returns whether all bytes are digits.
+fn are_digits(bytes: &[u8]) -> bool
+    ensures { result ≡ list_all is_ascii_digit bytes.now }
+{
+    bytes.iter().all(|byte| byte.is_ascii_digit())
+}
+
+/// Makes the plan of `len` digits for the smallest version from `lowest` to `highest`: one segment in numeric mode.
+fn digits_between(lowest: Version, highest: Version, level: Level, len: usize) -> Option<Plan>
+    requires some { (0 < len) × (len ≤ MAX_BYTES) }
+    requires same { (v : ℕ) → lowest ≤ v → v ≤ highest → SameWidths v highest }
+    ensures some { (bytes : List ℕ) → AreDigits len bytes
+        → IfSome result (IsSmallestPlan lowest highest level bytes) }
+    ensures none { (bytes : List ℕ) → AreDigits len bytes
+        → IfNone result (NoPlan lowest highest level bytes) }
+{
+    let bits = 4 + Mode::Numeric.count_width(highest) + Mode::Numeric.payload_length(len);
+    match smallest_version(lowest, highest, level, bits) {
+        Some(version) => Some(plan_of_digits(version, level, len as u16, bits as u32)),
+        None => None,
+    }
+}
+
+/// Makes the plan of one segment in numeric mode, which has `bits` bits.
+fn plan_of_digits(version: Version, level: Level, len: u16, bits: u32) -> Plan
+    requires { bits ≡ cost version (segment_of Numeric len ∷ []) }
+    ensures { result ≡ plan_view version level (segment_of Numeric len ∷ []) }
+{
+    let mut segments = ArrayVec::new();
+    segments.push(Segment {
+        mode: Mode::Numeric,
+        len,
+    });
+    Plan {
+        version,
+        level,
+        segments,
+        bits,
     }
 }
 
@@ -156,7 +203,7 @@ fn plan_of(version: Version, level: Level, bytes: &[u8], firsts: &Firsts, bits: 
     let mut segments = ArrayVec::new();
     let mut place = 0;
     while place < bytes.len() {
-        let first = firsts.at(bytes.len() - 1 - place);
+        let first = firsts.at(place);
         segments.push(first);
         place += usize::from(first.len);
     }

@@ -1,5 +1,7 @@
 -- The plan of the smallest version in a range (ISO/IEC 18004, 7.4.1).
-use Rattle.std.specs.Prelude.{◌≡◌, ℕ, ◌-◌, ◌<◌, ◌≤◌, List, ◌∷◌, length, drop}
+use Rattle.std.specs.Prelude.{◌≡◌, ℕ, ◌<◌, ◌≤◌, List, ◌∷◌, length, drop, IsTrue}
+use Rattle.std.specs.Char.{is_ascii_digit}
+use Rattle.std.specs.List.{list_all}
 use Rattle.labelcore.specs.declared.level.Level.{Level}
 use Rattle.qrdata.specs.declared.mode.Mode.{Mode}
 use Rattle.qrdata.specs.declared.mode.Segment.{Segment}
@@ -49,16 +51,12 @@ pub record HasRoom (lowest highest : ℕ) (level : Level) (bits version : ℕ) :
 abbrev pub NamesBest : (version : ℕ) (bytes : List ℕ) (limit : ℕ) → Firsts → Type 0
 NamesBest version bytes limit firsts =
     (k : ℕ) → k < length bytes → cost version (chosen_segments version (drop k bytes)) ≤ limit
-    → first_at firsts (length bytes - 1 - k)
-    ∷ chosen_segments version (drop (first_at firsts (length bytes - 1 - k)).len (drop k bytes))
+    → first_at firsts k ∷ chosen_segments version (drop (first_at firsts k).len (drop k bytes))
     ≡ chosen_segments version (drop k bytes)
 
--- a table with a place for each byte, which names the best first segments of the rests of the bytes, the shortest rest
--- first
+-- a table that names the best first segments of the rests of the bytes
 pub record IsTable (version : ℕ) (bytes : List ℕ) (limit : ℕ) (firsts : Firsts) : Type 0 where
   pub few : length bytes ≤ MAX_BYTES
-  pub modes : length firsts.modes.items ≡ length bytes
-  pub lengths : length firsts.lengths.items ≡ length bytes
   pub named : NamesBest version bytes limit firsts
 
 -- the segments have `bits` bits, these fit the version, and there is room for the segments in a plan
@@ -66,3 +64,8 @@ pub record FitsBits (version : ℕ) (level : Level) (bits : ℕ) (segments : Lis
   pub value : bits ≡ cost version segments
   pub fits : bits ≤ capacity version level
   pub short : length segments ≤ MAX_SEGMENTS
+
+-- the bytes are this many digits
+pub record AreDigits (len : ℕ) (bytes : List ℕ) : Type 0 where
+  pub size : length bytes ≡ len
+  pub digits : IsTrue (list_all is_ascii_digit bytes)

@@ -1,16 +1,17 @@
 -- The best choices of a first segment of each rest of the data, found from its end (the choice of ISO/IEC 18004,
 -- annex J, made in this crate's own way). The limits of the character counts are left out.
-use Rattle.std.specs.Prelude.{ℕ, suc, ◌+◌, ◌^◌, ◌<◌, ◌≤◌, List, [], ◌∷◌, ◌++◌, nat_lt}
+use Rattle.std.specs.Prelude.{◌≡◌, ℕ, suc, ◌+◌, ◌^◌, ◌<◌, ◌≤◌, List, [], ◌∷◌, nat_lt, Bool, drop, length}
 use Rattle.std.specs.Prelude.{if◌then◌else◌, ◌==◌, ◌&&◌, ◌||◌}
 use Rattle.std.specs.Char.{is_ascii_digit}
-use Rattle.qrdata.specs.Private.ChoiceView.{ChoiceView}
+use Rattle.qrdata.specs.Private.ChoiceView.{ChoiceView, rank_of}
+use Rattle.qrdata.specs.Private.Firsts.{first_at}
+use Rattle.qrdata.specs.declared.firsts.Firsts.{Firsts}
 use Rattle.qrdata.specs.declared.segmentation.Digits.{Digits}
 use Rattle.qrdata.specs.declared.segmentation.Characters.{Characters}
 use Rattle.qrdata.specs.declared.segmentation.Choices.{Choices}
 use Rattle.qrdata.specs.declared.segmentation.TheConstants.{ABSENT}
 use Rattle.qrdata.specs.declared.mode.Mode.{Mode}
 use Rattle.qrdata.specs.declared.mode.Mode.TheVariants.{Numeric, Alphanumeric, Byte}
-use Rattle.qrdata.specs.declared.mode.Segment.{Segment}
 use Rattle.qrdata.specs.Segments.{has_character, segment_length, segment_of}
 
 -- the absent choice of a mode
@@ -27,10 +28,15 @@ abbrev pub longer_choice : ChoiceView → (added : ℕ) → ChoiceView
 longer_choice c added =
     record { segment = segment_of c.segment.mode (suc c.segment.len); bits = c.bits + added }
 
--- the choice of fewer bits, of equally many the longer one, and of equally long ones the first
+-- whether the second of two choices is the better one: it has fewer bits, or as many and a longer segment, or one as long
+-- and a mode of lower rank
+abbrev pub is_better : ChoiceView → ChoiceView → Bool
+is_better c d = nat_lt d.bits c.bits || (d.bits == c.bits && (nat_lt c.segment.len d.segment.len
+    || (c.segment.len == d.segment.len && nat_lt (rank_of d.segment.mode) (rank_of c.segment.mode))))
+
+-- the better one of two choices
 unfoldable pub better_choice : ChoiceView → ChoiceView → ChoiceView
-better_choice c d =
-    if nat_lt d.bits c.bits || (d.bits == c.bits && nat_lt c.segment.len d.segment.len) then d else c
+better_choice c d = if is_better c d then d else c
 
 -- no choices in numeric mode
 abbrev pub absent_digits : Digits
@@ -111,10 +117,10 @@ choices_of version (b ∷ bytes) = next_choices version b (choices_of version by
 abbrev pub fewest_bits : (version : ℕ) → List ℕ → ℕ
 fewest_bits version bytes = (choices_of version bytes).best.bits
 
--- the first of the best segments of each rest of the bytes, the shortest rest first
-unfoldable pub firsts_of : (version : ℕ) → List ℕ → List Segment
-firsts_of version [] = []
-firsts_of version (b ∷ bytes) = firsts_of version bytes ++ (choices_of version (b ∷ bytes)).best.segment ∷ []
+-- the table names the first of the best segments of each rest of the bytes that begins at a place or behind it
+abbrev pub NamesFirsts : (version : ℕ) → List ℕ → (place : ℕ) → Firsts → Type 0
+NamesFirsts version bytes place firsts = (k : ℕ) → place ≤ k → k < length bytes
+    → first_at firsts k ≡ (choices_of version (drop k bytes)).best.segment
 
 -- what is true of each choice, by its mode and by how many of its bytes are over threes or twos
 abbrev pub EachDigits : (Mode → ℕ → ChoiceView → Type 0) → Digits → Type 0

@@ -1,9 +1,8 @@
-use Rattle.std.proofs.Common.{◌∙◌, arith, refl}
+use Rattle.std.proofs.Common.{arith, refl}
 use Rattle.qrdata.specs.Fewest.{chosen_segments}
 use Rattle.qrdata.proofs.BoundLaws.{third}
 use Rattle.qrdata.proofs.FewestBitsLaws.{chosen_segments-is}
 use Rattle.qrdata.proofs.FirstsTableLaws.{FitsBits-of, NamesBest-of, capacity_as_wide, fewest_bits-below}
-use Rattle.qrdata.proofs.FirstsTableLaws.{length-firsts_of, table_sizes}
 use Rattle.qrdata.proofs.VersionLaws.{capacity-le, capacity-rising}
 use Rattle.qrdata.proofs.plan.plan_between.Goals as goal
 
@@ -31,8 +30,6 @@ plan_of-requires-clause-table c =
     let wide = capacity_as_wide c.in-Some.version c.args.highest c.args.level same room.known.0 room.known.1 in
     record {
       few = omega arith;
-      modes = (table_sizes firsts).0 ∙ length-firsts_of c.args.highest c.args.bytes.now;
-      lengths = (table_sizes firsts).1 ∙ length-firsts_of c.args.highest c.args.bytes.now;
       named = NamesBest-of c.in-Some.version c.args.highest same c.args.bytes.now c.fill-bits.result
           c.fill-bits.new.firsts (omega arith) (omega (arith, room.fits, wide)) firsts;
     }

@@ -8,7 +8,7 @@ returns-then-second-first c = rw (
   c.copied.ensures,
   ← c.first.view_is,
   ← c.second.view_is,
-  is_lighter c.first.inside.weight c.second.inside.weight c.if-second-first.true,
+  is_lighter c.first.inside.key c.second.inside.key c.first.invariant c.second.invariant c.if-second-first.true,
 )
 
 pub returns-else-second-first : goal.returns-else-second-first
@@ -17,5 +17,5 @@ returns-else-second-first c = rw (
   c.copied-else-second-first.ensures,
   ← c.first.view_is,
   ← c.second.view_is,
-  is_no_lighter c.first.inside.weight c.second.inside.weight c.if-second-first.false,
+  is_no_lighter c.first.inside.key c.second.inside.key c.first.invariant c.second.invariant c.if-second-first.false,
 )
