@@ -11,7 +11,6 @@ use Rattle.std.proofs.lemmas.Nat.Bits.{bit_at_and, bit_at_or, bit_at_xor, bit_at
 use Rattle.std.proofs.lemmas.Nat.Bits.{bit_at_ones, bit_at_ones_above, bit_at_cat_high, bit_at_cat_low, bit_at-zero}
 use Rattle.std.proofs.Math.Pow.{pow_mono, shl_lt}
 use Rattle.qrmatrix.specs.Bits.{bit}
-use Rattle.qrmatrix.specs.Penalty.{begins_run}
 
 pub xor_bit : (a b i : ℕ) → bit (bit_xor a b) i ≡ not (beq (bit a i) (bit b i))
 xor_bit a b i = grind (arith, nat_tests, bit_at_xor a b i, bit_at-lt a i, bit_at-lt b i)
@@ -75,13 +74,6 @@ up_narrow w j k h l =
     let small = shl_lt j k h in
     let wide : 2 ^ (j + k) ≤ 2 ^ 57 = pow_mono l in
     omega arith
-
--- the places at which a run begins
-pub begins_bit : (w i : ℕ) → i < 64 → bit (bit_or (bit_xor w (w / 2 ^ 1) * 2 ^ 1 % 2 ^ 64) 1) i ≡ begins_run (bit w) i
-begins_bit w i l =
-    let changes = bit_xor w (w / 2 ^ 1) in
-    rw (or_bit (changes * 2 ^ 1 % 2 ^ 64) 1 i, low_bit 1 i, up_bit changes 1 i l)
-    (grind (arith, nat_tests, xor_bit w (w / 2 ^ 1) (i - 1), shr_bit w 1 (i - 1)))
 
 pub same_beq : (a b : Bool) → beq a b ≡ true → a ≡ b
 same_beq a b h = grind arith

@@ -1,4 +1,4 @@
--- Bits of words: eight codewords in a word, and two bits of a row.
+-- Bits of words: two codewords in a word, and two bits of a row.
 use Rattle.std.proofs.Common.{◌≡◌, ℕ, zero, suc, ◌+◌, ◌-◌, ◌*◌, ◌/◌, ◌%◌, ◌^◌, ◌<◌, ◌≤◌, refl, ◌∙◌, arith}
 use Rattle.std.proofs.Common.{true, List, inl, inr, [], ◌∷◌, ◌++◌, drop}
 use Rattle.std.proofs.Math.ListN.{replicate}
@@ -11,7 +11,7 @@ use Rattle.qrmatrix.specs.Placement.{codeword_bit}
 use Rattle.qrmatrix.specs.Private.Placing.{HasBits}
 use Rattle.qrmatrix.proofs.RowBitsLaws.{above_bit, and_bit, or_bit, shr_bit, up_bit}
 
--- ---- eight codewords in a word
+-- ---- two codewords in a word
 
 -- a word of j codewords, from number `first` on
 abbrev pub HasCodewords : ℕ → List ℕ → ℕ → ℕ → Type 0
@@ -35,14 +35,15 @@ codeword_more word j first b codewords few small is has k l =
     ])
 
 -- the word from bit i on
-pub word_from : (word i : ℕ) (codewords : List ℕ) → HasCodewords word codewords (i / 8) 8
-    → HasBits 57 (word * 2 ^ (i % 8) % 2 ^ 64) codewords i
+pub word_from : (word i : ℕ) (codewords : List ℕ) → HasCodewords word codewords (i / 8) 2
+    → HasBits 9 (word * 2 ^ (48 + i % 8) % 2 ^ 64) codewords i
 word_from word i codewords has j l =
-    let at : 8 * (i / 8 + 8) - 1 - (63 - j - i % 8) ≡ i + j = omega arith in
-    rw (up_bit word (i % 8) (63 - j) (omega arith), has (63 - j - i % 8) (omega arith), at) (grind (arith, nat_tests))
+    let low = 63 - j - (48 + i % 8) in
+    let at : 8 * (i / 8 + 2) - 1 - low ≡ i + j = omega arith in
+    rw (up_bit word (48 + i % 8) (63 - j) (omega arith), has low (omega arith), at) (grind (arith, nat_tests))
 
 -- a word without its first bits
-pub bits_after : (count more word i : ℕ) (codewords : List ℕ) → count + more ≤ 57 → HasBits 57 word codewords i
+pub bits_after : (count more word i : ℕ) (codewords : List ℕ) → count + more ≤ 9 → HasBits 9 word codewords i
     → HasBits more (word * 2 ^ count % 2 ^ 64) codewords (i + count)
 bits_after count more word i codewords few has j l =
     let at : 63 - j - count ≡ 63 - (count + j) = omega arith in

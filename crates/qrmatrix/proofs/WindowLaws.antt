@@ -1,11 +1,15 @@
 -- Windows of lines by bits of rows.
-use Rattle.std.proofs.Common.{◌≡◌, ℕ, ◌+◌, ◌-◌, ◌<◌, ◌≤◌, refl, ap, ◌∙◌, arith, Bool, ◌&&◌, add-one}
+use Rattle.std.proofs.Common.{◌≡◌, ℕ, ◌+◌, ◌-◌, ◌*◌, ◌%◌, ◌^◌, ◌<◌, refl, ap, ◌∙◌, arith, Bool, ◌&&◌, add-one}
+use Rattle.std.proofs.Common.{true, false, inl, inr, not}
 use Rattle.std.specs.Bool.{beq}
-use Rattle.std.specs.Prelude.{if◌then◌else◌}
+use Rattle.std.specs.Int.{bit_not, w64}
+use Rattle.std.specs.Prelude.{if◌then◌else◌, nat_le}
+use Rattle.std.proofs.lemmas.Bool.{cases_eq, le-leb, ne_eqb}
 use Rattle.qrmatrix.specs.Private.Counting.{sum_below, count_below, one_if}
 use Rattle.qrmatrix.specs.Bits.{bit}
-use Rattle.qrmatrix.specs.Penalty.{run_penalty, is_uniform, window_points}
+use Rattle.qrmatrix.specs.Penalty.{begins_run, run_penalty, is_uniform, window_points}
 use Rattle.qrmatrix.proofs.PenaltySumLaws.{run_penalty-sum}
+use Rattle.qrmatrix.proofs.RowBitsLaws.{not_bit, up_bit}
 use Rattle.qrmatrix.proofs.SumLaws.{sum_below_same}
 use Rattle.qrmatrix.proofs.RowSumLaws.{sum_exchanged}
 
@@ -18,15 +22,47 @@ pub five_equal : (line : ℕ → Bool) (i : ℕ)
     && beq (line (i + 3)) (line i)) && beq (line (i + 4)) (line i))
 five_equal line i = grind arith
 
--- the points of the windows that two words mark: those of one colour, and those that begin a run
-pub windows_counted : (n u b : ℕ) (uniform begins : ℕ → Bool) → n ≤ 57 → ((i : ℕ) → i < 64 → bit u i ≡ uniform i)
-    → ((i : ℕ) → i < 64 → bit b i ≡ begins i)
+-- the window before one of one colour is of one colour where its first module has the colour of the next
+window_continues : (line : ℕ → Bool) (k i : ℕ) → i ≡ k + 1 → is_uniform line i 5 ≡ true
+    → is_uniform line k 5 ≡ beq (line k) (line i)
+window_continues line k i e h = grind (arith, five_equal line k, five_equal line i, e, h)
+
+-- the window before one of one colour is not, where a run begins at that one
+pub not_before : (line : ℕ → Bool) (i : ℕ) → is_uniform line i 5 ≡ true
+    → not (nat_le 1 i && is_uniform line (i - 1) 5) ≡ begins_run line i
+not_before line i here =
+    elim (cases_eq i 0) [
+      | inl first ↦ rw first refl
+      | inr later ↦ rw (
+        window_continues line (i - 1) i (omega arith) here,
+        le-leb 1 i (omega arith),
+        ne_eqb i 0 later,
+      ) refl
+    ]
+
+-- a run begins at each window of one colour that comes after none
+pub first_windows : (line : ℕ → Bool) (u : ℕ) → ((i : ℕ) → i < 64 → bit u i ≡ is_uniform line i 5) → (i : ℕ) → i < 64
+    → is_uniform line i 5 ≡ true → bit (bit_not w64 (u * 2 ^ 1 % 2 ^ 64)) i ≡ begins_run line i
+first_windows line u marks i l here =
+    not_bit (u * 2 ^ 1 % 2 ^ 64) i (omega arith) l
+    ∙ ap not (up_bit u 1 i l ∙ ap (λ b. nat_le 1 i && b) (marks (i - 1) (omega arith)))
+    ∙ not_before line i here
+
+-- equal points, where it matters only in windows of one colour whether a run begins
+same_points : (p b c : Bool) → (p ≡ true → b ≡ c)
+    → (if p then 1 + (if b then 2 else 0) else 0) ≡ (if p then 1 + (if c then 2 else 0) else 0)
+same_points true b c h = rw (h refl) refl
+same_points false b c h = refl
+
+-- the points of the windows that two words mark: those of one colour, and those of them that begin a run
+pub windows_counted : (n u b : ℕ) (uniform begins : ℕ → Bool) → ((i : ℕ) → i < n → bit u i ≡ uniform i)
+    → ((i : ℕ) → i < n → uniform i ≡ true → bit b i ≡ begins i)
     → sum_below n (λ i. if bit u i then 1 + (if bit b i then 2 else 0) else 0)
     ≡ sum_below n (λ i. if uniform i then 1 + (if begins i then 2 else 0) else 0)
-windows_counted n u b uniform begins l is_uniform is_begin =
+windows_counted n u b uniform begins is_uniform is_begin =
     sum_below_same n (λ i. if bit u i then 1 + (if bit b i then 2 else 0) else 0)
     (λ i. if uniform i then 1 + (if begins i then 2 else 0) else 0)
-    (λ i h. rw (is_uniform i (omega arith), is_begin i (omega arith)) refl)
+    (λ i h. rw (is_uniform i h) (same_points (uniform i) (bit b i) (begins i) (is_begin i h)))
 
 -- the penalty of the runs of columns, window by window
 pub columns_summed : (n : ℕ) (m : ℕ → ℕ → Bool)

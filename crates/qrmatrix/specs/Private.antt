@@ -8,3 +8,4 @@ pub mod Squares
 pub mod PenaltyParts
 pub mod MaskOrder
 pub mod Drawing
+pub mod Narrow

@@ -99,6 +99,6 @@ impl Matrix {
     pub fn penalty(&self) -> u32
         ensures { result ≡ Penalty.penalty self.now.side (is_dark self.now) }
     {
-        penalty(&self.modules, self.side)
+        penalty(&self.modules, self.side) as u32
     }
 }

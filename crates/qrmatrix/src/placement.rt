@@ -12,9 +12,9 @@ ghost use Rattle.qrmatrix.specs.Private.Drawing.{MarksFree, PlacesCodewords};
 use crate::square::{SIDE, Square};
 use qrdata::{Version, Words};
 
-/// Room for the codewords and zeros after them: enough that each module of the largest symbol has a bit, and seven
-/// bytes more.
-const ROOM: usize = 408;
+/// Room for the codewords and zeros after them: enough that each module of the largest symbol has a bit, and one byte
+/// more.
+const ROOM: usize = 402;
 
 /// Two columns of a symbol.
 #[derive(Clone, Copy)]
@@ -73,18 +73,18 @@ fn with_zeros(codewords: &[u8]) -> [u8; ROOM]
     bytes
 }
 
-/// Returns the bits of the codewords from bit `i` on, the first one the highest.
+/// Returns the bits of the codewords from bit `i` on, at least nine, the first one the highest.
 #[tactic(auto, using(crate::proofs::TwoBitsLaws::codeword_more))]
 fn bits_from(bytes: &[u8; ROOM], i: usize) -> u64
-    requires { i < 8 * (ROOM - 8) }
-    ensures { HasBits 57 result bytes.now i }
+    requires { i < 8 * (ROOM - 2) }
+    ensures { HasBits 9 result bytes.now i }
 {
     let first = i / 8;
     let mut bits = 0;
-    for j in 0..8 {
+    for j in 0..2 {
         bits = (bits << 8) | u64::from(bytes[first + j]);
     }
-    bits << (i % 8)
+    bits << (48 + i % 8)
 }
 
 /// Returns bit `x` and, one place higher, the next one.
@@ -149,7 +149,7 @@ fn place_free(strip: Strip, t: usize, bits: u64, modules: &mut Square)
     ensures { (free : List (List Bool)) → ((j : ℕ) → j < 4
         → (value_at free strip.x (row_of strip.side strip.number (t + j)) ≡ true)
         × (value_at free (strip.x + 1) (row_of strip.side strip.number (t + j)) ≡ true))
-        → (codewords : List ℕ) (i : ℕ) → HasBits 57 bits codewords i
+        → (codewords : List ℕ) (i : ℕ) → HasBits 9 bits codewords i
         → MovesOn strip free codewords modules.old modules.new i t (i + 8) (t + 4) }
 {
     for j in 0..4 {
@@ -171,7 +171,7 @@ fn place_rows(
     requires column { strip.x + 1 < SIDE }
     requires row { t + count ≤ strip.side }
     requires count { count ≤ 4 }
-    ensures placed { (codewords : List ℕ) (i : ℕ) → HasBits 57 bits codewords i
+    ensures placed { (codewords : List ℕ) (i : ℕ) → HasBits 9 bits codewords i
         → MovesOn strip free.now codewords modules.old modules.new i t (i + result) (t + count) }
     ensures bound { result ≤ 2 * count }
 {
@@ -188,7 +188,7 @@ fn place_four(strip: Strip, t: usize, bits: u64, free: &Square, modules: &mut Sq
     requires side { strip.side ≤ SIDE }
     requires column { strip.x + 1 < SIDE }
     requires row { t + 3 < strip.side }
-    ensures placed { (codewords : List ℕ) (i : ℕ) → HasBits 57 bits codewords i
+    ensures placed { (codewords : List ℕ) (i : ℕ) → HasBits 9 bits codewords i
         → MovesOn strip free.now codewords modules.old modules.new i t (i + result) (t + 4) }
     ensures bound { result ≤ 8 }
 {
@@ -211,7 +211,7 @@ fn place_strip(
 ) -> usize
     requires side { (strip.side ≤ SIDE) × (strip.side % 4 ≡ 1) }
     requires column { strip.x + 1 < SIDE }
-    requires first { first + 2 * strip.side < 8 * (ROOM - 8) }
+    requires first { first + 2 * strip.side < 8 * (ROOM - 2) }
     ensures placed { MovesOn strip free.now bytes.now modules.old modules.new first 0 result strip.side }
     ensures bound { result ≤ first + 2 * strip.side }
 {

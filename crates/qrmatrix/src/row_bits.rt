@@ -3,8 +3,8 @@ ghost use Rattle.std.specs.Prelude.{◌≡◌, ℕ, ◌+◌, ◌-◌, ◌*◌, �
 ghost use Rattle.std.specs.Bool.{beq};
 ghost use Rattle.qrmatrix.specs.Private.Counting.{sum_below, count_below};
 ghost use Rattle.qrmatrix.specs.Bits.{bit};
-ghost use Rattle.qrmatrix.specs.Penalty.{begins_run, is_uniform};
-ghost use Rattle.qrmatrix.specs.Private.PenaltyParts.{finder_from, is_finder, is_light};
+ghost use Rattle.qrmatrix.specs.Penalty.{is_uniform};
+ghost use Rattle.qrmatrix.specs.Private.PenaltyParts.{finder_from, is_finder, is_light, light_from};
 
 use crate::square::SIDE;
 
@@ -19,12 +19,12 @@ pub fn low_ones(count: usize) -> u64
 }
 
 /// Returns how many of the lowest `count` places have a one.
-pub fn ones_below(row_bits: u64, count: usize) -> u32
+pub fn ones_below(row_bits: u64, count: usize) -> u64
     requires { count ≤ SIDE }
     ensures value { result ≡ count_below count (bit row_bits) }
     ensures bound { result ≤ count }
 {
-    (row_bits & low_ones(count)).count_ones()
+    (row_bits & low_ones(count)).count_ones() as u64
 }
 
 /// Returns the places at which two rows have the same colour.
@@ -73,6 +73,14 @@ pub fn finders_from(row_bits: u64) -> u64
     row_bits & two_changes & !(one_change >> 2) & (two_changes >> 4)
 }
 
+/// Returns the places of a row from which one of four modules is dark.
+pub fn dark_in_four(row_bits: u64) -> u64
+    ensures { (i : ℕ) → i < 64 → bit result i ≡ not (light_from (bit row_bits) i) }
+{
+    let dark_in_two = row_bits | (row_bits >> 1);
+    dark_in_two | (dark_in_two >> 2)
+}
+
 /// Returns the places at which seven rows, one after the other, have the modules of a finder pattern.
 #[tactic(auto, using(crate::proofs::RowBitsLaws::and_bit, crate::proofs::RowBitsLaws::not_bit))]
 pub fn finders_in(a: u64, b: u64, c: u64, d: u64, e: u64, f: u64, g: u64) -> u64
@@ -90,18 +98,10 @@ pub fn light_in(a: u64, b: u64, c: u64, d: u64) -> u64
     !a & !b & !c & !d
 }
 
-/// Returns the places of a row at which a run begins.
-#[tactic(auto, using(crate::proofs::RowBitsLaws::begins_bit))]
-pub fn run_starts(row_bits: u64) -> u64
-    ensures { (i : ℕ) → i < 64 → bit result i ≡ begins_run (bit row_bits) i }
-{
-    ((row_bits ^ (row_bits >> 1)) << 1) | 1
-}
-
 /// Returns the penalty of runs in the lowest `count` places. `uniform` has the places at which windows of one colour
-/// begin, and `begins` those at which a run begins.
+/// begin, and `begins` those of them at which a run begins.
 #[tactic(auto, using(crate::proofs::RowSumLaws::points_counted))]
-pub fn run_points(uniform: u64, begins: u64, count: usize) -> u32
+pub fn run_points(uniform: u64, begins: u64, count: usize) -> u64
     requires { count ≤ SIDE }
     ensures value { result
         ≡ sum_below count (λ i. if bit uniform i then 1 + (if bit begins i then 2 else 0) else 0) }

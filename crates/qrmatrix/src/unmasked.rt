@@ -87,7 +87,7 @@ impl Masked {
 
     /// Returns the limit below which the penalty of another mask replaces this one, which has the penalty `lowest`. Of
     /// two masks with the same penalty the one of the lower number is chosen.
-    fn limit_for(&self, mask: Mask, lowest: u32) -> u32
+    fn limit_for(&self, mask: Mask, lowest: u64) -> u64
         requires { lowest ≤ 329 * SIDE * SIDE }
         ensures value { result ≡ lowest + one_if (nat_lt mask self.now.mask) }
         ensures bound { result ≤ lowest + 1 }
@@ -150,7 +150,7 @@ impl Unmasked {
     }
 
     /// Returns the penalty of the symbol under a mask.
-    fn penalty_of(&self, masked: &Masked) -> u32
+    fn penalty_of(&self, masked: &Masked) -> u64
         ensures value { (codewords : List ℕ) → ShowsSymbol self.now codewords masked.now → result
             ≡ Penalty.penalty (side_of self.now.version)
             (module_at self.now.version self.now.level masked.now.mask codewords) }
@@ -160,7 +160,7 @@ impl Unmasked {
     }
 
     /// Returns the penalty of the symbol under a mask where it is below a limit.
-    fn penalty_below(&self, masked: &Masked, limit: u32) -> Option<u32>
+    fn penalty_below(&self, masked: &Masked, limit: u64) -> Option<u64>
         ensures below { IfSome result (λ found. found < limit) }
         ensures value { (codewords : List ℕ) → ShowsSymbol self.now codewords masked.now → IfSome result (λ found. found
             ≡ Penalty.penalty (side_of self.now.version)

@@ -4,6 +4,8 @@ use Rattle.qrmatrix.specs.Bits.{bit}
 use Rattle.qrmatrix.specs.Penalty.{shows_finder}
 use Rattle.qrmatrix.specs.Private.Counting.{count_below}
 use Rattle.qrmatrix.specs.Square.{value_at}
+use Rattle.qrmatrix.specs.Private.Narrow.{narrow_at}
+use Rattle.qrmatrix.proofs.NarrowLaws.{finders-same}
 use Rattle.qrmatrix.proofs.WindowLaws.{sum_next}
 use Rattle.qrmatrix.proofs.penalty.all_row_finders.Goals as goal
 
@@ -20,3 +22,9 @@ loop-y-preserved c =
       total = omega (arith, c.loop-y.invariant.total, sum_next y f);
       bound = omega (arith, c.loop-y.invariant.bound, c.row_finders-total.ensures.bound);
     }
+
+pub returns-then-side-le29-clause-value : goal.returns-then-side-le29-clause-value
+returns-then-side-le29-clause-value c =
+    c.all_row_finders.ensures.value
+    ∙ finders-same c.args.side (narrow_at c.narrow_rows.result) (value_at c.args.modules.now)
+    (λ x y lx ly. c.narrow_rows.ensures x y (omega arith) (omega arith))

@@ -8,6 +8,6 @@ invariant-loop-j l = record {
   placed : (free : List (List Bool)) → ((j : ℕ) → j < 4
       → (value_at free l.strip.x (row_of l.strip.side l.strip.number (l.t + j)) ≡ true)
       × (value_at free (l.strip.x + 1) (row_of l.strip.side l.strip.number (l.t + j)) ≡ true))
-      → (codewords : List ℕ) (i : ℕ) → HasBits 57 l.bits codewords i
+      → (codewords : List ℕ) (i : ℕ) → HasBits 9 l.bits codewords i
       → MovesOn l.strip free codewords l.fn.modules l.modules i l.t (i + 2 * l.j) (l.t + l.j);
 }
