@@ -29,11 +29,11 @@ pub fn check_value(start: u8, values: &[u8]) -> u8
 }
 
 /// Returns the modules of a value, from 0 to 105.
-fn modules_of(value: u8) -> [bool; 11]
+fn modules_of(value: u8) -> &'static [bool; 11]
     requires { value < 106 }
-    ensures { result ≡ character_modules value }
+    ensures { result.now ≡ character_modules value }
 {
-    CHARACTERS[usize::from(value)]
+    &CHARACTERS[usize::from(value)]
 }
 
 /// Appends the character of a value.
@@ -42,7 +42,7 @@ fn push_character(row: &mut Row, value: u8)
     requires room { array_vec_len row.old + 11 ≤ MAX_MODULES }
     ensures { Appends row.old.items row.new.items (character_modules value) 11 }
 {
-    push_modules(row, &modules_of(value));
+    push_modules(row, modules_of(value));
 }
 
 /// Appends the characters of values, from left to right.

@@ -50,6 +50,7 @@ pub fn write_kept_rows<T: PixelText, G: Grid, S: Sink>(
 }
 
 /// Writes the row of `width` pixels that are the bits of a number, the lowest first: one piece.
+#[inline(always)]
 fn write_row_bits<T: PixelText, S: Sink>(
     row: u64,
     width: usize,
@@ -76,12 +77,22 @@ fn write_equal_rows<T: PixelText, S: Sink>(
         (repeated count (row_text T.text T.row_end (take width kept.now))) result }
 {
     write_row::<T, S>(kept, width, sink)?;
-    let at_once = rows_at_once(T::row_len(width));
+    let len = T::row_len(width);
+    let at_once = rows_at_once(len);
     let mut written = 1;
+    // How many rows to repeat next: twice as many as last time, or one where the sink no longer had these rows or no
+    // room for them.
+    let mut block: usize = 1;
     while written < count {
-        let rows = at_once.min(written).min(count - written);
-        repeat_rows::<T, S>(kept, width, rows, sink)?;
-        written += rows;
+        let rows = block.min(count - written);
+        if sink.repeat(rows * len) {
+            written += rows;
+            block = at_once.min(rows + rows);
+        } else {
+            repeat_row::<T, S>(kept, width, sink)?;
+            written += 1;
+            block = 1;
+        }
     }
     Ok(())
 }
@@ -93,31 +104,6 @@ fn rows_at_once(len: usize) -> usize
     ensures most { result * len ≤ max 4096 len }
 {
     (BLOCK / len.max(1)).max(1)
-}
-
-/// Writes the row of `width` pixels at the front of `kept` `count` times, after it was written as often. The sink
-/// repeats these rows at once where it still has them, else one by one.
-fn repeat_rows<T: PixelText, S: Sink>(
-    kept: &[bool],
-    width: usize,
-    count: usize,
-    sink: &mut S,
-) -> Result<(), IoFault>
-    requires some { 0 < count }
-    requires fits { width + 80 ≤ length kept.now }
-    requires last { EndsWith S.took sink.old
-        (repeated count (row_text T.text T.row_end (take width kept.now))) }
-    requires short { length (repeated count (row_text T.text T.row_end (take width kept.now))) < 2 ^ 64 }
-    ensures { WritesText S.Sink sink.old sink.new
-        (repeated count (row_text T.text T.row_end (take width kept.now))) result }
-{
-    if sink.repeat(count * T::row_len(width)) {
-        return Ok(());
-    }
-    for _again in 0..count {
-        repeat_row::<T, S>(kept, width, sink)?;
-    }
-    Ok(())
 }
 
 /// Writes the row of `width` pixels at the front of `kept`, which was written last. The sink repeats it where it still

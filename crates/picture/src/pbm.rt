@@ -28,6 +28,7 @@ pub fn write_pbm<G: Grid, S: Sink>(grid: &G, sink: &mut S) -> Result<(), IoFault
 }
 
 /// Returns the two lines before the pixels.
+#[inline(always)]
 fn header(width: usize, height: usize) -> ArrayVec<u8, 128>
     ensures { result.items ≡ pbm_header width height }
 {

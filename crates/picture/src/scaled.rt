@@ -56,6 +56,10 @@ impl<G: Grid> Grid for Scaled<G> {
     }
 
     fn read_row(&self, y: usize, pixels: &mut [bool]) {
+        if self.scale == 1 {
+            self.grid.read_row(y, pixels);
+            return;
+        }
         let width = self.grid.width();
         read_pixels(&self.grid, y / self.scale, &mut pixels[..width]);
         spread(pixels, width, self.scale);
