@@ -225,14 +225,13 @@ class Window(Gtk.ApplicationWindow):
     def remedies(self, texts: Iterable[Text]) -> Answers:
         """Returns the remedies of some texts as answers, each once."""
         every = dict.fromkeys(one for text in texts for one in remedies_of(text))
-        found = [one for one in every if one.says and one.option not in self.unwanted()]
+        found = [one for one in every if one.says and self.is_wanted(one)]
         return [(translated(one.says), partial(self.follow, one)) for one in found]
 
-    def unwanted(self) -> Sequence[str]:
-        """Returns the options that no button gives: prices of which the form is chosen are no
-        texts.
-        """
-        return ("after", "price-text") if self.choices()["price-as"] else ("after",)
+    def is_wanted(self, remedy: Remedy) -> bool:
+        """Returns whether a button gives a remedy: prices whose form is chosen are no texts."""
+        is_text = remedy.option == "price-text" and not remedy.is_less
+        return remedy.option != "after" and not (is_text and self.choices()["price-as"])
 
     def follow(self, remedy: Remedy) -> None:
         """Takes a choice that helps: by its control, or else as an option that is typed."""
