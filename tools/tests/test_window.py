@@ -218,7 +218,8 @@ class Keeper(unittest.TestCase):
         self.until(lambda: self.window.has_labels or self.problem())
 
     def closed(self) -> None:
-        """Opens a file that is not there, which leaves nothing of the table."""
+        """Leaves the table, for a file that is not there."""
+        self.window.table = self.window.before = None
         self.window.open(self.folder / "none.csv")
         self.until(self.problem)
         self.window.events.hide()
@@ -265,8 +266,9 @@ class Keeper(unittest.TestCase):
         return event.sentence if is_wrong else ""
 
     def said(self) -> Any:
-        """What the bar says; nothing where it is closed."""
-        return self.window.bar_text.get_text() if self.window.bar.get_visible() else ""
+        """What the bar says, but for where the next labels begin; nothing where it is closed."""
+        text = self.window.bar_text.get_text() if self.window.bar.get_visible() else ""
+        return text.partition(" The next labels begin")[0]
 
     def happened(self) -> Any:
         """What the list behind the clock says, the newest first."""
@@ -444,7 +446,7 @@ PRESSED: tuple[tuple[str | bytes, dict[str, Any], str, str], ...] = (
     (xlsx(DAYS, formats=[14]), {"title": "2"}, "As 31.12.2026", "--date-as dd.mm.yyyy"),
     (
         xlsx(rows(NAMED, [LINK, "Gum", "1,00"], ["B7", "Tea", "2,00"])),
-        {"symbology": "qr", "price": "3"},
+        {"symbology": "qr"},
         "Draw the address",
         "--symbology qr --links",
     ),
@@ -640,10 +642,19 @@ class WindowTest(Keeper):
         self.assertEqual([Path(one).name for one in folders], ["designs"])
         self.assertIn("rack-100x50.svg", os.listdir(folders[0]))
 
-    def test_a_letter_among_digits_is_no_text_for_a_price(self) -> None:
-        self.open(TEA.format("4,5O"))
-        self.assertIn("has the letter O among its digits", self.rows()[0][2])
-        self.assertEqual([*self.answers()], [])
+    def test_a_letter_among_digits_is_typed_again(self) -> None:
+        """It is a typo, which no button makes a text; a text is one, if no form is chosen."""
+        for price, letter in (("4,5O", "O"), ("O,50", "O"), ("1,l5", "l"), ("I,50", "I")):
+            self.open(TEA.format(price))
+            row, cell, why = self.rows()[0]
+            self.assertEqual((row, cell), ("3", price))
+            self.assertIn(f"has the letter {letter} among its digits", why)
+            self.assertTrue(why.lower().endswith("type it again."), why)
+            self.assertEqual([*self.answers()], [])
+        self.open(TEA.format("on request"))
+        self.assertIn("Prices may be any text", self.answers())
+        self.change(price_as="0,00 €")
+        self.assertNotIn("Prices may be any text", self.answers())
 
     def test_prints_the_file_that_the_command_prints(self) -> None:
         """A printer that takes PDF gets the file as it is."""
@@ -655,17 +666,48 @@ class WindowTest(Keeper):
         self.until(lambda: self.said() == "6 labels are printed on pdf.")
         self.assertEqual(len(self.printed()), 3)
 
+    def test_the_next_labels_begin_behind_those_that_are_printed(self) -> None:
+        """Once they are printed, and the window says where; a trial moves nothing."""
+        scheduler.add("behind", "pdf")
+        self.open()
+        self.change(first=9)
+        self.assertIn("It was a trial", self.answered("behind", "trial"))
+        self.until(lambda: self.said() == "6 labels are printed on behind.")
+        self.assertEqual(self.window.choices()["first"], 9)
+        self.confirmed()
+        self.until(lambda: self.window.choices()["first"] == 15)
+        said = "The next labels begin at label 15 of the last sheet."
+        self.assertTrue(self.window.bar_text.get_text().endswith(said))
+        self.until(lambda: self.window.has_labels)
+        self.assertEqual(self.window.made.labels.job.options.first, 15)
+
+    def test_a_file_that_is_no_table_leaves_the_open_one(self) -> None:
+        """With what is chosen; the window says what the file is."""
+        self.open()
+        self.change(title="", price="4")
+        chosen = self.window.choices()
+        path = self.folder / "photo.xls"
+        path.write_bytes(b"\xd0\xcf\x11\xe0")
+        self.window.open(path)
+        self.until(self.problem)
+        self.until(lambda: self.window.has_labels)
+        self.assertIn("photo.xls", self.problem())
+        self.assertEqual((self.window.path, self.window.choices()), (self.table, chosen))
+        self.assertEqual(self.window.head.get_subtitle(), "articles.csv")
+        self.assertIn("6 labels from 3 rows", self.counted())
+
     def test_a_trial_does_not_count_and_chosen_rows_do(self) -> None:
         """Only those are sent, and reported."""
         scheduler.add("some", "both")
         self.open()
-        self.change(first=20)  # two labels on the first sheet, four on the second
         for kind, which, labels, printed in (
             ("trial", "", 2, 0),
             ("rows", "3", 2, 1),
             ("sheets", "2-", 4, 3),
         ):
             with self.subTest(kind):
+                if self.window.choices()["first"] != 20:
+                    self.change(first=20)  # two labels on the first sheet, four on the second
                 said = self.answered("some", kind, which)
                 self.assertIn(f"{labels} labels are sent to some.", said)
                 self.assertEqual("It was a trial" in said, kind == "trial")
@@ -1694,7 +1736,7 @@ class WindowTest(Keeper):
         soap = look_for("soap"), self.window.rows_all.clicked
         self.assertEqual(choose("", *soap), "3")
         none = self.window.rows_none.clicked
-        self.assertEqual(choose("2-5", none, lambda: rows.on_mark(None, "2")), "5")
+        self.assertEqual(choose("2-5", none, lambda: rows.on_mark("2")), "5")
         self.saved("labels.pdf")
         self.open(TABLE.replace("Soap", "Soap, blue"))
         self.assertEqual(choose("", self.window.rows_new.clicked), "3")
@@ -1779,6 +1821,7 @@ class WindowTest(Keeper):
         ):
             path = self.folder / name
             path.write_bytes(data)
+            self.window.table = self.window.before = None
             self.open(path=path)
             self.assertIn(name, self.problem())
             self.assertFalse(self.window.print_button.is_sensitive())

@@ -9,6 +9,7 @@ from labeltools.common.text import Text
 from labeltools.drawing.pen import Pen
 from labeltools.layout.area import Area
 from labeltools.layout.layout import LaidOut, LaidOutFile
+from labeltools.lines.accents import has_accents, said_of_accents
 from labeltools.printing.selection import Selection
 
 DENSE = 0.33  # millimetres: modules of QR below it are reported
@@ -36,6 +37,12 @@ def remarks_on(
             places = [item.label.record.origin for item in some]
             text = Text("{}: {}", places_text(places, has_tables), what)
             yield LeftOut(places[0], "", text)
+    accents = [item for item in items if is_of_accents(item)]
+    if accents:
+        places = [item.label.record.origin for item in accents]
+        data = (item.label.record.data.decode("utf-8", "replace") for item in accents)
+        text = said_of_accents(places_text(places, has_tables), data)
+        yield LeftOut(places[0], "", text)
 
 
 def several(items: Sequence[LaidOut], only: Selection) -> Iterator[LeftOut]:
@@ -80,6 +87,14 @@ def alike(items: Sequence[LaidOut], pen: Pen) -> Iterator[tuple[Sequence[LaidOut
         if len({(item.label.title, item.label.text) for item in same}) > 1:
             text = quoted(" ".join(shown))
             yield same, Text("alike once shortened, {}: put what differs in front", text)
+
+
+def is_of_accents(item: LaidOut) -> bool:
+    """Returns whether some scanners may show a code wrongly; of one from a table label-table says
+    it.
+    """
+    record = item.label.record
+    return not record.label.row and has_accents(record.symbology, record.data)
 
 
 def has_low_bars(item: LaidOut) -> bool:

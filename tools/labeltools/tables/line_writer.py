@@ -7,6 +7,7 @@ from typing import Mapping
 
 from labeltools.common.messages import Origin, quoted, RowError, Talk, ToolError
 from labeltools.common.text import Remedy, Text
+from labeltools.lines.accents import has_accents
 from labeltools.lines.file import first_remark, Label, label_lines, last_remark, LinesFile
 from labeltools.tables.codes import Code
 from labeltools.tables.drafts import Draft, HAS_DIGIT, Price
@@ -47,6 +48,7 @@ class LineWriter:
     left_out: list[int] = field(default_factory=list)
     filled: set[str] = field(default_factory=set)  # columns of texts
     words: dict[int, str] = field(default_factory=dict)  # codes without a digit, by their rows
+    accents: dict[int, str] = field(default_factory=dict)  # QR codes beyond ASCII, by their rows
     empty: dict[str, list[int]] = field(default_factory=lambda: {"title": [], "price": []})
     seen: dict[str, tuple[int, int]] = field(default_factory=dict)
 
@@ -177,6 +179,8 @@ class LineWriter:
             self.totals.add_price(price.money.value, label.price)
         if not HAS_DIGIT.search(code.data):
             self.words[label.row] = code.data
+        if has_accents(code.symbology, code.data):
+            self.accents[label.row] = code.data
         if not label.title:
             self.empty["title"].append(label.row)
         if not label.price:

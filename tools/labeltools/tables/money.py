@@ -24,8 +24,15 @@ MOST_DECIMALS = 6  # of a price that is printed as it stands
 NO_PRICE = Text("if it is a code, choose another column")
 OTHER_WORDS = Text("has words that are not part of a price")
 ANY_TEXT = Remedy("price-text", says=Text("Prices may be any text"))
-OTHER_WORDS_HINT = Text("give {} if it is right", ANY_TEXT)
-LETTER_O = re.compile(r"[0-9][.,]?[Oo](?![^\W\d_])|(?<![^\W\d_])[Oo][.,]?[0-9]")  # 4,5O
+OTHER_WORDS_HINT = Text("give {} if it is right", Remedy("price-text"))
+WORDS_HINT = Text("give {} if it is right", ANY_TEXT)
+LONE_WORD = re.compile(r"(?<!\S)[^\W\d_]{2,}(?!\S)")  # ab 5, 2 for 3.00, but neither p0 nor 1.9+
+# a letter among digits that was typed for one of them: 4,5O, O,50, 1,l5
+LETTER = re.compile(
+    r"[0-9][.,]?(?P<behind>[Oo])(?![^\W\d_])|(?<![^\W\d_])(?P<before>[OoIl])[.,]?[0-9]"
+    r"|[0-9][.,](?P<among>[Il])(?![^\W\d_])"
+)
+TYPE_AGAIN = Text("type it again")
 FORMAT_HINT = Text("give {}", Remedy("price-as")).in_window(Text("choose how prices are printed"))
 SEPARATORS = Text("has a number whose separators are not understood")
 SEPARATORS_HINT = Text("write it as 1234,50 or 1234.50")
@@ -243,12 +250,18 @@ def plain_price(text: str) -> str:
         raise NotMoney(Text("has several lines or more than 60 letters"))
     if not re.search("[0-9]", bare):
         has_word = re.search(r"[^\W\d_]{2}", bare) is not None
-        raise NotMoney(Text("has no number"), OTHER_WORDS_HINT if has_word else NOTHING)
-    if LETTER_O.search(bare):
-        raise NotMoney(Text("has the letter O among its digits"), Text("write a zero"))
+        raise NotMoney(Text("has no number"), WORDS_HINT if has_word else NOTHING)
+    if found := LETTER.search(bare):
+        letter = found[found.lastgroup or 0]
+        raise NotMoney(Text("has the letter {} among its digits", letter), TYPE_AGAIN)
     if re.search("[%‰٪]", bare):
         raise NotMoney(Text("is a percentage"), Text("write the price itself"))
     return bare
+
+
+def hint_for(bare: str) -> Text:
+    """Returns what helps a price with other words: only a text is offered as one."""
+    return WORDS_HINT if LONE_WORD.search(bare) else OTHER_WORDS_HINT
 
 
 def with_usual_points(bare: str) -> str:
@@ -303,7 +316,7 @@ def number_in(bare: str, own: str, most_decimals: int) -> Money:
     currencies, words = around_of(before, behind, own)
     is_plain_number = amount.is_bare and not found["none"]
     if words and not currencies and (is_plain_number or amount.group and not amount.point):
-        raise NotMoney(OTHER_WORDS, OTHER_WORDS_HINT)  # ab 5
+        raise NotMoney(OTHER_WORDS, hint_for(bare))  # ab 5
     check_amount(amount, bool(currencies), is_plain_number, most_decimals)
     if behind.startswith("+"):
         raise NotMoney(OTHER_WORDS, OTHER_WORDS_HINT)  # 1.9+
@@ -382,7 +395,7 @@ def around_of(before: str, behind: str, own: str) -> tuple[set[str], list[str]]:
         for word in [side] if currency_of(side, own) else side.split(" "):
             code = currency_in(word, own)
             if code is None and word.casefold() not in known and word:
-                raise NotMoney(OTHER_WORDS, OTHER_WORDS_HINT)
+                raise NotMoney(OTHER_WORDS, hint_for(side))
             if code is None:
                 words += [word] if word else []
             elif code == "cent" or all(is_same(code, one) for one in currencies):

@@ -11,6 +11,7 @@ from labeltools.common.column_names import said_of_empty
 from labeltools.common.messages import BAD_ARGUMENTS, quoted, RowError, Talk, ToolError
 from labeltools.common.report import listed
 from labeltools.common.text import counted, give, NOTHING, Remedy, Text
+from labeltools.lines.accents import said_of_accents
 from labeltools.lines.symbologies import CODE128
 from labeltools.sheets.cells import seen
 from labeltools.sheets.csv_table import csv_table
@@ -251,6 +252,8 @@ class TableRun:
         self.say_of_empty()
         self.say_of_prices()
         self.say_of_words()
+        if accents := self.writer.accents:
+            self.talk.say(said_of_accents(listed(list(accents)), accents.values()))
         self.once.say(self.talk)
         self.reader.escaped.say(self.talk)
         if self.hidden:

@@ -93,6 +93,12 @@ class Printers:
         """The printer that is chosen; None for a file."""
         return self.all.get(self.wanted)
 
+    @property
+    def is_of_labels(self) -> bool:
+        """Whether the printer that is chosen takes labels one by one, and has no sheets."""
+        printer = self.chosen
+        return printer is not None and printer.form in LANGUAGES
+
     def name_of(self, key: str) -> str:
         """Returns the name of a printer, as the list shows it."""
         return self.all[key].name if key in self.all else key
@@ -127,6 +133,7 @@ class Printers:
         """Shows a printer as chosen; it decides nothing."""
         self.wanted = key
         self.fill([one for one in self.all.values() if not one.is_lost])
+        self.window.fit_paper()
         self.show_button()
 
     def show_button(self) -> None:
@@ -145,6 +152,7 @@ class Printers:
         self.show_button()
         self.window.questions.clear()
         printer = self.chosen
+        self.window.fit_paper()
         if key == FILE:
             self.fit_file()
             self.window.make()

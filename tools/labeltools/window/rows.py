@@ -25,10 +25,9 @@ class Rows:
         self.found.set_visible_func(self.is_found)
         window.rows_list.set_model(self.found)
         window.rows_search.connect("search-changed", lambda _entry: self.found.refilter())
-        window.rows_mark.connect("toggled", self.on_mark)
-        window.rows_list.connect(
-            "row-activated", lambda _list, path, _column: self.on_mark(0, path)
-        )
+        window.rows_list.set_activate_on_single_click(True)  # by a click anywhere in a row
+        window.rows_list.connect("row-activated", lambda _list, path, _column: self.on_mark(path))
+        window.rows_search.connect("activate", self.on_enter)
         for button, rule in (
             (window.rows_all, lambda _row: True),
             (window.rows_none, lambda _row: False),
@@ -77,7 +76,17 @@ class Rows:
         """Returns a row of the whole list that is shown."""
         return self.window.rows[self.found.convert_iter_to_child_iter(row.iter)]
 
-    def on_mark(self, _renderer: Any, path: Any) -> None:
+    def on_enter(self, search: Any) -> None:
+        """Ticks what is found, and looks for more; Enter in an empty search is that of the
+        dialog.
+        """
+        if search.get_text():
+            self.mark(search, lambda _row: True)
+            search.set_text("")
+        else:
+            self.window.choosing.response(Gtk.ResponseType.OK)
+
+    def on_mark(self, path: Any) -> None:
         """Marks a row, or takes its mark away."""
         row = self.inner(self.found[path])
         row[MARK] = not row[MARK]

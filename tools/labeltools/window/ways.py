@@ -46,6 +46,7 @@ class WaysOut:
     def __init__(self, window: Any) -> None:
         self.window = window
         self.waiting: dict[SentJob, tuple[Table, Path]] = {}  # jobs whose labels may be printed
+        self.on_sheets: dict[SentJob, Prepared] = {}  # the labels of jobs of this window
         self.told: dict[SentJob, str] = {}  # what was said of each last
         self.away: dict[SentJob, float] = {}  # since when CUPS does not answer about them
         self.sending: tuple[Prepared, bool]  # the labels that are sent, and whether they count
@@ -76,6 +77,7 @@ class WaysOut:
             table.keep_printed(made, labels)
         else:
             self.waiting[job] = table, table.keep_waiting(made, labels, job)
+            self.on_sheets[job] = labels
         self.report(kind, text, job)
         if job is not None:
             self.watch(job, count)
@@ -88,6 +90,19 @@ class WaysOut:
             if counts and done > 0:
                 table, made = self.of
                 table.keep_printed(made, replace(labels, prints=labels.prints[:done]))
+
+    def move_on(self, labels: Prepared) -> str:
+        """Lets the next labels begin behind those that were printed on a sheet; returns what is
+        said of it.
+        """
+        job = labels.job
+        cells = len(job.plan.places)
+        following = (job.options.first - 1 + len(labels.prints)) % cells + 1
+        if cells < 2 or following == self.window.choices()["first"]:
+            return ""
+        self.window.take({"first": following})
+        text = Text("The next labels begin at label {} of the last sheet.", following)
+        return translated(text) if following > 1 else ""
 
     def look_back(self, table: Table) -> None:
         """Says which jobs of a table are not over since a window was closed, and looks at them; of
@@ -148,6 +163,9 @@ class WaysOut:
         self.away.pop(job, None)
         state = future.result()
         event = event_of(job, count, state, name)
+        if event is not None and state.is_printed and job in self.on_sheets:
+            moved = self.move_on(self.on_sheets.pop(job))
+            event = replace(event, sentence=f"{event.sentence} {moved}".strip())
         if event is not None and self.told.get(job) != event.sentence:
             self.told[job] = event.sentence
             self.window.events.show(event)
@@ -256,7 +274,7 @@ class WaysOut:
         labels = self.window.made.labels
         if not labels.job.form.is_roll:
             what = Text("{} needs labels one by one", printer.name)
-            self.window.show_problem(ToolError(what, Text("choose its language")))
+            self.window.show_problem(ToolError(what, Text("choose what the printer takes")))
         elif wanted := self.printing.ask(printer, labels, {}):
             self.send_to(printer.key, wanted.labels, not wanted.is_trial)
 

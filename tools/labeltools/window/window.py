@@ -4,7 +4,7 @@ printed, and the rows that are skipped. Its widgets are those of window.ui.
 
 from collections.abc import Callable, Iterable, Iterator, Mapping, Sequence
 from contextlib import contextmanager, suppress
-from dataclasses import replace
+from dataclasses import dataclass, replace
 from functools import partial
 from itertools import chain
 from pathlib import Path
@@ -79,6 +79,19 @@ LEAST_WRAP = 150  # pixels in which reasons are wrapped
 WRAP_MARGIN = 20  # pixels of the list beside the reasons
 
 
+@dataclass(frozen=True)
+class Before:
+    """A table that was open: its file, what was chosen, the names of its columns, the words by
+    which it is read; and why the file that was opened then is no table.
+    """
+
+    path: Path
+    choices: Choices
+    names: Sequence[str]
+    words: str
+    problem: ToolError | None = None
+
+
 class Window(Gtk.ApplicationWindow):
     """A window for one table. A widget of window.ui is an attribute by its id, and what `on_` and
     the like name there is a method.
@@ -99,6 +112,7 @@ class Window(Gtk.ApplicationWindow):
         self.has_labels = False  # that are chosen
         self.is_filling = False  # controls, for labels that are made then
         self.is_new = False  # a table, whose labels were not shown yet
+        self.before: Before | None = None  # the table that was open when another one was opened
         self.builder = Gtk.Builder()
         text = FILE.read_bytes()
         self.builder.extend_with_template(self, self.__gtype__, text.decode(), len(text))
@@ -185,6 +199,9 @@ class Window(Gtk.ApplicationWindow):
         remedies = [one for one in remedies_of(problem.hint) if one.says and one.option != "after"]
         found = [*self.remedies([problem.hint]), *self.ways_on(problem), *answers]
         places = [*filter(None, (asked_at(one.option) for one in remedies))]
+        if self.table is None and not remedies and self.before and not self.before.problem:
+            self.go_back(replace(self.before, problem=problem))
+            return
         if self.table is None and not remedies and not self.words:
             self.stack.set_visible_child_name("empty")
         if self.table is None and remedies:
@@ -208,8 +225,13 @@ class Window(Gtk.ApplicationWindow):
     def remedies(self, texts: Iterable[Text]) -> Answers:
         """Returns the remedies of some texts as answers, each once."""
         every = dict.fromkeys(one for text in texts for one in remedies_of(text))
-        found = [one for one in every if one.says and one.option != "after"]
+        found = [one for one in every if one.says and self.is_wanted(one)]
         return [(translated(one.says), partial(self.follow, one)) for one in found]
+
+    def is_wanted(self, remedy: Remedy) -> bool:
+        """Returns whether a button gives a remedy: prices whose form is chosen are no texts."""
+        is_text = remedy.option == "price-text" and not remedy.is_less
+        return remedy.option != "after" and not (is_text and self.choices()["price-as"])
 
     def follow(self, remedy: Remedy) -> None:
         """Takes a choice that helps: by its control, or else as an option that is typed."""
@@ -255,6 +277,8 @@ class Window(Gtk.ApplicationWindow):
     def fit_paper(self) -> None:
         """Shows what a sheet is chosen by, or a roll."""
         is_roll = self.roll.get_active()
+        for part in (self.kind, self.kind_caption):
+            part.set_visible(not (is_roll and self.of_printers.is_of_labels))
         for part in (self.size, self.size_caption):
             part.set_visible(is_roll)
         for part in (self.stock, self.first, *self.first.list_mnemonic_labels()):
@@ -295,6 +319,8 @@ class Window(Gtk.ApplicationWindow):
         if not is_again:
             if self.work.talk.is_sending:
                 return
+            if self.table is not None and self.path is not None:
+                self.before = Before(self.path, self.chosen, self.names, self.words)
             self.chosen = {}
         text = self.for_table.get_text() if path == self.path else None
         self.words = text or ""
@@ -313,14 +339,26 @@ class Window(Gtk.ApplicationWindow):
         doing = _("reading {file}…").format(file=path.name)
         self.work.start(partial(Table, path, text, header), self.take_table, doing)
 
+    def go_back(self, before: "Before") -> None:
+        """Opens the table again that was open before a file that is no table, and says what that
+        one is.
+        """
+        self.before = before
+        self.chosen, self.names = before.choices, before.names
+        self.path = before.path
+        with self.filling():
+            self.take({"for-table": before.words})
+        self.open(before.path, is_again=True)
+
     def take_table(self, table: Table) -> None:
         """Makes the labels of a table that was read."""
         with self.filling():
             self.fill(table)
         self.is_new = self.table is None and not self.chosen
         self.table = table
+        problem, self.before = self.before.problem if self.before else None, None
         Gtk.RecentManager.get_default().add_item(table.path.absolute().as_uri())
-        self.make()
+        self.make(problem=problem)
 
     def fill(self, table: Table) -> None:
         """Fills the choices of columns for a table."""
@@ -596,7 +634,8 @@ class Window(Gtk.ApplicationWindow):
         self.of.set_text(_("of {all}").format(all=self.shown.count))
         width, height = self.shown.size
         self.desk.set_property("ratio", width / height)
-        self.paper.set_has_tooltip(self.begins_by_click())
+        has_cells = not self.made.labels.job.plan.sheet.is_single
+        self.click_here.set_visible(has_cells and self.begins_by_click())
         self.paper.queue_draw()
 
     def on_draw(self, paper: Any, canvas: Any) -> None:
