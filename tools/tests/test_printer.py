@@ -548,7 +548,8 @@ class Queues(unittest.TestCase):
         subprocess.run(shlex.split(said[said.index("lpadmin") :]), check=True, capture_output=True)
         self.addCleanup(self.scheduler.remove, "till-labels")
         done = self.printed(*roll, "--print", "till-labels")
-        self.assertIn(b"CUPS reports it as printed", done.stderr)
+        self.assertIn(b"the printer took all of it: look whether it comes out", done.stderr)
+        self.assertEqual(done.returncode, 0)
         labels.wait(5)
         self.assertEqual(b"".join(labels.labels), self.printed(*roll).stdout)
 

@@ -28,6 +28,7 @@ PENDING, HELD, STOPPED, CANCELLED, ABORTED, COMPLETED = 3, 4, 6, 7, 8, 9  # of a
 PRINTER_STOPPED = 5
 # what the backend of CUPS for IPP says of a printer that did not print a job which CUPS has passed
 REFUSED = ("cups-remote-aborted", "cups-remote-canceled")
+RAW_FORMAT = "application/vnd.cups-raw"  # of what CUPS passes on as it is
 ASKED = ("job-printer-uri", "job-name", "time-at-creation")
 IDLE = 60.0  # seconds in which a job that is watched may show nothing new
 AWAY = 60.0  # seconds in which CUPS may not answer
@@ -38,8 +39,9 @@ LOOKS = 0.1, 1.0  # seconds between two looks at it, at first and later
 class JobState:
     """What becomes of a job: what keeps it from paper, which may be nothing; what CUPS last said of
     it, in its own words; whether it is over, and was printed; whether it waits for somebody; what
-    else shows that it goes on; what to do about what keeps it; and whether it was begun, so that a
-    part of it may be on paper.
+    else shows that it goes on; what to do about what keeps it; whether it was begun, so that a part
+    of it may be on paper; and whether it is in the printer's own language, which CUPS does not
+    read: it then knows no more than that the printer took all of it.
     """
 
     trouble: Text
@@ -50,10 +52,13 @@ class JobState:
     marks: tuple[object, ...] = ()
     cure: Text = NOTHING
     is_begun: bool = False
+    is_raw: bool = False
 
     @property
     def told(self) -> Text:
         """What a message says of it."""
+        if self.is_printed and self.is_raw:
+            return Text("the printer took all of it: look whether it comes out")
         if self.is_printed:
             return Text("CUPS reports it as printed")
         if self.is_over and self.is_begun:
@@ -121,7 +126,8 @@ class SentJob:
         if state in (CANCELLED, ABORTED, COMPLETED):
             why = self.why_not_printed(job, printer)
             is_begun = bool(job.get("time-at-processing"))
-            return JobState(why, said, True, not why, is_begun=is_begun)
+            is_raw = job.get("document-format") == RAW_FORMAT
+            return JobState(why, said, True, not why, is_begun=is_begun, is_raw=is_raw)
         found = trouble_of(self.queue, printer)
         if state == HELD and found is None:
             line = shell_line(["lp", "-i", f"{self.queue}-{self.number}", "-H", "resume"])

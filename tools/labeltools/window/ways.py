@@ -352,7 +352,11 @@ def event_of(job: SentJob, count: int, state: JobState, name: str) -> Event | No
     """
     if state.is_printed:
         text = Text("Job {} is printed on {}.", job.number, name)
-        return Event(SUCCESS, whole(printed_on(count, name) if count else text), None, job)
+        if count and state.is_raw:
+            text = joined(" ", (sent_to(count, name), whole(state.told)))
+        elif count:
+            text = printed_on(count, name)
+        return Event(SUCCESS, whole(text), None, job)
     if state.is_over and state.is_begun:
         why = state.trouble
         text = Text("Labels of job {} may be on paper: {}", job.number, why)
