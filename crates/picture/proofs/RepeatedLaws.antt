@@ -1,6 +1,6 @@
 -- A text that is written many times.
 use Rattle.std.proofs.Common.{◌≡◌, ℕ, suc, zero, ◌+◌, ◌-◌, ◌*◌, ◌<◌, ◌≤◌, Bool, true, List, ◌++◌, Ok, refl, ap, sym}
-use Rattle.std.proofs.Common.{subst, ◌∙◌, arith, append_assoc, flat_map, length, length-append, take}
+use Rattle.std.proofs.Common.{subst, ◌∙◌, arith, flat_map, length, length-append, take}
 use Rattle.std.specs.List.{range_with_len}
 use Rattle.std.proofs.lemmas.Bool.{false≢true}
 use Rattle.std.proofs.lemmas.List.{length-take-le}
@@ -8,7 +8,7 @@ use Rattle.device.specs.Sink.{RepeatsBytes}
 use Rattle.device.specs.Writing.{WritesText}
 use Rattle.device.specs.declared.sink.Sink.{Ghosts}
 use Rattle.picture.specs.Private.Rows.{EndsWith, repeated}
-use Rattle.picture.proofs.WritingLaws.{flat_map-below_add, flat_map-below_more, flat_map-below_suc}
+use Rattle.picture.proofs.WritingLaws.{flat_map-below_add, flat_map-below_suc}
 
 -- one text for each of n numbers, from a or from y on
 pub same_texts : (f : ℕ → List ℕ) (text : List ℕ) (a y n : ℕ) → ((k : ℕ) → y ≤ k → k < y + n → text ≡ f k)
@@ -43,25 +43,6 @@ EndsWith-repeated took s t text n m few h =
       first = s;
       before = repeated (n - m) text;
       whole = subst (took s t) (ap (λ (k : ℕ). repeated k text) parts ∙ repeated-add text (n - m) m) h;
-    }
-
--- a text that was written n times last, and then k times, was written last
-pub EndsWith-more : {S : Type 0} (took : S → S → List ℕ → Type 0) (took_joined : (s t u : S) (xs ys : List ℕ)
-    → took s t xs → took t u ys → took s u (xs ++ ys)) (s t : S) (text : List ℕ) (n k : ℕ) → 0 < n
-    → EndsWith took s (repeated n text) → took s t (repeated k text) → EndsWith took t text
-EndsWith-more took took_joined s t text n k some last more =
-    let parts : n + k ≡ (n + k - 1) + 1 = omega arith in
-    let texts : repeated n text ++ repeated k text ≡ repeated (n + k - 1) text ++ text = sym (repeated-add text n k)
-    ∙ (ap (λ (m : ℕ). repeated m text) parts ∙ flat_map-below_more (λ _. text) (n + k - 1)) in
-    record {
-      first = last.first;
-      before = last.before ++ repeated (n + k - 1) text;
-      whole = rw (
-        append_assoc last.before (repeated (n + k - 1) text) text,
-        ← texts,
-        ← append_assoc last.before (repeated n text) (repeated k text),
-      )
-          (took_joined last.first s t (last.before ++ repeated n text) (repeated k text) last.whole more);
     }
 
 -- a repeat writes what the sink took last
