@@ -65,9 +65,8 @@ class TableTest(unittest.TestCase):
         runs: list[Callable[..., support.Finished[bytes]]] = [
             functools.partial(support.run, locale=locale) for locale in locales
         ]
-        left_out = [
-            int(row) for row in re.findall("^row ([0-9]+): ", "\n".join(problems), re.MULTILINE)
-        ]
+        no_notice = "^row ([0-9]+): (?!some scanners show)"
+        left_out = [int(row) for row in re.findall(no_notice, "\n".join(problems), re.MULTILINE)]
         for run in runs or [support.run_here]:
             with self.subTest(run=run, table=data[:60], arguments=arguments):
                 done = run("label-table", *arguments, input=data)

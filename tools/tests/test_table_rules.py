@@ -399,7 +399,11 @@ class Codes(RulesTest):
             lines = ["code128 A-1", f"code128 {word}"]
             free = self.FREE if word.isascii() else [*self.FREE[:-1], "qr"]
             lines = lines if word.isascii() else ["qr A-1", f"qr {word}"]
-            self.check(f"EAN;Name\nA-1;x\n{word};\n", free, lines, [said])
+            notices = [
+                f'row 3: some scanners show "{word}" wrongly; a QR code without accents is safe'
+            ]
+            notices = [] if word.isascii() else notices
+            self.check(f"EAN;Name\nA-1;x\n{word};\n", free, lines, [said, *notices])
         self.check("EAN;Name\nA-1;x\nLeft;\n", self.FREE, ["code128 A-1", "code128 Left"])
 
     def test_the_symbology_of_each_row(self) -> None:
