@@ -173,7 +173,7 @@ def add_size_options(group: Any) -> None:
     value(group, "--module", "MM", reads("38.1", 0.0001), module)
     value(group, "--note", "TEXT", str, "a line of text for all labels, such as a date")
     value(group, "--font", "NAME", str, "the font of titles, texts and prices (Liberation Sans)")
-    cents = "print cents as large as the digits before them, and never raised"
+    cents = "print cents as large as the digits before them, and not raised"
     flag(group, "--no-raised-cents", "has_raised_cents", cents, False)
 
 
