@@ -27,7 +27,7 @@ import sources
 
 def main() -> int:
     """Does what the arguments say."""
-    sys.path.insert(0, os.path.join(sources.TOP, "tools", "tests"))
+    sys.path[:0] = [os.path.join(sources.TOP, "tools"), os.path.join(sources.TOP, "tools", "tests")]
     status: int = importlib.import_module("guess_fit").main(__doc__)
     return status
 

@@ -299,10 +299,11 @@ class Packages(unittest.TestCase):
                 self.assertRegex(listed, rf"(?m)^{re.escape(row.partition(':')[0])} ")
 
     def test_each_script_is_a_step(self) -> None:
-        """Each program of scripts/ is a step of the gate, or is run by `.ci/run` or a page."""
+        """Each program of scripts/ is a step of the gate, or is run by `.ci/run` or a page, or is for contributors."""
         names = {"gate.py", *(step.split()[0] for step in gate.ALL if step != gate.PROOFS)}
         pages = [read(os.path.join(TOP, page)) for page in module("pages").RUN]
         names |= {name for page in pages for name in re.findall(r"(?m)^scripts/(\S+) ", page)}
         programs = {name for name in os.listdir(SCRIPTS) if os.access(os.path.join(SCRIPTS, name), os.X_OK)}
         programs = {name for name in programs if os.path.isfile(os.path.join(SCRIPTS, name))}
+        names |= programs & set(re.findall(r"`scripts/(\w+\.py)", read(os.path.join(TOP, "CONTRIBUTING.md"))))
         self.assertEqual(programs, names)

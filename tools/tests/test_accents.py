@@ -11,6 +11,10 @@ ROLL = ("--paper", "60x40", "--dpi", "203", "--to", "zpl")
 
 
 class Accents(unittest.TestCase):
+    @classmethod
+    def setUpClass(cls) -> None:
+        support.labels_program()  # what is drawn needs the program and its library
+
     def test_a_table_is_told_of_once(self) -> None:
         done = support.run("label-table", *WORDS, input=TABLE)
         self.assertEqual(done.stderr.decode().count("scanners"), 1)

@@ -213,7 +213,7 @@ class Rows(Desk):
         with open("/dev/full", "wb") as output:
             done = self.begin(stdout=output).done()
         self.said(done, 1, "No space left on device: it took 0 labels whole: line 1 and what follo")
-        self.said(done, 1, "were not sent; with --after 0 the same command begins with it\n")
+        self.said(done, 1, "were not sent; the same command begins with it\n")
         with open(self.path, "wb") as output:
             done = self.begin(code="limit(3000)", stdout=output).done()
         self.said(done, 1, "sent; with --after [1-9] and >> the same command begins with it\n")

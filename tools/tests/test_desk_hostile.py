@@ -298,7 +298,7 @@ class Ends(Desk):
             code="StandardOutput.send = lambda outlet, data: end() or broken()", stdout=PIPE
         ).done()
         self.said(done, -signal.SIGTERM, "it is off: it took 0 labels whole; line 1 may be on pap")
-        self.said(done, -signal.SIGTERM, "with --after 0 the same command begins with it\n")
+        self.said(done, -signal.SIGTERM, "; the same command begins with it\n")
 
     def test_a_way_out_that_breaks_off_before_a_label(self) -> None:
         """As of a printer that has ended the connection: of that label nothing was sent."""

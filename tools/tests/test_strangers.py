@@ -398,6 +398,10 @@ class Inputs(unittest.TestCase):
 class Private(Desk):
     """Files that others may not read."""
 
+    @classmethod
+    def setUpClass(cls) -> None:
+        support.labels_program()  # what is drawn needs the program and its library
+
     def mode(self, path: str | Path) -> int:
         """What a file allows."""
         return os.stat(path).st_mode & 0o777
@@ -497,6 +501,10 @@ class Swinging(Outlet):
 class Printers(Desk):
     """Printers that answer as they like, and lines that do not end."""
 
+    @classmethod
+    def setUpClass(cls) -> None:
+        support.labels_program()  # what is drawn needs the program and its library
+
     def status(self, left: bytes) -> bytes:
         """What a printer of ZPL answers that has so many labels left."""
         lines = (
@@ -586,6 +594,10 @@ class Printers(Desk):
 
 class Drawings(unittest.TestCase):
     """Pages that are cheap where they are tried, and dear where they are drawn."""
+
+    @classmethod
+    def setUpClass(cls) -> None:
+        support.labels_program()  # what is drawn needs the program and its library
 
     def page(self, side: float) -> str:
         folder = tempfile.TemporaryDirectory()
