@@ -115,7 +115,8 @@ class Release(unittest.TestCase):
         source, clone = self.folder / "source", self.folder / "a"
         command_of("dpkg-source", "--no-check", "--extract", str(dsc), str(source))
         files = {str(path.relative_to(source)) for path in source.rglob("*") if path.is_file()}
-        committed = {*command_of("git", "ls-files", cwd=clone).splitlines()} - {".gitignore"}
+        listing = command_of("git", "-c", "core.quotePath=false", "ls-files", cwd=clone)
+        committed = {*listing.splitlines()} - {".gitignore"}
         self.assertEqual(files, {*committed, "debian/changelog"})
         for name in sorted(committed):
             self.assertEqual((source / name).read_bytes(), (clone / name).read_bytes(), name)
