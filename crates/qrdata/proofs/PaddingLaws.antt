@@ -17,7 +17,8 @@ use Rattle.std.proofs.Math.Nat.{div-eq_of_lt, mod-eq_of_lt}
 use Rattle.std.proofs.lemmas.Nat.{pow_pos}
 use Rattle.qrdata.specs.declared.bits.Bits.{Bits}
 use Rattle.qrdata.specs.Private.BitsInCodewords.{bits_in}
-use Rattle.qrdata.proofs.BitStringLaws.{bits_of-number_of, length-bits_of, number_of-bits_of}
+use Rattle.qrdata.proofs.BitStringLaws.{bits_of-joined, bits_of-low, bits_of-number_of, bits_of-parts, length-bits_of}
+use Rattle.qrdata.proofs.BitStringLaws.{number_of-bits_of}
 use Rattle.qrdata.proofs.PayloadLaws.{AreBytes}
 
 pub byte_bits-append : (xs ys : List ℕ) → byte_bits (xs ++ ys) ≡ byte_bits xs ++ byte_bits ys
@@ -27,6 +28,21 @@ byte_bits-append xs ys = flat_map-append (bits_of 8) xs ys
 pub byte_bits-single : (a : ℕ) → byte_bits (a ∷ []) ≡ bits_of 8 a
 unfolding byte_bits
 byte_bits-single a = append-nil (bits_of 8 a)
+
+-- a byte after some bits fills a codeword, and as many bits are left over
+pub byte_written : (codewords : List ℕ) (count number byte : ℕ) → byte < 256
+    → byte_bits (codewords ++ (number * 256 + byte) / 2 ^ count ∷ [])
+    ++ bits_of count ((number * 256 + byte) % 2 ^ count)
+    ≡ (byte_bits codewords ++ bits_of count number) ++ bits_of 8 byte
+byte_written codewords count number byte small =
+    let value = number * 256 + byte in
+    let order : 8 + count ≡ count + 8 = omega arith in
+    let same : value ≡ number * 2 ^ 8 + byte % 2 ^ 8 = omega (arith, mod-eq_of_lt small) in
+    let joined : bits_of (8 + count) value ≡ bits_of count number ++ bits_of 8 byte =
+    ap (λ k. bits_of k value) order ∙ (ap (bits_of (count + 8)) same ∙ bits_of-joined count 8 number byte) in
+    rw (byte_bits-append, byte_bits-single, bits_of-low, append_assoc (byte_bits codewords))
+    (ap (λ bits. byte_bits codewords ++ bits) (sym (bits_of-parts 8 count value) ∙ joined)
+    ∙ sym (append_assoc (byte_bits codewords) (bits_of count number) (bits_of 8 byte)))
 
 pub eight_bits : (bits : List Bool) → length bits ≡ 8 → bits_of 8 (number_of bits) ≡ bits
 eight_bits bits e = rw (← e) (bits_of-number_of bits)

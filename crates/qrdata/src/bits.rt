@@ -142,13 +142,28 @@ impl Bits {
         }
     }
 
+    /// Writes a byte in eight bits. As many bits as before are left over.
+    #[inline(always)]
+    fn push_byte(&mut self, byte: u8)
+        requires room { length (bits_in self.old) + 8 ≤ MAX_BITS }
+        ensures { bits_in self.new ≡ bits_in self.old ++ bits_of 8 byte }
+    {
+        let unit = power_of_two(self.rest.count);
+        let value = self.rest.number * 256 + u32::from(byte);
+        self.codewords.push((value / unit) as u8);
+        self.rest = Rest {
+            number: value % unit,
+            count: self.rest.count,
+        };
+    }
+
     /// Writes each byte in eight bits.
     fn push_bytes(&mut self, bytes: &[u8])
         requires room { length (bits_in self.old) + 8 * length bytes.now ≤ MAX_BITS }
         ensures { bits_in self.new ≡ bits_in self.old ++ byte_bits bytes.now }
     {
         for byte in bytes {
-            self.push_number(u32::from(*byte), 8);
+            self.push_byte(*byte);
         }
     }
 

@@ -1,11 +1,8 @@
 //! The function patterns row by row, 64 bits a row: bit x is the module at column x.
-ghost use Rattle.std.specs.Prelude.{◌≡◌, ◌-◌, ◌^◌, ◌<◌, ◌≤◌};
+ghost use Rattle.std.specs.Prelude.{◌<◌};
 ghost use Rattle.qrdata.specs.Versions.{side_of};
 ghost use Rattle.qrmatrix.specs.Private.Drawing.{HasFunctions};
-ghost use Rattle.qrmatrix.specs.Private.FunctionRows;
 
-use crate::information::version_information;
-use crate::row_bits::low_ones;
 use crate::square::SIDE;
 use qrdata::Version;
 
@@ -18,195 +15,153 @@ pub struct PatternRow {
     pub dark: u64,
 }
 
-/// No pattern.
-const NONE: PatternRow = PatternRow { taken: 0, dark: 0 };
-
-/// The rows of a finder pattern from a corner of the symbol inwards, of its separator, and of the format information
-/// beside it, which is light here.
-const FINDER: [u64; 9] = [
-    0b1111111, 0b1000001, 0b1011101, 0b1011101, 0b1011101, 0b1000001, 0b1111111, 0b0000000,
-    0b0000000,
-];
-
-/// The coordinates of the centres of the alignment patterns (ISO/IEC 18004, Table E.1): bit k says whether k is one.
-/// Place 0 is for version 1.
-const CENTRES: [u64; 10] = [
-    0,
-    (1 << 6) | (1 << 18),
-    (1 << 6) | (1 << 22),
-    (1 << 6) | (1 << 26),
-    (1 << 6) | (1 << 30),
-    (1 << 6) | (1 << 34),
-    (1 << 6) | (1 << 22) | (1 << 38),
-    (1 << 6) | (1 << 24) | (1 << 42),
-    (1 << 6) | (1 << 26) | (1 << 46),
-    (1 << 6) | (1 << 28) | (1 << 50),
-];
-
-/// A one in every other place.
-const EVERY_OTHER: u64 = 0x5555555555555555;
-
-impl PatternRow {
-    /// Joins the modules of two patterns. They agree on those that both have.
-    #[tactic(auto, unfolding(crate::specs::Private::FunctionRows::join))]
-    fn join(self, other: PatternRow) -> PatternRow
-        ensures { result ≡ FunctionRows.join self other }
-    {
-        PatternRow {
-            taken: self.taken | other.taken,
-            dark: self.dark | other.dark,
-        }
-    }
+/// Makes rows of their numbers.
+macro_rules! rows {
+    ($($row:literal)*) => {
+        [$($row),*]
+    };
 }
 
-/// The finder patterns with their separators and the format information beside them, and the module that is always
-/// dark.
-#[tactic(auto, unfolding(crate::specs::Private::FunctionRows::corners))]
-fn corners(side: usize, y: usize) -> PatternRow
-    requires side { (21 ≤ side) × (side ≤ SIDE) }
-    requires row { y < side }
-    ensures { result ≡ FunctionRows.corners side y }
-{
-    let last = side - 8;
-    if y < 9 {
-        let row = FINDER[y];
-        PatternRow {
-            taken: 0x1FF | (0xFF << last),
-            dark: row | (row << (last + 1)),
-        }
-    } else if y == last {
-        PatternRow {
-            taken: 0x1FF,
-            dark: 1 << 8,
-        }
-    } else if last < y {
-        PatternRow {
-            taken: 0x1FF,
-            dark: FINDER[side - 1 - y],
-        }
-    } else {
-        NONE
-    }
-}
+/// For each version, from 1 on, the modules that the patterns have in each row (ISO/IEC 18004, 6.3 and 7.10): the
+/// finder patterns with their separators, the timing and the alignment patterns, the version information, and the room
+/// for the format information. The rows below the symbol are empty.
+static TAKEN: [[u64; SIDE]; 10] = [
+    rows![
+        0x1FE1FF 0x1FE1FF 0x1FE1FF 0x1FE1FF 0x1FE1FF 0x1FE1FF 0x1FFFFF 0x1FE1FF 0x1FE1FF 0x40 0x40 0x40 0x40
+        0x1FF 0x1FF 0x1FF 0x1FF 0x1FF 0x1FF 0x1FF 0x1FF 0 0 0 0 0 0 0 0 0 0 0 0 0 0 0 0 0 0 0 0 0 0 0 0 0 0 0
+        0 0 0 0 0 0 0 0 0
+    ],
+    rows![
+        0x1FE01FF 0x1FE01FF 0x1FE01FF 0x1FE01FF 0x1FE01FF 0x1FE01FF 0x1FFFFFF 0x1FE01FF 0x1FE01FF 0x40 0x40
+        0x40 0x40 0x40 0x40 0x40 0x1F0040 0x1F01FF 0x1F01FF 0x1F01FF 0x1F01FF 0x1FF 0x1FF 0x1FF 0x1FF 0 0 0 0
+        0 0 0 0 0 0 0 0 0 0 0 0 0 0 0 0 0 0 0 0 0 0 0 0 0 0 0 0
+    ],
+    rows![
+        0x1FE001FF 0x1FE001FF 0x1FE001FF 0x1FE001FF 0x1FE001FF 0x1FE001FF 0x1FFFFFFF 0x1FE001FF 0x1FE001FF
+        0x40 0x40 0x40 0x40 0x40 0x40 0x40 0x40 0x40 0x40 0x40 0x1F00040 0x1F001FF 0x1F001FF 0x1F001FF
+        0x1F001FF 0x1FF 0x1FF 0x1FF 0x1FF 0 0 0 0 0 0 0 0 0 0 0 0 0 0 0 0 0 0 0 0 0 0 0 0 0 0 0 0
+    ],
+    rows![
+        0x1FE0001FF 0x1FE0001FF 0x1FE0001FF 0x1FE0001FF 0x1FE0001FF 0x1FE0001FF 0x1FFFFFFFF 0x1FE0001FF
+        0x1FE0001FF 0x40 0x40 0x40 0x40 0x40 0x40 0x40 0x40 0x40 0x40 0x40 0x40 0x40 0x40 0x40 0x1F000040
+        0x1F0001FF 0x1F0001FF 0x1F0001FF 0x1F0001FF 0x1FF 0x1FF 0x1FF 0x1FF 0 0 0 0 0 0 0 0 0 0 0 0 0 0 0 0 0
+        0 0 0 0 0 0 0
+    ],
+    rows![
+        0x1FE00001FF 0x1FE00001FF 0x1FE00001FF 0x1FE00001FF 0x1FE00001FF 0x1FE00001FF 0x1FFFFFFFFF
+        0x1FE00001FF 0x1FE00001FF 0x40 0x40 0x40 0x40 0x40 0x40 0x40 0x40 0x40 0x40 0x40 0x40 0x40 0x40 0x40
+        0x40 0x40 0x40 0x40 0x1F0000040 0x1F00001FF 0x1F00001FF 0x1F00001FF 0x1F00001FF 0x1FF 0x1FF 0x1FF
+        0x1FF 0 0 0 0 0 0 0 0 0 0 0 0 0 0 0 0 0 0 0 0
+    ],
+    rows![
+        0x1FE000001FF 0x1FE000001FF 0x1FE000001FF 0x1FE000001FF 0x1FE000001FF 0x1FE000001FF 0x1FFFFFFFFFF
+        0x1FE000001FF 0x1FE000001FF 0x40 0x40 0x40 0x40 0x40 0x40 0x40 0x40 0x40 0x40 0x40 0x40 0x40 0x40 0x40
+        0x40 0x40 0x40 0x40 0x40 0x40 0x40 0x40 0x1F00000040 0x1F000001FF 0x1F000001FF 0x1F000001FF
+        0x1F000001FF 0x1FF 0x1FF 0x1FF 0x1FF 0 0 0 0 0 0 0 0 0 0 0 0 0 0 0 0
+    ],
+    rows![
+        0x1FFC000001FF 0x1FFC000001FF 0x1FFC000001FF 0x1FFC000001FF 0x1FFC01F001FF 0x1FFC01F001FF
+        0x1FFFFFFFFFFF 0x1FE001F001FF 0x1FE001F001FF 0x40 0x40 0x40 0x40 0x40 0x40 0x40 0x40 0x40 0x40 0x40
+        0x1F001F001F0 0x1F001F001F0 0x1F001F001F0 0x1F001F001F0 0x1F001F001F0 0x40 0x40 0x40 0x40 0x40 0x40
+        0x40 0x40 0x40 0x7F 0x7F 0x1F001F0007F 0x1F001F001FF 0x1F001F001FF 0x1F001F001FF 0x1F001F001FF 0x1FF
+        0x1FF 0x1FF 0x1FF 0 0 0 0 0 0 0 0 0 0 0 0
+    ],
+    rows![
+        0x1FFC0000001FF 0x1FFC0000001FF 0x1FFC0000001FF 0x1FFC0000001FF 0x1FFC007C001FF 0x1FFC007C001FF
+        0x1FFFFFFFFFFFF 0x1FE0007C001FF 0x1FE0007C001FF 0x40 0x40 0x40 0x40 0x40 0x40 0x40 0x40 0x40 0x40 0x40
+        0x40 0x40 0x1F0007C001F0 0x1F0007C001F0 0x1F0007C001F0 0x1F0007C001F0 0x1F0007C001F0 0x40 0x40 0x40
+        0x40 0x40 0x40 0x40 0x40 0x40 0x40 0x40 0x7F 0x7F 0x1F0007C0007F 0x1F0007C001FF 0x1F0007C001FF
+        0x1F0007C001FF 0x1F0007C001FF 0x1FF 0x1FF 0x1FF 0x1FF 0 0 0 0 0 0 0 0
+    ],
+    rows![
+        0x1FFC00000001FF 0x1FFC00000001FF 0x1FFC00000001FF 0x1FFC00000001FF 0x1FFC001F0001FF 0x1FFC001F0001FF
+        0x1FFFFFFFFFFFFF 0x1FE0001F0001FF 0x1FE0001F0001FF 0x40 0x40 0x40 0x40 0x40 0x40 0x40 0x40 0x40 0x40
+        0x40 0x40 0x40 0x40 0x40 0x1F0001F0001F0 0x1F0001F0001F0 0x1F0001F0001F0 0x1F0001F0001F0
+        0x1F0001F0001F0 0x40 0x40 0x40 0x40 0x40 0x40 0x40 0x40 0x40 0x40 0x40 0x40 0x40 0x7F 0x7F
+        0x1F0001F00007F 0x1F0001F0001FF 0x1F0001F0001FF 0x1F0001F0001FF 0x1F0001F0001FF 0x1FF 0x1FF 0x1FF
+        0x1FF 0 0 0 0
+    ],
+    rows![
+        0x1FFC000000001FF 0x1FFC000000001FF 0x1FFC000000001FF 0x1FFC000000001FF 0x1FFC0007C0001FF
+        0x1FFC0007C0001FF 0x1FFFFFFFFFFFFFF 0x1FE00007C0001FF 0x1FE00007C0001FF 0x40 0x40 0x40 0x40 0x40 0x40
+        0x40 0x40 0x40 0x40 0x40 0x40 0x40 0x40 0x40 0x40 0x40 0x1F00007C0001F0 0x1F00007C0001F0
+        0x1F00007C0001F0 0x1F00007C0001F0 0x1F00007C0001F0 0x40 0x40 0x40 0x40 0x40 0x40 0x40 0x40 0x40 0x40
+        0x40 0x40 0x40 0x40 0x40 0x7F 0x7F 0x1F00007C00007F 0x1F00007C0001FF 0x1F00007C0001FF 0x1F00007C0001FF
+        0x1F00007C0001FF 0x1FF 0x1FF 0x1FF 0x1FF
+    ],
+];
 
-/// Returns the left columns of the alignment patterns that row `y` may have. None has its centre in a finder pattern.
-#[tactic(auto, unfolding(crate::specs::Private::FunctionRows::left_columns))]
-fn left_columns(side: usize, centres: u64, y: usize) -> u64
-    requires side { (21 ≤ side) × (side ≤ SIDE) }
-    requires centres { centres < 2 ^ SIDE }
-    ensures value { result ≡ FunctionRows.left_columns side centres y }
-    ensures bound { result < 2 ^ (SIDE - 2) }
-{
-    // Patterns with their centres in row 6 reach down to row 8, those with their centres in row `side - 7` up to row
-    // `side - 9`.
-    let finders = if y < 9 {
-        0xFF | (0xFF << (side - 8))
-    } else if side - 9 <= y {
-        0xFF
-    } else {
+/// Those modules of `TAKEN` that are dark. The format information is light, but for the module that is always dark.
+static DARK: [[u64; SIDE]; 10] = [
+    rows![
+        0x1FC07F 0x104041 0x17405D 0x17405D 0x17405D 0x104041 0x1FD57F 0 0x40 0 0x40 0 0x40 0x100 0x7F 0x41
+        0x5D 0x5D 0x5D 0x41 0x7F 0 0 0 0 0 0 0 0 0 0 0 0 0 0 0 0 0 0 0 0 0 0 0 0 0 0 0 0 0 0 0 0 0 0 0 0
+    ],
+    rows![
+        0x1FC007F 0x1040041 0x174005D 0x174005D 0x174005D 0x1040041 0x1FD557F 0 0x40 0 0x40 0 0x40 0 0x40 0
+        0x1F0040 0x110100 0x15007F 0x110041 0x1F005D 0x5D 0x5D 0x41 0x7F 0 0 0 0 0 0 0 0 0 0 0 0 0 0 0 0 0 0 0
+        0 0 0 0 0 0 0 0 0 0 0 0 0
+    ],
+    rows![
+        0x1FC0007F 0x10400041 0x1740005D 0x1740005D 0x1740005D 0x10400041 0x1FD5557F 0 0x40 0 0x40 0 0x40 0
+        0x40 0 0x40 0 0x40 0 0x1F00040 0x1100100 0x150007F 0x1100041 0x1F0005D 0x5D 0x5D 0x41 0x7F 0 0 0 0 0 0
+        0 0 0 0 0 0 0 0 0 0 0 0 0 0 0 0 0 0 0 0 0 0
+    ],
+    rows![
+        0x1FC00007F 0x104000041 0x17400005D 0x17400005D 0x17400005D 0x104000041 0x1FD55557F 0 0x40 0 0x40 0
+        0x40 0 0x40 0 0x40 0 0x40 0 0x40 0 0x40 0 0x1F000040 0x11000100 0x1500007F 0x11000041 0x1F00005D 0x5D
+        0x5D 0x41 0x7F 0 0 0 0 0 0 0 0 0 0 0 0 0 0 0 0 0 0 0 0 0 0 0 0
+    ],
+    rows![
+        0x1FC000007F 0x1040000041 0x174000005D 0x174000005D 0x174000005D 0x1040000041 0x1FD555557F 0 0x40 0
+        0x40 0 0x40 0 0x40 0 0x40 0 0x40 0 0x40 0 0x40 0 0x40 0 0x40 0 0x1F0000040 0x110000100 0x15000007F
+        0x110000041 0x1F000005D 0x5D 0x5D 0x41 0x7F 0 0 0 0 0 0 0 0 0 0 0 0 0 0 0 0 0 0 0 0
+    ],
+    rows![
+        0x1FC0000007F 0x10400000041 0x1740000005D 0x1740000005D 0x1740000005D 0x10400000041 0x1FD5555557F 0
+        0x40 0 0x40 0 0x40 0 0x40 0 0x40 0 0x40 0 0x40 0 0x40 0 0x40 0 0x40 0 0x40 0 0x40 0 0x1F00000040
+        0x1100000100 0x150000007F 0x1100000041 0x1F0000005D 0x5D 0x5D 0x41 0x7F 0 0 0 0 0 0 0 0 0 0 0 0 0 0 0
         0
-    };
-    (centres & !finders) >> 2
-}
-
-/// The alignment patterns.
-#[tactic(auto, unfolding(crate::specs::Private::FunctionRows::alignments))]
-fn alignments(version: Version, y: usize) -> PatternRow
-    requires { y < SIDE }
-    ensures { result ≡ FunctionRows.alignments version y }
-{
-    let centres = CENTRES[usize::from(version.number()) - 1];
-    // Bit k says whether row y + k - 2 has centres. Of five rows at most one has.
-    let near = ((centres << 2) >> y) & 0b11111;
-    if near == 0 {
-        return NONE;
-    }
-    let dark = if near == 0b00100 {
-        0b10101
-    } else if near & 0b01010 != 0 {
-        0b10001
-    } else {
-        0b11111
-    };
-    let columns = left_columns(version.side(), centres, y);
-    PatternRow {
-        taken: 0b11111 * columns,
-        dark: dark * columns,
-    }
-}
-
-/// The timing patterns.
-#[tactic(auto, unfolding(crate::specs::Private::FunctionRows::timings))]
-fn timings(side: usize, y: usize) -> PatternRow
-    requires { side ≤ SIDE }
-    ensures { result ≡ FunctionRows.timings side y }
-{
-    if y == 6 {
-        let taken = low_ones(side);
-        PatternRow {
-            taken,
-            dark: taken & EVERY_OTHER,
-        }
-    } else if y % 2 == 0 {
-        PatternRow {
-            taken: 1 << 6,
-            dark: 1 << 6,
-        }
-    } else {
-        PatternRow {
-            taken: 1 << 6,
-            dark: 0,
-        }
-    }
-}
-
-/// Returns the bits 0, 3, 6, 9, 12 and 15 of the version information side by side.
-#[tactic(auto, unfolding(crate::specs::Private::FunctionRows::every_third))]
-fn every_third(information: u64) -> u64
-    ensures { result ≡ FunctionRows.every_third information }
-{
-    (information & 1)
-        | ((information >> 2) & 2)
-        | ((information >> 4) & 4)
-        | ((information >> 6) & 8)
-        | ((information >> 8) & 16)
-        | ((information >> 10) & 32)
-}
-
-/// The version information, in the versions that have one.
-#[tactic(auto, unfolding(crate::specs::Private::FunctionRows::versions))]
-fn versions(version: Version, y: usize) -> PatternRow
-    ensures { result ≡ FunctionRows.versions version y }
-{
-    if version.number() < 7 {
-        return NONE;
-    }
-    let first = version.side() - 11;
-    let information = u64::from(version_information(version));
-    if y < 6 {
-        PatternRow {
-            taken: 7 << first,
-            dark: ((information >> (3 * y)) & 7) << first,
-        }
-    } else if first <= y && y < first + 3 {
-        PatternRow {
-            taken: 0b111111,
-            dark: every_third(information >> (y - first)),
-        }
-    } else {
-        NONE
-    }
-}
+    ],
+    rows![
+        0x1FD00000007F 0x104800000041 0x17480000005D 0x17580000005D 0x175C01F0005D 0x104001100041
+        0x1FD55555557F 0x1100000 0x1F00040 0 0x40 0 0x40 0 0x40 0 0x40 0 0x40 0 0x1F001F001F0 0x11001100110
+        0x15001500150 0x11001100110 0x1F001F001F0 0 0x40 0 0x40 0 0x40 0 0x40 0 0x50 0x1E 0x1F001F00059
+        0x11001100100 0x1500150007F 0x11001100041 0x1F001F0005D 0x5D 0x5D 0x41 0x7F 0 0 0 0 0 0 0 0 0 0 0 0
+    ],
+    rows![
+        0x1FD000000007F 0x105C000000041 0x175800000005D 0x174800000005D 0x1740007C0005D 0x1044004400041
+        0x1FD555555557F 0x4400000 0x7C00040 0 0x40 0 0x40 0 0x40 0 0x40 0 0x40 0 0x40 0 0x1F0007C001F0
+        0x110004400110 0x150005400150 0x110004400110 0x1F0007C001F0 0 0x40 0 0x40 0 0x40 0 0x40 0 0x40 0 0x62
+        0xE 0x1F0007C00047 0x110004400100 0x15000540007F 0x110004400041 0x1F0007C0005D 0x5D 0x5D 0x41 0x7F 0 0
+        0 0 0 0 0 0
+    ],
+    rows![
+        0x1FC4000000007F 0x104C0000000041 0x1748000000005D 0x1754000000005D 0x1744001F00005D 0x10440011000041
+        0x1FD5555555557F 0x11000000 0x1F000040 0 0x40 0 0x40 0 0x40 0 0x40 0 0x40 0 0x40 0 0x40 0
+        0x1F0001F0001F0 0x1100011000110 0x1500015000150 0x1100011000110 0x1F0001F0001F0 0 0x40 0 0x40 0 0x40 0
+        0x40 0 0x40 0 0x40 0 0x7B 0x6 0x1F0001F000048 0x1100011000100 0x150001500007F 0x1100011000041
+        0x1F0001F00005D 0x5D 0x5D 0x41 0x7F 0 0 0 0
+    ],
+    rows![
+        0x1FCC0000000007F 0x104800000000041 0x174C0000000005D 0x17480000000005D 0x17480007C00005D
+        0x104400044000041 0x1FD55555555557F 0x44000000 0x7C000040 0 0x40 0 0x40 0 0x40 0 0x40 0 0x40 0 0x40 0
+        0x40 0 0x40 0 0x1F00007C0001F0 0x11000044000110 0x15000054000150 0x11000044000110 0x1F00007C0001F0 0
+        0x40 0 0x40 0 0x40 0 0x40 0 0x40 0 0x40 0 0x40 0 0x65 0x1F 0x1F00007C000040 0x11000044000100
+        0x1500005400007F 0x11000044000041 0x1F00007C00005D 0x5D 0x5D 0x41 0x7F
+    ],
+];
 
 /// Returns the modules of row `y` that the codewords do not choose (ISO/IEC 18004, 6.3 and 7.10). Those of the format
 /// information are light.
+#[inline(always)]
 pub fn function_row(version: Version, y: usize) -> PatternRow
     requires { y < side_of version }
     ensures { HasFunctions version y result }
 {
-    let side = version.side();
-    corners(side, y)
-        .join(alignments(version, y))
-        .join(timings(side, y))
-        .join(versions(version, y))
+    let place = usize::from(version.number()) - 1;
+    PatternRow {
+        taken: TAKEN[place][y],
+        dark: DARK[place][y],
+    }
 }

@@ -1,9 +1,9 @@
-//! The format information and the version information as numbers.
+//! The format information as a number.
 ghost use Rattle.std.specs.Prelude.{◌≡◌, ◌≤◌};
 ghost use Rattle.qrmatrix.specs.Information;
 
 use labelcore::Level;
-use qrdata::{Mask, Version};
+use qrdata::Mask;
 
 /// The format information of 15 bits (ISO/IEC 18004, Annex C): a row for each level indicator, and in it a number for
 /// each mask.
@@ -20,11 +20,6 @@ static FORMATS: [[u32; 8]; 4] = [
     [
         0x355F, 0x3068, 0x3F31, 0x3A06, 0x24B4, 0x2183, 0x2EDA, 0x2BED,
     ],
-];
-
-/// The version information of 18 bits of versions 1 to 10 (ISO/IEC 18004, Annex D lists it from version 7 on).
-static VERSIONS: [u32; 10] = [
-    0x01F25, 0x0216F, 0x03E4A, 0x042DE, 0x05DFB, 0x063B1, 0x07C94, 0x085BC, 0x09A99, 0x0A4D3,
 ];
 
 /// Returns the two bits of an error correction level (ISO/IEC 18004, Table 12).
@@ -47,12 +42,4 @@ pub fn format_information(level: Level, mask: Mask) -> u32
     ensures { result ≡ Information.format_information level mask }
 {
     FORMATS[level_indicator(level)][usize::from(mask.number())]
-}
-
-/// Returns the version information of 18 bits: the version with its check bits (ISO/IEC 18004, 7.10).
-#[tactic(auto, using(crate::proofs::InformationTables::version_entry_is))]
-pub fn version_information(version: Version) -> u32
-    ensures { result ≡ Information.version_information version }
-{
-    VERSIONS[usize::from(version.number()) - 1]
 }

@@ -105,16 +105,16 @@ impl Unmasked {
     pub fn draw(version: Version, level: Level, codewords: &Words) -> Unmasked
         ensures { Draws version level codewords.now.items result }
     {
-        let mut modules = Square::new();
-        let mut free = Square::new();
-        draw_functions(version, &mut free, &mut modules);
-        place(version, codewords, &free, &mut modules);
-        Unmasked {
+        // The squares are drawn in their place, and not moved into it.
+        let mut unmasked = Unmasked {
             version,
             level,
-            free,
-            modules,
-        }
+            free: Square::new(),
+            modules: Square::new(),
+        };
+        draw_functions(version, &mut unmasked.free, &mut unmasked.modules);
+        place(version, codewords, &unmasked.free, &mut unmasked.modules);
+        unmasked
     }
 
     /// Returns the symbol under a mask.

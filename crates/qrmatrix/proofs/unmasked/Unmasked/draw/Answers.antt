@@ -19,8 +19,8 @@ returns c =
         placed = c.place.ensures.placed;
         taken = λ x y lx ly t. c.place.ensures.others x y lx ly t ∙ c.draw_functions.ensures.drawn x y lx ly;
         columns = λ x y l. c.place.ensures.outside.columns x y l ∙ c.draw_functions.ensures.outside.columns x y l
-            ∙ c.new-modules.ensures x y;
+            ∙ c.new-2.ensures x y;
         rows = λ x y l. c.place.ensures.outside.rows x y l ∙ c.draw_functions.ensures.outside.rows x y l
-            ∙ c.new-modules.ensures x y;
+            ∙ c.new-2.ensures x y;
       };
     }
