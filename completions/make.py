@@ -140,7 +140,7 @@ def bash(commands: dict[str, list[Option]]) -> str:
     """Returns the completion for bash."""
     cases = []
     for command, options in commands.items():
-        words = [one.name + (f"={','.join(one.proposed)}" if one.takes else "") for one in options]
+        words = [option.name + (f"={','.join(option.proposed)}" if option.takes else "") for option in options]
         cases.append(f"        {command}) options='{' '.join(words)}' ;;")
     return f"# {MADE}" + BASH.replace("CASES", "\n".join(cases)).replace("NAMES", NAMES)
 
@@ -149,12 +149,12 @@ def fish(commands: dict[str, list[Option]]) -> str:
     """Returns the completion for fish."""
     lines = []
     for command, options in commands.items():
-        for one in options:
-            kind = " -r -F" if one.is_file else " -x" * one.takes
-            values = f" -a '{' '.join(one.values)}'" if one.values else ""
-            short = " -s h" if one.name == "--help" else ""
-            about_it = one.about.replace("\\", "\\\\")
-            lines.append(f"complete -c {command}{short} -l {one.name[2:]}{kind}{values} -d '{about_it}'\n")
+        for option in options:
+            kind = " -r -F" if option.is_file else " -x" * option.takes
+            values = f" -a '{' '.join(option.values)}'" if option.values else ""
+            short = " -s h" if option.name == "--help" else ""
+            about_it = option.about.replace("\\", "\\\\")
+            lines.append(f"complete -c {command}{short} -l {option.name[2:]}{kind}{values} -d '{about_it}'\n")
     return f"# {MADE}" + "".join(lines)
 
 
@@ -173,9 +173,10 @@ def zsh(commands: dict[str, list[Option]]) -> str:
     lines = [f"#compdef {NAMES}\n# {MADE}case $service in\n"]
     for command, options in commands.items():
         lines.append(f"    {command})\n        _arguments \\\n")
-        for one in options:
-            taken = f":{one.name[2:]}:{what_of_zsh(one)}" if one.takes else ""
-            lines.append(f"            '{'*' * one.repeats}{one.name}{'=' * one.takes}[{one.about}]{taken}' \\\n")
+        for option in options:
+            taken = f":{option.name[2:]}:{what_of_zsh(option)}" if option.takes else ""
+            name = "*" * option.repeats + option.name + "=" * option.takes
+            lines.append(f"            '{name}[{option.about}]{taken}' \\\n")
         lines.append("            '-h[print help]' '*:file:_files'\n        ;;\n")
     return "".join([*lines, "esac\n"])
 

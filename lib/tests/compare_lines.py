@@ -113,7 +113,7 @@ def is_same(bits: liblabels.Bitmap, picture: bytes) -> bool:
     """Whether bits show the dots of a plain PBM picture."""
     _, size, dots = picture.split(b"\n", 2)
     pixels = dots.replace(b"\n", b"")
-    rows = [pixels[at : at + bits.width] for at in range(0, len(pixels), bits.width)]
+    rows = [pixels[start : start + bits.width] for start in range(0, len(pixels), bits.width)]
     stride = (bits.width + 7) // 8
     packed = b"".join(int(row.ljust(stride * 8, b"0"), 2).to_bytes(stride, "big") for row in rows)
     return size == b"%d %d" % (bits.width, bits.height) and packed == bits.bits
@@ -122,10 +122,10 @@ def is_same(bits: liblabels.Bitmap, picture: bytes) -> bool:
 def is_shown(symbol: liblabels.Symbol, text: bytes) -> bool:
     """Whether a picture as text shows the modules of a symbol, with its quiet zones, version, level and mask."""
     left, right, top, bottom = symbol.quiet_zones
-    rows = [[line[at : at + 2] == b"##" for at in range(0, len(line), 2)] for line in text.split(b"\n")]
+    rows = [[line[column : column + 2] == b"##" for column in range(0, len(line), 2)] for line in text.split(b"\n")]
     inner = [row[left : len(row) - right] for row in rows[top : len(rows) - bottom]]
     starts = range(0, len(symbol.modules), symbol.width)
-    modules = [list(map(bool, symbol.modules[at : at + symbol.width])) for at in starts]
+    modules = [list(map(bool, symbol.modules[start : start + symbol.width])) for start in starts]
     if symbol.symbology != "qr":
         return len(inner) == symbol.height and symbol.rows == 1 and all(row == modules[0] for row in inner)
     bits = sum(dark << (4 - place) for place, dark in enumerate(inner[8][:5])) ^ FORMAT_MASK
@@ -150,7 +150,7 @@ def compare_group(program: str, rng: random.Random, count: int, more: list[str],
     counts["differ"] += b"".join(found.messages) != messages
     counts["differ"] += found.wrong_bits
     counts["differ"] += len(shown) != len(found.symbols)
-    counts["differ"] += sum(not is_shown(symbol, one) for symbol, one in zip(found.symbols, shown))
+    counts["differ"] += sum(not is_shown(symbol, picture) for symbol, picture in zip(found.symbols, shown))
 
 
 def main() -> int:

@@ -114,7 +114,7 @@ def all_masks(segments: Segments, version: int, level: str) -> list[list[str]]:
 def wanted(segments: Segments, version: int, level: str, mask: int | None) -> tuple[int, list[str]]:
     """The mask of a symbol and its modules: without a mask those of the lowest penalty, the first of equal ones."""
     symbols = all_masks(segments, version, level)
-    used = min(range(8), key=lambda one: penalty(symbols[one])) if mask is None else mask
+    used = min(range(8), key=lambda number: penalty(symbols[number])) if mask is None else mask
     return used, symbols[used]
 
 
@@ -153,7 +153,8 @@ def short_texts() -> Iterator[Row]:
         for letters in product(b"1Aa", repeat=size):
             text = bytes(letters)
             cheapest = min(
-                lists_of(text), key=lambda them: (cost(them, 1), [(-len(part), mode) for part, mode in them])
+                lists_of(text),
+                key=lambda segments: (cost(segments, 1), [(-len(part), mode) for part, mode in segments]),
             )
             yield Row(text, "M", 1, cheapest)
 

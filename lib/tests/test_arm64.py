@@ -41,7 +41,7 @@ class Arm64(WithLibrary):
         for program in (self.program("gcc", PROVED), PROGRAM):
             wanted, found = run(program, given=text), run(*OLDEST, program, given=text)
             self.assertIn(wanted.returncode, (0, 1))
-            self.assertEqual(*((it.returncode, it.stdout, it.stderr) for it in (found, wanted)))
+            self.assertEqual(*((done.returncode, done.stdout, done.stderr) for done in (found, wanted)))
         for newer in ("andn %rax, %rbx, %rcx", "crc32b %al, %ecx", "pabsd %xmm1, %xmm0", "haddps %xmm1, %xmm0"):
             with self.subTest(newer):
                 code = f'__asm__ volatile("{newer.replace("%", "%%")}" ::: "rcx", "xmm0", "cc");\n'

@@ -187,9 +187,9 @@ class Clients(WithLibrary):
     def test_traps_of_lines(self) -> None:
         """A line feed makes two labels, a comment none, a carriage return is data, and the order holds."""
         text = b"qr Jo\nean8 7351353\n# x\n\npdf x\nean8 7351353\n"
-        both = run("sh", "-c", f"{PROGRAM} 2>&1", given=text).stdout
+        output = run("sh", "-c", f"{PROGRAM} 2>&1", given=text).stdout
         picture = drawn(b"ean8 7351353\n")
-        self.assertEqual(both, drawn(b"qr Jo\n") + picture + b"line 5: unknown symbology\n" + picture)
+        self.assertEqual(output, drawn(b"qr Jo\n") + picture + b"line 5: unknown symbology\n" + picture)
         self.assertNotEqual(drawn(b"qr Jo\r\n"), drawn(b"qr Jo\n"))
         refused = run(PROGRAM, given=b"ean8 7351353\r\n")
         self.assertEqual((refused.stdout, refused.stderr), (b"", b"line 1: not a digit at byte 8\n"))

@@ -1,7 +1,7 @@
 #!/usr/bin/python3
 """Prints what a screen reader finds in a window: a line of JSON for each part that is shown, with
 its role, its name and its captions. The arguments are a text in the window, once it has its labels,
-the names of folds that are opened then, `--`, and the command that opens the window.
+the names of folds that are opened in turn then, `--`, and the command that opens the window.
 """
 
 import json
@@ -65,10 +65,11 @@ def main() -> None:
         found(wanted)
         for fold in folds:
             found(fold).get_action_iface().do_action(0)
-        time.sleep(1.0)
-        for part in parts():
-            line = {"role": part.get_role_name(), "name": part.get_name()}
-            print(json.dumps({**line, "captions": captions_of(part)}))
+            time.sleep(1.0)
+            for part in parts():
+                line = {"role": part.get_role_name(), "name": part.get_name()}
+                print(json.dumps({**line, "captions": captions_of(part)}))
+            found(fold).get_action_iface().do_action(0)  # else what is below is not seen
     finally:
         program.terminate()
         program.wait(support.SECONDS)

@@ -28,7 +28,7 @@ from labeltools.commands.label_table import table_options, table_parser
 from labeltools.common.budget import SECONDS
 from labeltools.common.messages import Silence, ToolError
 from labeltools.designs.svg_design import read_design
-from labeltools.lines.file import LineRecord, read_lines
+from labeltools.lines.file import read_lines, Record
 from labeltools.sending import ipp
 from labeltools.sending.answers import MORE, QUERIES
 from labeltools.tables import table
@@ -116,15 +116,15 @@ def changed_bytes(chance: random.Random, data: bytes) -> bytes:
         first, last = sorted(chance.randint(0, len(data)) for _ in range(2))
         last = min(last, first + chance.choice((1, 4, 60, 1 << 20)))
         piece = data[first:last]
-        at = chance.randint(0, len(data))
+        place = chance.randint(0, len(data))
         new = chance.choice(PIECES).encode("utf-8", "surrogatepass")
         data = chance.choice(
             (
                 data[:first] + data[last:],
-                data[:at] + piece * chance.choice((1, 2, 50)) + data[at:],
-                data[:at] + new + data[at:],
+                data[:place] + piece * chance.choice((1, 2, 50)) + data[place:],
+                data[:place] + new + data[place:],
                 data[:first] + new + data[last:],
-                data[:at] + bytes([chance.randrange(256)]) + data[at + 1 :],
+                data[:place] + bytes([chance.randrange(256)]) + data[place + 1 :],
             )
         )[:LONGEST]
     return data
@@ -142,15 +142,15 @@ def text_of(data: bytes) -> str:
     return text + re.sub("<[^>]*>", "", text)  # letters of a cell may have tags between them
 
 
-def require_known(records: Sequence[LineRecord], text: str) -> None:
+def require_known(records: Sequence[Record], text: str) -> None:
     """Raises `Wrong` for a label whose code or price is not in a text."""
     for record in records:
         digits = record.data.decode("latin-1")
         if digits.isdigit() and digits.lstrip("0") not in text:
             raise Wrong(f"a label with {digits}")
-        for number in re.findall("[0-9]+", record.label.price):
+        for number in re.findall("[0-9]+", record.price):
             if number.strip("0") not in text:
-                raise Wrong(f"a label with the price {record.label.price}")
+                raise Wrong(f"a label with the price {record.price}")
 
 
 def judge_table(chance: random.Random, data: bytes) -> None:

@@ -84,7 +84,7 @@ def dots_of(found: Prepared, number: int = 0) -> jobs.Dots:
 def texts_of(found: Prepared) -> list[PlacedText]:
     """The texts of all labels."""
     layouts = [item.layout for item in found.labels]
-    return [text for one in layouts if isinstance(one, SvgLayout) for text in one.texts]
+    return [text for layout in layouts if isinstance(layout, SvgLayout) for text in layout.texts]
 
 
 def is_refused(message: object, why: str) -> bool:
@@ -94,7 +94,7 @@ def is_refused(message: object, why: str) -> bool:
 
 def reasons_of(found: Prepared) -> list[str]:
     """Why labels are left out."""
-    return [str(one.reason) for one in found.left_out]
+    return [str(record.reason) for record in found.left_out]
 
 
 def said_of(found: Prepared) -> list[str]:

@@ -49,16 +49,16 @@ def pages_of(
     job: bytes, language: Language, number_of: Callable[[bytes], int] = int
 ) -> Iterator[Dots]:
     """The pages of a job, row by row."""
-    at = size = 0
+    place = size = 0
     rows: list[bytes] = []
-    while at < len(job):
+    while place < len(job):
         for pattern, does in language:
-            command = re.compile(pattern, re.DOTALL).match(job, at)
+            command = re.compile(pattern, re.DOTALL).match(job, place)
             if command:
                 break
         else:
-            raise JobError(f"not understood: {job[at:at + 20]!r}")
-        at = command.end()
+            raise JobError(f"not understood: {job[place:place + 20]!r}")
+        place = command.end()
         number = number_of(command[1]) if does < END and command.re.groups else size
         if does == BYTES:
             size = number
@@ -68,8 +68,8 @@ def pages_of(
             rows += [bytes(size)] * number
         elif does == ROW:
             size = max(size, number)
-            rows.append(job[at : at + number].ljust(size, b"\0"))
-            at += number
+            rows.append(job[place : place + number].ljust(size, b"\0"))
+            place += number
         elif does == END and rows:
             yield rows_of(b"".join(rows), size)
             rows = []
@@ -117,7 +117,7 @@ def bars_of(words: Sequence[str], lines: bytes) -> Iterator[Bars]:
     (part,) = press.parts(prepared.prints)
     for number, page in enumerate(part.pages):
         for item, (left, top) in page:
-            box, modules = item.layout.boxes["bars"], item.label.modules
+            box, modules = item.layout.boxes["bars"], item.record.modules
             bits = rows_of(modules.packed, modules.row_size)[:, : modules.width]
             dots = bits.repeat(box.width // modules.width, axis=1)
             dots = dots.repeat(box.height // len(bits), axis=0)
@@ -139,12 +139,12 @@ def shift_of(page: Dots, bars: Bars) -> tuple[int, int] | None:
     begin = max(0, bars.left - NEAR)
     for top in range(max(0, bars.top - NEAR), min(len(page) - high, bars.top + NEAR) + 1):
         row = page[top + first, begin : bars.left + wide + NEAR].tobytes()
-        at = row.find(wanted)
-        while at >= 0:
-            left = begin + at
+        place = row.find(wanted)
+        while place >= 0:
+            left = begin + place
             if numpy.array_equal(page[top : top + high, left : left + wide], bars.dots):
                 return left - bars.left, top - bars.top
-            at = row.find(wanted, at + 1)
+            place = row.find(wanted, place + 1)
     return None
 
 

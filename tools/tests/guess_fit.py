@@ -5,12 +5,15 @@ import math
 import sys
 from collections import Counter
 from collections.abc import Callable, Iterable, Iterator, Mapping, Sequence
+from contextlib import contextmanager, ExitStack
 from dataclasses import dataclass
+from types import FunctionType
 from typing import Any
 from unittest import mock
 
-from guess_tables import small_tables, Table, tables, Verdict, verdict_of
-from labeltools.tables import amounts, candidates, choices, evidence, scores
+from guess_tables import FOLDER, small_tables, Table, tables, Verdict, verdict_of
+from labeltools.common.budget import Budget
+from labeltools.tables import amounts, candidates, choices, evidence, guess, scores
 from labeltools.tables.candidates import CODE, PRICE, ROLES, Samples
 from labeltools.tables.evidence import Evidences, evidences_of
 from labeltools.tables.guess import samples_from
@@ -20,6 +23,7 @@ ROUNDS = 150
 RATE = 0.3  # of a step
 SMALL = 0.0003  # what the square of a weight costs
 LEAST = 0.05  # a smaller weight is left out
+NEEDED = FOLDER / "needed.txt"  # for each part a table whose verdict it changes
 Weights = Mapping[str, Mapping[str, float]]
 
 
@@ -35,7 +39,8 @@ def cases_of(of_tables: Iterable[Table], role: str) -> Iterator[Case]:
     """The cases of a role, but for tables in which no column may have it, or facts ask."""
     for table in of_tables:
         shown = [
-            ("", *()) if at in table.hidden else cells for at, cells in enumerate(table.columns)
+            ("", *()) if place in table.hidden else cells
+            for place, cells in enumerate(table.columns)
         ]
         columns = samples_from(shown)
         meant = table.places(role)
@@ -48,14 +53,14 @@ def cases_of(of_tables: Iterable[Table], role: str) -> Iterator[Case]:
         if not wanted or is_asked or role in table.truth.optional:
             wanted = [*wanted, NONE]
         parts = {place: 1 / len(wanted) for place in wanted}
-        yield Case(evidences_of(may_be, role, columns), parts)
+        yield Case(evidences_of(may_be, role), parts)
 
 
 def candidates_of(columns: Samples, role: str, taken: Iterable[int]) -> Samples:
     """The columns that may have a role, if others have the other ones."""
     used = {*taken}
     if role == PRICE:
-        return choices.price_candidates(columns, used)[0]
+        return choices.price_candidates(columns, used, Budget("", 0))[0]
     if role == CODE:
         return choices.code_candidates(choices.without(columns, used))
     return choices.title_candidates(columns, used)
@@ -138,54 +143,91 @@ def judge() -> int:
 # ---- what each part is good for
 
 
-def nothing(*_: Any) -> Any:
-    """What a part gives that is switched off: it holds for nothing."""
+@dataclass(frozen=True)
+class Part:
+    """A part of the guess that can be switched off: a function, which then returns something else;
+    or what an evidence counts, which then is nothing.
+    """
+
+    name: str
+    instead: Callable[..., Any] | None = None
+    role: str = ""
+
+    @property
+    def title(self) -> str:
+        """What a line about it begins with."""
+        if self.instead is None:
+            return f"{self.role} {self.name}"
+        return f"{self.name} {'always' if self.instead is always else 'never'}"
+
+    @contextmanager
+    def off(self) -> Iterator[None]:
+        """Switches it off, wherever it is called."""
+        with ExitStack() as stack:
+            if self.instead is None:
+                weights = {role: dict(scores.weights_of(role)) for role in ROLES}
+                del weights[self.role][self.name]
+                stack.enter_context(mock.patch.object(scores, "weights_of", weights.get))
+            for module in CALLERS if self.instead else ():
+                if hasattr(module, self.name):
+                    stack.enter_context(mock.patch.object(module, self.name, self.instead))
+            yield
+
+
+def always(*_: Any) -> bool:
+    """What a fact gives that always holds."""
+    return True
+
+
+def never(*_: Any) -> bool:
+    """What a fact gives that never holds."""
     return False
 
 
-def nothing_found(*_: Any) -> Any:
-    """What a part gives that is switched off: it finds nothing."""
-    return ()
+FACTS = (candidates, choices, amounts, evidence)  # the modules whose functions are switched off
+CALLERS = (*FACTS, guess)
+# what other functions than facts return that are switched off; those that are not here only name
+# what others decide
+NOTHING: Mapping[str, Callable[..., Any]] = {
+    "code_rivals": lambda *_: (),
+    "name_parts": lambda *_: (),
+    "variants_place": lambda *_: None,
+    "with_taxes": lambda *_: ((), ()),
+    "net_places": lambda *_: (),
+    "without_same": lambda columns: columns,
+    "advised_beside": lambda *_: {},
+    "named_again": lambda *_: (),
+    "costs_in": lambda *_: (),
+    "unit_price_choice": lambda *_: scores.Decision(),
+    "old_price_choice": lambda *_: scores.Decision(),
+    "copies_choice": lambda *_: scores.Decision(),
+}
 
 
-def nothing_known(*_: Any) -> Any:
-    """What a part gives that is switched off: it does not know."""
-    return None
+def parts() -> Iterator[Part]:
+    """The parts that can be switched off: each fact may never hold, or always."""
+    for module in FACTS:
+        for name, function in vars(module).items():
+            is_own = isinstance(function, FunctionType) and function.__module__ == module.__name__
+            if is_own and function.__annotations__.get("return") is bool:
+                yield from (Part(name, instead) for instead in (never, always))
+    yield from (Part(name, instead) for name, instead in NOTHING.items())
+    for role in ROLES:
+        yield from (Part(name, role=role) for name in scores.weights_of(role))
 
 
-# the parts that can be switched off, by their modules
-PARTS: Sequence[tuple[Any, str, Callable[..., Any]]] = (
-    (choices, "has_codes_of", nothing),
-    (choices, "is_isbn_10", nothing),
-    (choices, "code_rivals", nothing_found),
-    (choices, "is_other_code", nothing),
-    (choices, "are_two_codes", nothing),
-    (choices, "is_title_asked", nothing),
-    (choices, "are_different_texts", nothing),
-    (choices, "name_parts", nothing_found),
-    (choices, "has_part", nothing),
-    (choices, "variants_place", nothing_known),
-    (choices, "with_taxes", lambda *_: ((), ())),
-    (choices, "net_places", nothing_found),
-    (choices, "is_named_price", lambda *_: True),
-    (choices, "is_above_costs", nothing),
-    (choices, "is_plain_price", nothing),
-    (choices, "without_same", lambda columns: columns),
-    (choices, "is_price_asked", nothing),
-    (choices, "advised_beside", lambda *_: {}),
-    (choices, "are_two_paid", nothing),
-    (choices, "is_of_money", nothing),
-    (choices, "is_of_other", nothing),
-    (choices, "is_of_books", nothing),
-    (choices, "are_single_things", nothing),
-    (choices, "are_kept", nothing),
-    (candidates, "is_of_other", nothing),
-    (candidates, "is_plain_name", nothing),
-    (candidates, "is_weight", nothing),
-    (evidence, "named_again", nothing_found),
-    (evidence, "is_of_books", nothing),
-    (amounts, "is_reduced", nothing),
-)
+def samples_at_once() -> Any:
+    """Lets columns be looked at once that are guessed again and again."""
+    usual = guess.samples_from
+    found: dict[object, Samples] = {}
+
+    def samples(columns: Sequence[Sequence[str]]) -> Samples:
+        key = tuple(tuple(cells) for cells in columns)
+        if key not in found:
+            found[key] = usual(columns)
+        return found[key]
+
+    return mock.patch.object(guess, "samples_from", samples)
 
 
 def all_verdicts() -> Mapping[str, tuple[Verdict, str]]:
@@ -194,37 +236,51 @@ def all_verdicts() -> Mapping[str, tuple[Verdict, str]]:
 
 
 def switched_off() -> int:
-    """Switches off each part and each evidence, and prints which verdicts change; those without
+    """Switches off each part, and writes the table whose verdict changes the most; those without
     which none does are named, and the status is 1.
     """
-    usual = all_verdicts()
     useless = []
-    for module, name, instead in PARTS:
-        with mock.patch.object(module, name, instead):
-            changed = changes(usual)
-        print(f"{name}: {', '.join(changed) or 'nothing'}", flush=True)
-        useless += [] if changed else [name]
-    for role in ROLES:
-        weights = dict(scores.weights_of(role))
-        for name in weights:
-            less = {other: weight for other, weight in weights.items() if other != name}
-            by_role = {other: scores.weights_of(other) for other in ROLES} | {role: less}
-            with mock.patch.object(scores, "weights_of", by_role.__getitem__):
+    needed = {}
+    with samples_at_once():
+        usual = all_verdicts()
+        for part in parts():
+            with part.off():
                 changed = changes(usual)
-            print(f"{role} {name}: {', '.join(changed) or 'nothing'}", flush=True)
-            useless += [] if changed else [f"{role} {name}"]
-    print(f"without these no verdict changes: {', '.join(useless) or 'none'}")
+            print(f"{part.title}: {', '.join(changed.values()) or 'nothing'}", flush=True)
+            if changed:
+                needed[part.title] = next(iter(changed))
+            else:
+                useless.append(part.title)
+    lines = [f"{title}\t{name}\n" for title, name in needed.items()]
+    NEEDED.write_text("".join(lines), encoding="utf-8")
+    print(f"{len(useless)} change nothing: {', '.join(useless) or 'none'}")
     return 1 if useless else 0
 
 
-def changes(usual: Mapping[str, tuple[Verdict, str]]) -> Sequence[str]:
-    """The tables of which the guess is worth something else than usual."""
+def changes(usual: Mapping[str, tuple[Verdict, str]]) -> Mapping[str, str]:
+    """The tables of which the guess is worth something else than usual, with what it is worth."""
     found = all_verdicts()
-    return [
-        f"{name} {usual[name][0]} > {found[name][0]}"
+    return {
+        name: f"{name} {usual[name][0]} > {found[name][0]}"
         for name in usual
         if usual[name][0] is not found[name][0]
-    ]
+    }
+
+
+def needless_parts(every: Iterable[Part]) -> Iterator[str]:
+    """The parts for which no table is kept whose verdict they change, by the tables of `NEEDED`."""
+    by_name = {table.name: table for table in (*tables(), *small_tables())}
+    needed = dict(line.split("\t") for line in NEEDED.read_text(encoding="utf-8").splitlines())
+    for part in every:
+        table = by_name.get(needed.get(part.title, ""))
+        if table is None:
+            yield part.title
+            continue
+        usual, _ = verdict_of(table, table.guess())
+        with part.off():
+            found, _ = verdict_of(table, table.guess())
+        if found is usual:
+            yield part.title
 
 
 def main(description: str) -> int:

@@ -20,6 +20,8 @@ from labeltools.tables.table_options import TableOptions
 
 FOLDER = Path(__file__).with_name("tables")
 ROLES = ("code", "title", "price", "unit-price", "old-price", "copies")
+# what belongs to these, by its names in the truth and in a guess
+BESIDE = {"second-title": "title", "variants-of": "variants-of"}
 ONE_MEANT = ("code", "price")  # of which a label has one: of several right ones the keeper chooses
 
 
@@ -99,13 +101,17 @@ def table_of(name: str, truth: Mapping[str, Any]) -> Table:
     columns, header, hidden = table_columns(
         data, name, replace(options, file=file), Silence(), Budget(name, len(data))
     )
+    return Table(name, columns, hidden, header, truth_of(truth))
+
+
+def truth_of(truth: Mapping[str, Any]) -> Truth:
+    """A truth, as truth.toml has it."""
     names = {
         role: [truth[role]] if isinstance(truth[role], str) else truth[role]
-        for role in ROLES
+        for role in (*ROLES, *BESIDE)
         if role in truth
     }
-    meant = Truth(names, truth.get("ask", ()), truth.get("optional", ()), truth.get("header", 1))
-    return Table(name, columns, hidden, header, meant)
+    return Truth(names, truth.get("ask", ()), truth.get("optional", ()), truth.get("header", 1))
 
 
 def options_for(data: bytes, name: str) -> TableOptions:
@@ -155,6 +161,7 @@ def verdict_of(table: Table, found: Guess) -> tuple[Verdict, str]:
 
 def faults_of(table: Table, found: Guess) -> Iterator[tuple[Verdict, str]]:
     """What is not right about a guess."""
+    yield from faults_beside(table, found)
     truth = table.truth
     if truth.header and found.header != truth.header:
         yield Verdict.WRONG, f"the names are in row {found.header}"
@@ -178,4 +185,15 @@ def faults_of(table: Table, found: Guess) -> Iterator[tuple[Verdict, str]]:
             )
             yield worth, f"{role} may be {', '.join(offered)}"
         elif wanted and role not in truth.optional:
+            yield Verdict.INCOMPLETE, f"no {role}"
+
+
+def faults_beside(table: Table, found: Guess) -> Iterator[tuple[Verdict, str]]:
+    """What is not right about the second title, and the column of the variants."""
+    for role, kind in BESIDE.items():
+        wanted = table.places(role)
+        place = found.beside.get(kind)
+        if place is not None and place not in wanted:
+            yield Verdict.WRONG, f"{role} is {table.name_of(place)}"
+        elif wanted and place is None:
             yield Verdict.INCOMPLETE, f"no {role}"

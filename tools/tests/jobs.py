@@ -28,16 +28,16 @@ class JobError(Exception):
 def dots_of_zpl(job: bytes) -> list[Dots]:
     """The labels of a ZPL job, each as often as it is printed."""
     labels: list[Dots] = []
-    at = 0
-    while at < len(job):
-        label = ZPL_LABEL.match(job, at)
+    place = 0
+    while place < len(job):
+        label = ZPL_LABEL.match(job, place)
         if not label:
-            raise JobError(f"byte {at} begins no label: {job[at:at + 40]!r}")
+            raise JobError(f"byte {place} begins no label: {job[place:place + 40]!r}")
         dots = dots_of_fields(label[3], int(label[1]), int(label[2]))
         if label[4] and int(label[4]) < 2:
             raise JobError(f"{label[4]!r} is no number of copies to be said")
         labels += [dots] * int(label[4] or 1)
-        at = label.end()
+        place = label.end()
     return labels
 
 

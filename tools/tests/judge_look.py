@@ -100,7 +100,7 @@ def measured(count: int) -> Iterator[list[dict[str, Any] | None]]:
         for number, (size, dpi, is_roll) in enumerate(STOCKS):
             design = DESIGNS[number % 2]
             laid = laid_out(data, size, dpi, design=design, is_roll=is_roll)
-            found = {item.label.record.number: item for item in laid.labels}
+            found = {item.record.number: item for item in laid.labels}
             lines = range(2, 2 * len(table) + 2)
             numbers = sorted(found)
             left = len(table) - len(numbers)
@@ -112,7 +112,7 @@ def measured(count: int) -> Iterator[list[dict[str, Any] | None]]:
 def measures_of(laid: Any, item: Any) -> dict[str, Any]:
     """Returns what is measured on a label."""
     sizes = {"price": 0.0, "title": 0.0, "details": 0.0}
-    whole = item.label.record.label
+    whole = item.record
     for placed in laid.pen.texts(item):
         style = placed.style
         kind = "title" if style.is_bold and style.lines else "price"
@@ -127,7 +127,7 @@ def measures_of(laid: Any, item: Any) -> dict[str, Any]:
     bars = item.layout.boxes["bars"]
     return {
         "row": whole.row,
-        "texts": [*item.label.texts],
+        "texts": [*item.record.texts],
         **sizes,
         "module": laid.millimetres(item.layout.module),
         "bars": laid.millimetres(bars.height),
@@ -178,7 +178,8 @@ def means(labels: list[list[dict[str, Any] | None]]) -> str:
     """Returns how many labels fit, and the means of what is measured."""
     there = [label for several in labels for label in several if label]
     total = sum(map(len, labels))
-    texts = [f"{len(there)} of {total} fit", f"{sum(not one['is_whole'] for one in there)} are cut"]
+    cut = [label for label in there if not label["is_whole"]]
+    texts = [f"{len(there)} of {total} fit", f"{len(cut)} are cut"]
     for name in SIZES:
         values = [label[name] for label in there if label[name]]
         texts.append(f"{name} {sum(values) / len(values):.3f}")

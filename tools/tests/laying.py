@@ -35,7 +35,7 @@ class Laid:
     @property
     def reasons(self) -> list[str]:
         """Why others have none."""
-        return [one.reason for one in self.prepared.left_out]
+        return [str(record.reason) for record in self.prepared.left_out]
 
     def millimetres(self, dots: float) -> float:
         """A length in millimetres."""
@@ -85,17 +85,17 @@ def look(test: unittest.TestCase, laid: Laid, item: LaidOut) -> None:
     boxes = item.layout.boxes
     dots = laid.dots(item, AROUND)
     inside = dots[AROUND : AROUND + area.height, AROUND : AROUND + area.width]
-    what = (item.label.texts, item.layout.frame.kind, boxes)
+    what = (item.record.texts, item.layout.frame.kind, boxes)
     test.assertEqual(dots.sum(), inside.sum(), what)
     for box in boxes.values():
         test.assertGreaterEqual(min(box.left, box.top), 0, what)
         test.assertLessEqual(box.right, area.width, what)
         test.assertLessEqual(box.bottom, area.height, what)
         test.assertTrue(inside[box.top : box.bottom, box.left : box.right].any(), what)
-    for one, other in itertools.combinations(boxes.values(), 2):
-        is_beside = one.right <= other.left or other.right <= one.left
-        is_below = one.bottom <= other.top or other.bottom <= one.top
-        test.assertTrue(is_beside or is_below, (one, other, what))
+    for box, other in itertools.combinations(boxes.values(), 2):
+        is_beside = box.right <= other.left or other.right <= box.left
+        is_below = box.bottom <= other.top or other.bottom <= box.top
+        test.assertTrue(is_beside or is_below, (box, other, what))
     for box in boxes.values():
         inside[box.top : box.bottom, box.left : box.right] = 0
     test.assertFalse(dots.any(), what)

@@ -51,7 +51,8 @@ BARE: Labels = [("code128 SKU-10234", {})]
 TINY: Labels = [("qr A7", {"title": "Ohrringe", "price": "29,00 €"})]
 LONG: Labels = [("code128 ABCDEFGHIJKLMNOPQ", HEFT)]
 PIANO = {"title": "Klavier, gebraucht", "price": "12.499,00 €"}
-BOOKS = [(f"ean13 40063813{n:04}", {"title": "Heft", "price": "2,95 €"}) for n in range(11)]
+BOOK = {"title": "Heft", "price": "2,95 €"}
+BOOKS = [(f"ean13 40063813{number:04}", BOOK) for number in range(11)]
 WIDE: Labels = [("ean13 400638133393", PIANO), *BOOKS]
 
 

@@ -65,22 +65,22 @@ def pages_of_raster(data: bytes) -> Iterator[Page]:
     order, is_packed = SYNCS[data[:4]]
     is_new = data[:4] not in (b"RaSt", b"tSaR")
     size = NEW if is_new else OLD
-    at = 4
-    while at + size <= len(data):
-        numbers = numpy.frombuffer(data, f"{order}u4", size // 4, at)
+    place = 4
+    while place + size <= len(data):
+        numbers = numpy.frombuffer(data, f"{order}u4", size // 4, place)
         head = Head(tuple(int(number) for number in numbers), is_new)
-        at += size
+        place += size
         if is_packed:
-            rows, at = unpacked(data, at, head)
+            rows, place = unpacked(data, place, head)
         else:
             wanted = head.rows * head[LINE_BYTES]
-            rows = data[at : at + wanted].ljust(wanted, b"\0")
-            at += wanted
+            rows = data[place : place + wanted].ljust(wanted, b"\0")
+            place += wanted
         dots = darkness(rows, head, order)
         yield Page(head[DPI_ACROSS], head[DPI_DOWN], dots)
 
 
-def unpacked(data: bytes, at: int, head: Head) -> tuple[bytes, int]:
+def unpacked(data: bytes, place: int, head: Head) -> tuple[bytes, int]:
     """The rows of a compressed page, and the place behind them: each row with how often it comes
     again, and runs of pixels.
     """
@@ -89,22 +89,22 @@ def unpacked(data: bytes, at: int, head: Head) -> tuple[bytes, int]:
     white = b"\xff" if head[SPACE] in LIGHT else b"\0"
     rows: list[bytes] = []
     while len(rows) < head.rows:
-        again = data[at] + 1
-        at += 1
+        again = data[place] + 1
+        place += 1
         row = b""
         while len(row) < head[LINE_BYTES]:
-            count = data[at]
-            at += 1
+            count = data[place]
+            place += 1
             if count < HALF:
-                row += data[at : at + pixel] * (count + 1)
-                at += pixel
+                row += data[place : place + pixel] * (count + 1)
+                place += pixel
             elif count == HALF:
                 row += white * (head[LINE_BYTES] - len(row))
             else:
-                row += data[at : at + (257 - count) * pixel]
-                at += (257 - count) * pixel
+                row += data[place : place + (257 - count) * pixel]
+                place += (257 - count) * pixel
         rows += [row[: head[LINE_BYTES]]] * min(again, head.rows - len(rows))
-    return b"".join(rows), at
+    return b"".join(rows), place
 
 
 def numbers_of(packed: Dots, bits: int, order: str) -> Dots:
@@ -127,9 +127,9 @@ def pixels_of(rows: bytes, head: Head, order: str) -> Dots:
     packed = numpy.frombuffer(rows, numpy.uint8).reshape(head.rows, head[LINE_BYTES])
     bits, width, colours = head[COLOUR_BITS], head[WIDTH], head.colours
     if head[ORDER] == CHUNKED:
-        each = head[PIXEL_BITS] // bits
-        numbers = numbers_of(packed, bits, order)[:, : width * each]
-        return numbers.reshape(len(packed), width, each)[:, :, max(0, each - colours) :]
+        count = head[PIXEL_BITS] // bits
+        numbers = numbers_of(packed, bits, order)[:, : width * count]
+        return numbers.reshape(len(packed), width, count)[:, :, max(0, count - colours) :]
     if head[ORDER] == BANDED:
         part = head[LINE_BYTES] // colours
         planes = [packed[:, part * plane : part * (plane + 1)] for plane in range(colours)]
@@ -158,19 +158,19 @@ PNM = re.compile(rb"P([456])\s(?:#[^\n]*\n)*\s*(\d+)\s+(?:#[^\n]*\n)*(\d+)\s", r
 
 def pages_of_pnm(data: bytes) -> Iterator[Page]:
     """The pages of raw PBM, PGM or PPM."""
-    at = 0
-    while found := PNM.match(data, at):
+    place = 0
+    while found := PNM.match(data, place):
         kind, width, height = (int(number) for number in found.groups())
-        at = found.end()
+        place = found.end()
         if kind == 4:
             size = (width + 7) // 8
-            packed = numpy.frombuffer(data[at : at + size * height], numpy.uint8)
+            packed = numpy.frombuffer(data[place : place + size * height], numpy.uint8)
             dots = numpy.unpackbits(packed.reshape(height, size), axis=1)[:, :width]
         else:
-            at = data.index(b"\n", at) + 1  # behind the largest number
+            place = data.index(b"\n", place) + 1  # behind the largest number
             size = width * (1 if kind == 5 else 3)
-            whole = data[at : at + size * height].ljust(size * height, b"\xff")
+            whole = data[place : place + size * height].ljust(size * height, b"\xff")
             numbers = numpy.frombuffer(whole, numpy.uint8).reshape(height, width, -1)
             dots = (numbers.max(axis=2) < HALF).astype(numpy.uint8)
-        at += size * height
+        place += size * height
         yield Page(0, 0, dots)

@@ -121,6 +121,7 @@ KINDS = {
     + own("QQFrame", "PrinterDefault", "Double")
     + own("QQDarkness", "Default", "High")
     + own("QQPlaces", "TopLeft", "4up")
+    + own("Copies", "1", "3")
     + option("Resolution", _300dpi="300 300"),
     # a tape of 24 mm, of any length
     "tape": "HWMargins 0 0 0 0\nVariablePaperSize Yes\nMinSize 36 36\nMaxSize 2000 2000\n"
@@ -291,7 +292,7 @@ def raster_of(job: bytes) -> tuple[tuple[int, int], Dots]:
     """
     is_pwg = job.startswith(b"RaS2")
     header = numpy.frombuffer(job, dtype=">u4" if is_pwg else "<u4", count=1 + HEADER // 4)[1:]
-    across, down, width, height, size = (int(header[at]) for at in (69, 70, 93, 94, 98))
+    across, down, width, height, size = (int(header[field]) for field in (69, 70, 93, 94, 98))
     if is_pwg:
         rows = unpacked(job[4 + HEADER :], size, height)
         return (across, down), (rows < 128).astype(numpy.uint8)
@@ -302,19 +303,19 @@ def raster_of(job: bytes) -> tuple[tuple[int, int], Dots]:
 def unpacked(data: bytes, size: int, height: int) -> Dots:
     """The rows of PWG raster: each with how often it comes again, and runs of bytes."""
     rows = numpy.zeros((height, size), dtype=numpy.uint8)
-    at = done = 0
+    place = done = 0
     while done < height:
-        again = data[at] + 1
-        at += 1
+        again = data[place] + 1
+        place += 1
         row = b""
         while len(row) < size:
-            length = data[at]
+            length = data[place]
             if length < 128:
-                row += data[at + 1 : at + 2] * (length + 1)
-                at += 2
+                row += data[place + 1 : place + 2] * (length + 1)
+                place += 2
             else:
-                row += data[at + 1 : at + 258 - length]
-                at += 258 - length
+                row += data[place + 1 : place + 258 - length]
+                place += 258 - length
         rows[done : done + again] = numpy.frombuffer(row, dtype=numpy.uint8)
         done += again
     return rows

@@ -88,7 +88,7 @@ class Picture:
         self.canvas.stroke()
         self.canvas.restore()
 
-    def put(self, page: cairo.ImageSurface, at: Point, within: Box) -> None:
+    def put(self, page: cairo.ImageSurface, corner: Point, within: Box) -> None:
         """Puts a page where its paper begins, and no more of it than is within a rectangle; what is
         white in it covers nothing.
         """
@@ -96,7 +96,7 @@ class Picture:
         self.canvas.save()
         self.canvas.rectangle(within.x, within.y, within.width, within.height)
         self.canvas.clip()
-        self.canvas.translate(*at)
+        self.canvas.translate(*corner)
         self.canvas.scale(pixels, pixels)
         self.canvas.set_operator(cairo.Operator.MULTIPLY)
         self.canvas.set_source_surface(page)
@@ -104,13 +104,13 @@ class Picture:
         self.canvas.paint()
         self.canvas.restore()
 
-    def say(self, words: str, at: Point, colour: Colour = BLACK, is_bold: bool = False) -> None:
+    def say(self, words: str, start: Point, colour: Colour = BLACK, is_bold: bool = False) -> None:
         """Writes words, from a point at their left."""
         weight = cairo.FontWeight.BOLD if is_bold else cairo.FontWeight.NORMAL
         self.canvas.select_font_face("DejaVu Sans", cairo.FontSlant.NORMAL, weight)
         self.canvas.set_font_size(LETTERS)
         self.canvas.set_source_rgb(*colour)
-        self.canvas.move_to(*at)
+        self.canvas.move_to(*start)
         self.canvas.show_text(words)
 
     def arrow(self, start: Point, end: Point) -> None:
@@ -212,16 +212,16 @@ def show_shift(path: Path) -> None:
         box = Box(PAD + number * (shown.width + PAD), 2 * PAD + LETTERS, shown.width, shown.height)
         picture.say(" ".join(shift) or "without --shift", (box.x, box.y - PAD / 2), is_bold=True)
         picture.fill(box, WHITE)
-        at = box.x + off[0] * SCALE, box.y + off[1] * SCALE
+        corner = box.x + off[0] * SCALE, box.y + off[1] * SCALE
         page = drawn(ARTICLES, *grid, *shift)
-        picture.put(page, at, box)
+        picture.put(page, corner, box)
         picture.canvas.save()
         picture.canvas.rectangle(box.x, box.y, box.width, box.height)
         picture.canvas.clip()
         for place in range(2 * count):
             left, down = place % count * cell[0], place // count * cell[1] + 0.5
-            one = paper(box.x + left * SCALE, box.y + down * SCALE, cell)
-            picture.frame(one, GRAY, (5, 4))
+            outline = paper(box.x + left * SCALE, box.y + down * SCALE, cell)
+            picture.frame(outline, GRAY, (5, 4))
         picture.canvas.restore()
         if not shift:
             free = box.x + 1.06 * cell[0] * SCALE, box.y + 1.4 * cell[1] * SCALE

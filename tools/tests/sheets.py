@@ -92,67 +92,82 @@ class Sheet:
     @property
     def cells(self) -> list[list[Cell]]:
         """Its rows of cells."""
-        return [[one if isinstance(one, Cell) else Cell(one) for one in row] for row in self.lines]
+        return [
+            [value if isinstance(value, Cell) else Cell(value) for value in row]
+            for row in self.lines
+        ]
+
+
+def merge(row: int, column: int, span: tuple[int, int]) -> str:
+    """A cell of .xlsx that goes over rows and columns, of which the first is 0."""
+    first, last = chr(ord("A") + column), chr(ord("A") + column + span[1] - 1)
+    return f'<mergeCell ref="{first}{row}:{last}{row + span[0] - 1}"/>'
 
 
 def of_xlsx(*sheets: Sheet) -> bytes:
     """A file of .xlsx, whose first sheet has a usual name and may have merged cells."""
-    keys = list(dict.fromkeys(one.key for sheet in sheets for row in sheet.cells for one in row))
+    keys = list(
+        dict.fromkeys(content.key for sheet in sheets for row in sheet.cells for content in row)
+    )
     forms = [form for form, _ in keys]
     fonts = "".join(f"<font>{look.font()}</font>" for _, look in keys)
     fills = "".join(look.pattern() for _, look in keys)
     xfs = "".join(
-        f'<xf numFmtId="{FIRST_FORMAT + at}" fontId="{at}" fillId="{at}"/>'
-        for at in range(len(keys))
+        f'<xf numFmtId="{FIRST_FORMAT + number}" fontId="{number}" fillId="{number}"/>'
+        for number in range(len(keys))
     )
     styles = f"<fonts>{fonts}</fonts><fills>{fills}</fills><cellXfs>{xfs}</cellXfs>"
 
-    def text(one: Cell) -> str:
-        style = 1 + len(keys) + keys.index(one.key)
-        if not one.runs:
-            return cell(one.value, style=style)
+    def text(content: Cell) -> str:
+        style = 1 + len(keys) + keys.index(content.key)
+        if not content.runs:
+            return cell(content.value, style=style)
         found = ""
-        for letters, look in one.runs:
+        for letters, look in content.runs:
             own = f"<rPr>{look.font()}</rPr>" if look else ""
             found += f"<r>{own}<t xml:space='preserve'>{escape(letters)}</t></r>"
         return f'<c s="{style}" t="inlineStr"><is>{found}</is></c>'
 
     texts: list[tuple[str, str, str]] = []
     for sheet in sheets:
-        lines = rows(*([text(one) for one in row] for row in sheet.cells))
+        lines = rows(*([text(content) for content in row] for row in sheet.cells))
         for number in sheet.hidden:
             lines = lines.replace(f'<row r="{number}">', f'<row r="{number}" hidden="1">')
         hides = "veryHidden" if len(texts) % 2 else "hidden"
         texts.append((sheet.name, "visible" if sheet.is_visible else hides, lines))
     merges = "".join(
-        f'<mergeCell ref="{chr(65 + at)}{row}:{chr(64 + at + one.span[1])}{row + one.span[0] - 1}"/>'
+        merge(row, column, content.span)
         for row, line in enumerate(sheets[0].cells, 1)
-        for at, one in enumerate(line)
-        if one.span != (1, 1)
+        for column, content in enumerate(line)
+        if content.span != (1, 1)
     )
     after = f"<mergeCells>{merges}</mergeCells>" if merges else ""
-    hidden = "".join(f'<col min="{at}" max="{at}" hidden="1"/>' for at in sheets[0].hidden_columns)
+    hidden = "".join(
+        f'<col min="{column}" max="{column}" hidden="1"/>' for column in sheets[0].hidden_columns
+    )
     before = f"<cols>{hidden}</cols>" if hidden else ""
     return xlsx(texts[0][2], *texts[1:], formats=forms, styles=styles, before=before, after=after)
 
 
-def ods_text(one: Cell) -> str:
+def ods_text(content: Cell) -> str:
     """A cell of .ods."""
-    more = f'table:style-name="{one.look.name}"'
-    if one.span != (1, 1):
-        more += f' table:number-rows-spanned="{one.span[0]}"'
-        more += f' table:number-columns-spanned="{one.span[1]}"'
-    if one.runs:
+    more = f'table:style-name="{content.look.name}"'
+    if content.span != (1, 1):
+        more += f' table:number-rows-spanned="{content.span[0]}"'
+        more += f' table:number-columns-spanned="{content.span[1]}"'
+    if content.runs:
         found = ""
-        for letters, look in one.runs:
+        for letters, look in content.runs:
             own = f'text:style-name="{look.name}"' if look else ""
             found += f"<text:span {own}>{escape(letters)}</text:span>"
         return ods_cell(found, "string", more)
-    if one.value is None:
+    if content.value is None:
         return f"<table:table-cell {more}/>"
-    if isinstance(one.value, str):
-        return ods_cell(escape(one.value), "string", more)
-    return ods_cell(one.shown or str(one.value), "float", f'office:value="{one.value}" {more}')
+    if isinstance(content.value, str):
+        return ods_cell(escape(content.value), "string", more)
+    return ods_cell(
+        content.shown or str(content.value), "float", f'office:value="{content.value}" {more}'
+    )
 
 
 def of_ods(*sheets: Sheet) -> bytes:
@@ -162,11 +177,12 @@ def of_ods(*sheets: Sheet) -> bytes:
     for sheet in sheets:
         kind = 1 if sheet.is_visible else 2
         texts += f'<table:table table:name="{sheet.name}" table:style-name="ta{kind}">'
-        for at in range(1, max(sheet.hidden_columns, default=0) + 1):
-            seen = "collapse" if at in sheet.hidden_columns else "visible"
+        for column in range(1, max(sheet.hidden_columns, default=0) + 1):
+            seen = "collapse" if column in sheet.hidden_columns else "visible"
             texts += f'<table:table-column table:visibility="{seen}"/>'
         for number, row in enumerate(sheet.cells, 1):
-            looks |= {look for one in row for look in (one.look, *(own for _, own in one.runs))}
+            for content in row:
+                looks |= {content.look, *(look for _, look in content.runs)}
             hides = "filter" if number % 2 else "collapse"
             hidden = f'table:visibility="{hides}"' if number in sheet.hidden else ""
             texts += f"<table:table-row {hidden}>{''.join(map(ods_text, row))}</table:table-row>"

@@ -238,7 +238,7 @@ def run_here(
             "stdout": open(1, "w", closefd=False),
             "stderr": error,
         }
-        signals = mock.patch("labeltools.common.process.on_signals", mock.MagicMock())
+        signals = mock.patch("signal.signal", mock.MagicMock())
         changed = mock.patch.dict(os.environ, {**environment(), **variables})
         try:
             with signals, changed, mock.patch.multiple(sys, **streams):

@@ -10,11 +10,12 @@ from typing import Any
 
 import support
 
-TABLE = "EAN;Name;Price;Labels\n4006381333931;Pencil;0,80 €;2\n96385074;Gum;1,20 €;1\n"
+TABLE = "EAN;Name;Price;Labels\n4006381333931;Füller;0,80 €;2\n96385074;Gum;1,20 €;1\n"
 FOLDS = ("More from the table", "More about the labels")
 CONTROLS = frozenset(
     "push button,toggle button,combo box,spin button,text,check box,radio button,table".split(",")
 )
+GROUPS = ("panel", "filler")
 # the captions of controls, as they are seen beside them
 CAPTIONS = frozenset(
     "Code,Title,Price,How many,Text below,Prices as,Old price,Kind of code,Names in row,Printer,"
@@ -26,20 +27,25 @@ class Aloud(unittest.TestCase):
     def test_each_control_has_a_name(self) -> None:
         support.labels_program()
         support.needs("Xvfb", "dbus-run-session")
-        controls = [part for part in self.parts() if part["role"] in CONTROLS]
+        parts = self.parts()
+        controls = [part for part in parts if part["role"] in CONTROLS]
         self.assertGreater(len(controls), 25)
         nameless = [part for part in controls if not part["name"] and not part["captions"]]
         self.assertEqual(nameless, [])
         captions = {caption for part in controls for caption in part["captions"]}
         self.assertEqual(CAPTIONS - captions, frozenset())
         names = {part["name"] for part in controls}
-        self.assertLessEqual({"Recent tables", "Options", "What is shown", "Save PDF…"}, names)
+        guessed = "Take back: The letters are Western European (Füller)."
+        wanted = {"Recent tables", "Options", "What is shown", "Save PDF…", guessed}
+        self.assertLessEqual(wanted, names)
+        groups = {part["name"] for part in parts if part["role"] in GROUPS}
+        self.assertIn("Labels", groups)  # of Sheet and Roll
 
     def parts(self) -> list[dict[str, Any]]:
-        """The parts of a window with a table, and with its folds open."""
+        """The parts of a window with a table, and with each of its folds open in turn."""
         with tempfile.TemporaryDirectory() as folder:
             path = Path(folder, "a.csv")
-            path.write_text(TABLE)
+            path.write_bytes(TABLE.encode("cp1252"))  # which the window guesses, and says
             reading, writing = os.pipe()
             words = f"Xvfb -displayfd {writing} -screen 0 1280x900x24 -nolisten tcp".split()
             with subprocess.Popen(words, pass_fds=[writing], stderr=subprocess.DEVNULL) as screen:

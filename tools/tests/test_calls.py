@@ -227,7 +227,8 @@ class Calls(unittest.TestCase):
         before, (file, asked, _) = right.calls[: failing - 1], right.calls[failing - 1]
         ends = most.calls_of(MESSAGES, len(ENDS[file]))
         moved = [
-            sum(moved for where, _, moved in before if where == at) for at in (IMAGES, MESSAGES)
+            sum(moved for where, _, moved in before if where == output)
+            for output in (IMAGES, MESSAGES)
         ]
         calls = [*before, (file, asked, -1), *ends]
         wanted = Ran(calls, 3, right.images[: moved[0]], right.messages[: moved[1]] + ENDS[file])

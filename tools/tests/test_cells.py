@@ -111,13 +111,13 @@ class Looks(CellTest):
 
     def test_letters_that_nobody_sees_leave_their_row_out(self) -> None:
         dark, grey = Look(fill="202020"), Look(colour="F0F0F0")
-        both = Look(colour="FFFFFF", fill="202020")
+        white_on_dark = Look(colour="FFFFFF", fill="202020")
         self.check_looks(
             (Cell(runs=(("12", None), ("49", WHITE))), None, IS_UNSEEN),
             (Cell(look=dark, runs=(("12", WHITE), ("49", WHITE))), "1249", ""),
             (Cell(runs=(("12", None), ("49", grey))), "1249", ""),
             (Cell("12.49", look=WHITE), None, IS_UNSEEN),
-            (Cell("12.49", look=both), "12.49", ""),
+            (Cell("12.49", look=white_on_dark), "12.49", ""),
         )
 
 
@@ -222,8 +222,10 @@ class Styles(CellTest):
 
     def test_equal_cells_of_ods_have_the_styles_of_their_columns(self) -> None:
         """LibreOffice writes two equal cells as one that is repeated."""
-        both = ods_cell("4.50", "float", 'office:value="4.5" table:number-columns-repeated="2"')
-        sheet = table(["EAN", "Was", "Price"], [PENCIL, both])
+        two_prices = ods_cell(
+            "4.50", "float", 'office:value="4.5" table:number-columns-repeated="2"'
+        )
+        sheet = table(["EAN", "Was", "Price"], [PENCIL, two_prices])
         columns = '<table:table-column/><table:table-column table:default-cell-style-name="ce9"/>'
         columns += '<table:table-column table:number-columns-repeated="9"/>'
         sheet = sheet.replace("<table:table-row>", f"{columns}<table:table-row>", 1)
@@ -332,7 +334,7 @@ class Marks(CellTest):
             lines = lines.replace('<row r="2">', f'<row r="2" {own}>')
             found, said = self.ran(xlsx(lines), *PRICED)
             self.assertEqual(found, [*prices, "14.25"])
-            self.assertEqual(["hidden row" in one for one in said], [True] * (not prices))
+            self.assertEqual(["hidden row" in line for line in said], [True] * (not prices))
 
 
 class Kinds(CellTest):
@@ -373,7 +375,9 @@ class Kinds(CellTest):
             data = xlsx(rows(HEAD, [PENCIL, "Tea", cell(value, style=1)]), formats=[form])
             prices, messages = self.ran(data, *PRICED)
             self.assertEqual(prices, [price] if price else [], form)
-            self.assertEqual(bool(said), any(said in one for one in messages if said), messages)
+            self.assertEqual(
+                bool(said), any(said in message for message in messages if said), messages
+            )
         more = "give it a number format of two decimals"
         for text, number, said in (
             ("4,50 €", "4.4999", ""),
@@ -415,7 +419,9 @@ class Kinds(CellTest):
             data = ods(table(["EAN", "Name"], [PENCIL, ods_cell(text, "float", value)]))
             found, messages = self.ran(data, *PRICED[:4])
             self.assertEqual(found, [] if said else [text])
-            self.assertEqual([said in one for one in messages], [True] if said else [], text)
+            self.assertEqual(
+                [said in message for message in messages], [True] if said else [], text
+            )
 
     def test_a_number_of_ods_has_no_more_digits_than_a_file_keeps(self) -> None:
         shown, value = "10293847565647400000", "1.02938475656474E+019"
@@ -496,8 +502,8 @@ class Heads(CellTest):
             fill = ";" * (4 - head.count(";"))
             data = f"{table}{head}{fill}\n{row}{fill}\n".encode()
             done = support.run_here("label-table", *words, input=data)
-            self.assertEqual([one["price"] for one, _ in parts_of(done.stdout)[1]], ["3,33"])
-            said = [one.partition(": ")[2] for one in support.messages(done)]
+            self.assertEqual([label["price"] for label, _ in parts_of(done.stdout)[1]], ["3,33"])
+            said = [message.partition(": ")[2] for message in support.messages(done)]
             hint = "make it a table of its own"
             self.assertEqual(said[:2], [f"{names}: {hint}", f"{below}: {hint}"], head)
 
@@ -538,7 +544,9 @@ class Heads(CellTest):
             data = f"EAN;{name}\n{PENCIL};{price}\n".encode()
             prices, messages = self.ran(data, "--code", "EAN", "--price", name)
             self.assertEqual(prices, [price])
-            self.assertEqual([said in one for one in messages], [True] if said else [], name)
+            self.assertEqual(
+                [said in message for message in messages], [True] if said else [], name
+            )
 
 
 class Codes(CellTest):

@@ -18,11 +18,11 @@ import support
 from labeltools.checking import compare, decode
 from labeltools.checking.read_pdf import pages_of
 from labeltools.common.messages import Silence, ToolError
-from labeltools.common.text import Text
 from labeltools.designs import svg_layout as own_layout
 from labeltools.drawing import dots, escpos, pen, zpl
 from labeltools.lines import engine, library
 from labeltools.lines.engine import Modules
+from labeltools.lines.reasons import Refused
 from labeltools.paper.box import Box
 from labeltools.paper.picture import Picture
 from labeltools.printing import press
@@ -97,7 +97,10 @@ def changed(function: Callable[..., Any], **changes: Callable[[Any], Any]) -> Ca
 
     def call(*arguments: Any, **named: Any) -> Any:
         given = {**dict(zip(names, arguments)), **named}
-        return function(**{n: changes[n](a) if n in changes else a for n, a in given.items()})
+        for name, change in changes.items():
+            if name in given:
+                given[name] = change(given[name])
+        return function(**given)
 
     return call
 
@@ -167,7 +170,7 @@ def twice(*arguments: Any) -> None:
     DRAW_MODULES(*arguments)
 
 
-def drawn_wrong(number: int, other: Modules | None = None) -> Callable[..., Any]:
+def drawn_wrong(number: int, other: Modules | Refused | None = None) -> Callable[..., Any]:
     """`Pen.draw_modules` that draws one of the symbols of the first label with a module less, or as
     another symbol.
     """
@@ -220,8 +223,8 @@ def in_rows(change: Callable[[list[str], int], object]) -> Callable[..., bytes]:
         rows = [dots[start : start + size] for start in range(0, len(dots), size)]
         texts = [RUN_LENGTHS(row, size).decode() for row in rows]
         whole = [
-            ":" if n and rows[n - 1] == row else text
-            for n, (text, row) in enumerate(zip(texts, rows))
+            ":" if number and rows[number - 1] == row else text
+            for number, (text, row) in enumerate(zip(texts, rows))
         ]
         change(whole, size)
         return "".join(whole).encode()
@@ -264,7 +267,7 @@ RUN_LENGTHS = zpl.run_lengths
 DRAW_MODULES = pen.Pen.draw_modules
 DRAW_WHITE = pen.Pen.draw_white
 DRAWN = engine.drawn
-ENGINE_DRAW = engine.Engine.draw
+ENGINE_DRAW: Callable[..., Any] = engine.Engine.draw
 PAGE = press.Press.page
 IMAGE = escpos.image
 FIELDS_OF = zpl.graphic_fields
@@ -432,13 +435,13 @@ class Planted(unittest.TestCase):
 class Named(unittest.TestCase):
     """A symbol in the place of another one is said with its place, in each direction."""
 
-    def message(self, form: str, labels: Sequence[Any], **others: Any) -> Text:
+    def message(self, form: str, labels: Sequence[Any], **others: Any) -> str:
         """The message of two labels whose symbols are mixed up."""
         with mock.patch("labeltools.lines.file.drawn", mixed):
             found = found_of(options_of(form, **others), labels)
         with self.assertRaises(ToolError) as caught:
             documents_of(found)
-        return caught.exception.what
+        return str(caught.exception.what)
 
     def test_in_each_form_and_direction(self) -> None:
         pairs = [
@@ -512,7 +515,7 @@ class OwnDesigns(unittest.TestCase):
             options = options_of("zpl", design=design, paper=(100.0, 60.0))
             job = planned(options)
             lines = support.file_of(self.LABELS)
-            first = labels_of(job, "lines", lines, Silence()).labels[0].label
+            first = labels_of(job, "lines", lines, Silence()).labels[0].record
             with mock.patch("labeltools.designs.svg_layout.values_of", texts):
                 found = labels_of(job, "lines", lines, Silence())
         with self.assertRaisesRegex(ToolError, "^row 3: its code says other data than its line"):
@@ -610,15 +613,15 @@ def rows_of(symbol: Any) -> tuple[list[str], list[str], int]:
     """
     before, behind, above, below = symbol.quiet_zones
     dots = symbol.modules.translate(bytes.maketrans(b"\0\1", b"01")).decode()
-    modules = [dots[at : at + symbol.width] for at in range(0, len(dots), symbol.width)]
+    modules = [dots[start : start + symbol.width] for start in range(0, len(dots), symbol.width)]
     wide = before + symbol.width + behind
     rows = [f"{'0' * before}{row}{'0' * behind}" for row in modules]
     if symbol.rows > 1:
         rows = ["0" * wide] * above + rows + ["0" * wide] * below
         return rows, ["1" * wide] * len(rows), len(rows)
     guards = compare.GUARDS.get(symbol.symbology, ())
-    own = {before + at for first, last in guards for at in range(first, last)}
-    longer = ["".join("01"[at in own] for at in range(wide))] * (5 if guards else 0)
+    own = {before + place for first, last in guards for place in range(first, last)}
+    longer = ["".join("01"[place in own] for place in range(wide))] * (5 if guards else 0)
     return rows * (4 + len(longer)), ["1" * wide] * 4 + longer, 4
 
 
@@ -685,7 +688,9 @@ class Read(unittest.TestCase):
                 for rows in (dark, looked)
             )
             for _ in range(quarters):
-                dark, looked = (["".join(c) for c in zip(*rows[::-1])] for rows in (dark, looked))
+                dark, looked = (
+                    ["".join(column) for column in zip(*rows[::-1])] for rows in (dark, looked)
+                )
             box = Box(left, 2, len(dark[0]), len(dark))
             record = mock.sentinel.record
             whites = whites_of(symbol, scale, quarters, (left, 2))
@@ -693,7 +698,8 @@ class Read(unittest.TestCase):
             wanted = compare.Wanted(record, symbol, where)
             size = (box.right + 7) // 8
             behind = 8 * size - box.right
-            rows = [bytes(size)] * 2 + [(int(r, 2) << behind).to_bytes(size, "big") for r in dark]
+            drawn = [(int(row, 2) << behind).to_bytes(size, "big") for row in dark]
+            rows = [bytes(size)] * 2 + drawn
             with self.subTest(line=line, scale=scale, quarters=quarters, left=left):
                 self.assertFalse(is_refused(wanted, rows))
                 for down, across in product(range(len(dark)), range(0, len(dark[0]), 11)):

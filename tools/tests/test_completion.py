@@ -139,7 +139,7 @@ class Completion(unittest.TestCase):
         sys.path.insert(0, str(COMPLETIONS))
         commands = import_module("make").all_options()
         for tool in TOOLS:
-            found = [(one.name, value) for one in commands[tool] for value in one.values]
+            found = [(option.name, value) for option in commands[tool] for value in option.values]
             self.assertGreater(len(found), 5)
             for words in [*found, (found[0][0], "none")]:
                 said = support.run_here(tool, *words).stderr.decode()

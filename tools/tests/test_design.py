@@ -54,7 +54,7 @@ def png_of(width: int, height: int) -> str:
 
 def beside(dots: Any) -> Any:
     """Which dots are white and beside a black one."""
-    moved = (numpy.roll(dots, one, axis) for one in (1, -1) for axis in (0, 1))
+    moved = (numpy.roll(dots, step, axis) for step in (1, -1) for axis in (0, 1))
     return (sum(moved) > 0) & (dots == 0)
 
 
@@ -241,7 +241,7 @@ class Names(OwnPages):
         """The names of the places but that of the code."""
         found = self.found(body + CODE)
         assert isinstance(found.job.design, SvgLabels)
-        return [it.title for it in found.job.design.design.places if it.part != "code"]
+        return [place.title for place in found.job.design.design.places if place.part != "code"]
 
     def test_a_name_is_data_place_or_the_label_or_the_id(self) -> None:
         for name in (
@@ -395,8 +395,8 @@ class Texts(OwnPages):
         )
 
     def test_letters_are_alike(self) -> None:
-        some = [("code128 A", {"title": title}) for title in ("A", "A long title of a label")]
-        sizes = {text.style.size for text in texts_of(self.found(TITLE.format(WIDE), some))}
+        labels = [("code128 A", {"title": title}) for title in ("A", "A long title of a label")]
+        sizes = {text.style.size for text in texts_of(self.found(TITLE.format(WIDE), labels))}
         self.assertEqual(len(sizes), 1)
 
     def test_one_line_fills_its_place_by_its_ink(self) -> None:
@@ -436,14 +436,14 @@ class Texts(OwnPages):
             '<rect id="title" x="2" y="2" width="56" height="8"/>'
             '<rect id="price" x="2" y="{}" width="56" height="8"/>' + CODE
         )
-        both = {"title": "a", "price": "1 €"}
+        fields = {"title": "a", "price": "1 €"}
         hint = "a label has a text for each: move them apart"
         said = [f": the places title and price overlap: {hint}"]
         either = [("code128 A", {"title": "a"}), ("code128 B", {"price": "1 €"})]
         for top, labels, wanted in (
-            (9, [("code128 A", both)], said),
+            (9, [("code128 A", fields)], said),
             (9, either, []),
-            (9.8, [("code128 A", both)], []),
+            (9.8, [("code128 A", fields)], []),
         ):
             self.assertEqual(self.said(self.found(body.format(top), labels)), wanted)
 
@@ -488,7 +488,7 @@ class Texts(OwnPages):
             (f"999999 {words}", 1, 1),
         ):
             found = self.found(place, [("code128 A", {"text": {"Count": count}})])
-            shortened = [one for one in self.said(found) if "too long" in one]
+            shortened = [line for line in self.said(found) if "too long" in line]
             self.assertEqual((texts_of(found)[0].style.lines, len(shortened)), (lines, said), count)
 
     def test_one_long_text_makes_no_others_small(self) -> None:
@@ -500,7 +500,8 @@ class Texts(OwnPages):
             sizes = self.sizes(found)
             short = self.sizes(self.found(place.format(words), [*labels[:2], *labels[3:]]))
             self.assertEqual([*sizes[:2], *sizes[3:]], short)
-            self.assertGreater(sizes[0], 9.8)  # of a place of 10 mm
+            (*_, top, _), (*_, low) = self.ink(found, 1), self.ink(found)  # of the l, of the p
+            self.assertAlmostEqual(low - top, 10, delta=0.25)  # two dots
             self.assertTrue(least - 0.13 < sizes[2] < least + 0.5, sizes)
             said = [
                 "line 6: a text is too long, so it ends in “…”: shorten it, or choose a larger label"
@@ -655,15 +656,15 @@ class Drawings(OwnPages):
             ("code128 A", {"text": {"Origin": "Kiel"}}),
         ]
         found = self.found(body, labels)
-        self.assertEqual([self.ink(found, one)[1] > 40 for one in (0, 1)], [True, False])
+        self.assertEqual([self.ink(found, number)[1] > 40 for number in (0, 1)], [True, False])
         self.assertEqual([text.text for text in texts_of(found)], ["Kiel", "Kiel"])
         self.assertEqual(self.said(found), [])
-        for one in labels:  # as a stream lays them out
-            self.assertGreater(self.ink(self.found(body, [one]))[1], 40)
+        for label in labels:  # as a stream lays them out
+            self.assertGreater(self.ink(self.found(body, [label]))[1], 40)
         priced = body.replace("Bio", "was")
         prices: list[Label] = [("code128 A", {"was": "2 €", "text": ["a"]}), labels[1]]
         found = self.found(priced, prices)
-        self.assertEqual([self.ink(found, one)[1] > 40 for one in (0, 1)], [True, False])
+        self.assertEqual([self.ink(found, number)[1] > 40 for number in (0, 1)], [True, False])
         self.assertEqual(self.said(found), [" has no rectangle for was: not on the labels"])
 
     def test_a_group_of_what_no_label_has(self) -> None:
@@ -708,7 +709,7 @@ class Drawings(OwnPages):
             drawn += f'<path d="{group}" fill="{"#fff" if behind == "#000" else "#000"}"/></g>'
             labels: list[Label] = [ONE, ("code128 B", {"title": "b", "was": "2 €"})]
             found = self.found(drawn + place, labels)
-            self.assertEqual([one.origin.number for one in found.left_out if one.origin], [4])
+            self.assertEqual([label.origin.number for label in found.left_out if label.origin], [4])
 
     def test_a_group_goes_with_its_field(self) -> None:
         word = '<g id="Best before"><path d="M2 2H9V9H2Z"/></g>'
@@ -770,9 +771,9 @@ class Drawings(OwnPages):
         )
         for ends, options, is_cut in cases:
             found = self.said(self.found(bar.format(*ends), [("code128 A", {})], **options))
-            cut = [one for one in found if "smaller than drawn" not in one]
+            cut = [line for line in found if "smaller than drawn" not in line]
             wanted = [": the drawing is cut at the edge"] * is_cut
-            self.assertEqual([one.split(": move")[0] for one in cut], wanted, (ends, options))
+            self.assertEqual([line.split(": move")[0] for line in cut], wanted, (ends, options))
 
     def test_a_link_and_white_letters_are_drawn_in_a_pdf(self) -> None:
         link = '<a href="https://example.org"><path d="M2 15H9V19Z"/></a>'
@@ -855,15 +856,15 @@ class Symbols(OwnPages):
             bars, dot = boxes["bars"], 25.4 / 203
             ends = (10 + bars.left * dot, 10 + bars.right * dot)
             wanted = (left, right) if words else (30 - bars.width * dot / 2, None)
-            for end, one in zip(ends, wanted):
-                self.assertTrue(one is None or abs(end - one) < 0.2, (words, ends))
+            for end, edge in zip(ends, wanted):
+                self.assertTrue(edge is None or abs(end - edge) < 0.2, (words, ends))
 
     def test_second_symbols(self) -> None:
         body = f'<rect data-place="Url, qr, level=Q" x="2" y="2" width="16" height="16"/>{CODE}'
         found = self.found(body, [("code128 A", {"text": {"Url": "a\\b\nc"}})])
         layout = found.labels[0].layout
         assert isinstance(layout, SvgLayout)
-        self.assertEqual([one.data for one in layout.symbols], [b"a\\b\nc", b"A"])
+        self.assertEqual([symbol.data for symbol in layout.symbols], [b"a\\b\nc", b"A"])
 
     def test_a_second_symbol_that_is_refused_leaves_its_label_out(self) -> None:
         body = f'<rect data-place="Ean, ean13" x="2" y="2" width="45" height="16"/>{CODE}'

@@ -50,10 +50,10 @@ def printed(name: str, form: str, dpi: int) -> jobs.Dots:
     return jobs.pictures_of_pbm(done.stdout)[0]
 
 
-def is_same(one: jobs.Dots, other: jobs.Dots) -> bool:
+def is_same(dots: jobs.Dots, other: jobs.Dots) -> bool:
     """Whether dots are the same; paper that is wider than them is white."""
     wide = other.shape[1]
-    return numpy.array_equal(one[:, :wide], other) and not one[:, wide:].any()
+    return numpy.array_equal(dots[:, :wide], other) and not dots[:, wide:].any()
 
 
 def rows_of(dots: jobs.Dots) -> list[str]:
@@ -80,8 +80,10 @@ class Drawings(unittest.TestCase):
                     ["pdfimages", "-list", "a.pdf"], cwd=folder, stdout=subprocess.PIPE, check=True
                 )
             names, _, *pictures = listed.stdout.decode().splitlines()
-            at = names.split().index("x-ppi") + 1  # the number of its object is two words
-            wide = [int(one.split()[at]) for one in pictures if " stencil " not in one]
+            column = names.split().index("x-ppi") + 1  # the number of its object is two words
+            wide = [
+                int(picture.split()[column]) for picture in pictures if " stencil " not in picture
+            ]
             self.assertEqual({dots // 10 for dots in wide} - {29, 30}, set(), listed.stdout)
             self.assertTrue(wide)
 

@@ -359,8 +359,8 @@ class FullDisks(Desk):
         done = printed("--journal", self.path, "--only", "1")
         self.assertEqual(done.returncode, 0)
         head, first, mark = Path(self.path).read_bytes().splitlines(keepends=True)
-        both = len(head + first)
-        for size in (4, len(head), both - 1, both, both + len(mark) + 5):
+        full = len(head + first)
+        for size in (4, len(head), full - 1, full, full + len(mark) + 5):
             with self.subTest(size=size):
                 os.unlink(self.path)
                 done = self.begin("--journal", self.path, code=f"limit({size})", stdout=PIPE).done()
@@ -371,7 +371,7 @@ class FullDisks(Desk):
                 self.assertEqual((len(labels), len(set(labels))), (30, 30))
                 is_doubtful = b"may be on paper" in rest.stderr
                 self.assertEqual(rest.returncode, int(is_doubtful), rest.stderr)
-                self.assertEqual(is_doubtful, size == both)
+                self.assertEqual(is_doubtful, size == full)
 
     def test_a_last_line_whose_end_has_no_room(self) -> None:
         """It is not taken out: its label may be on paper."""
@@ -410,7 +410,7 @@ class Streams(Desk):
         """Once, but of each text that is shortened; these lines are no answers."""
         place = '<rect data-place="title, lines=1" x="2" y="2" width="20" height="4"/>'
         titles = ("A long title of many words", "A", "Another long title of words")
-        lines = "".join(f'#{{"title":"{one}","price":"1,00"}}\nqr A\n' for one in titles)
+        lines = "".join(f'#{{"title":"{title}","price":"1,00"}}\nqr A\n' for title in titles)
         path = designs.written(Path(self.folder, "own.svg"), place + designs.CODE)
         words = ("--design", str(path), "--to", "zpl", "--dpi", "203", "--stream")
         done = support.printed(*words, input=lines.encode())

@@ -322,8 +322,8 @@ class Ends(Desk):
         """
         path = f"{self.folder}/labels"
         label, other = labels_in(printed(input=b"qr A\nqr B\n"))
-        both = len(label + other)
-        for name, room in (("/dev/full", 9), (path, len(label) - 1), (path, both - 1)):
+        size_of_two = len(label + other)
+        for name, room in (("/dev/full", 9), (path, len(label) - 1), (path, size_of_two - 1)):
             found = self.limited_answers(name, room, b"qr A\nqr B\n").splitlines()
             self.assertRegex(found[-1], rb"^unsent (1|2) standard output: (No space|File too)")
             self.assertEqual([line[:7] for line in found[:-1]], [b"taken 1"] * (room >= len(label)))
@@ -352,8 +352,8 @@ class Ends(Desk):
                     done = printed("--journal", self.path, input=TICKETS[:20])
         self.assertEqual(done.returncode, 0, done.stderr)
         first = [Path(self.folder).name, "journal sending", "sent", "labels sending"]
-        both = "sending taken sending"
-        self.assertEqual(order, [*first, f"journal {both}", "sent", f"labels {both}"])
+        synced = "sending taken sending"
+        self.assertEqual(order, [*first, f"journal {synced}", "sent", f"labels {synced}"])
         self.assertEqual(self.events(), ["sending", "taken"] * 2)
 
     def test_a_journal_in_place_of_a_stream_that_is_closed(self) -> None:

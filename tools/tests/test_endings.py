@@ -20,7 +20,7 @@ import jobs
 import support
 from labeltools.common.messages import ToolError
 from labeltools.common.process import CommandTalk
-from labeltools.lines.file import LineRecord, read_lines
+from labeltools.lines.file import read_lines, Record
 
 LABELS = [
     (
@@ -66,7 +66,7 @@ def said_after(form: str, labels: int) -> tuple[str, ...]:
     return (message,) if labels else ("", message)
 
 
-def records_of(data: bytes) -> tuple[LineRecord, ...]:
+def records_of(data: bytes) -> tuple[Record, ...]:
     """The lines of a file."""
     return read_lines(data, "lines").records
 
@@ -126,9 +126,8 @@ class FileBetween(unittest.TestCase):
         line = f"qr \x0b\x1c\u2028\n{END}"
         data = f"{HEAD}# of others\r\x0b\x0c\n\n#{json.dumps(fields)}\n{line}".encode()
         (record,) = records_of(data)
-        label = record.label
         self.assertEqual((record.number, record.data.decode()), (5, "\x0b\x1c\u2028"))
-        found = (label.title, label.text, label.price, label.copies)
+        found = (record.title, record.text, record.price, record.copies)
         self.assertEqual(found, ("a\u00a0b", ("c\nd",), "1 €", 1))
 
     def test_files_and_standard_input(self) -> None:

@@ -21,7 +21,7 @@ TABLES = [
 
 def check_letter(place: str) -> str:
     """The letter of the sum of the signs, each times its place from 1 on, modulo 23, a prime."""
-    total = sum(at * (SIGNS.index(sign) + 1) for at, sign in enumerate(place, 1))
+    total = sum(number * (SIGNS.index(sign) + 1) for number, sign in enumerate(place, 1))
     return LETTERS[total % 23]
 
 
@@ -41,8 +41,8 @@ class Examples(unittest.TestCase):
         self.assertEqual((head, len(rows)), ("Place,Check", 144))
         for place, letter in (row.split(",") for row in rows):
             self.assertEqual(letter, check_letter(place), place)
-            for at in range(len(place) - 1):
-                other = place[:at] + place[at + 1] + place[at] + place[at + 2 :]
+            for left in range(len(place) - 1):
+                other = place[:left] + place[left + 1] + place[left] + place[left + 2 :]
                 self.assertTrue(other == place or check_letter(other) != letter, (place, other))
 
     def test_service(self) -> None:

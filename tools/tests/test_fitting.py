@@ -28,7 +28,7 @@ def lines_in(layout: Any) -> list[str]:
     """The lines of a layout of Pango, without the spaces and ends behind them."""
     written = layout.get_text().encode()
     parts = [(line.start_index, line.length) for line in layout.get_lines_readonly()]
-    return [written[at : at + size].decode().rstrip(" " + LINE_END) for at, size in parts]
+    return [written[start : start + size].decode().rstrip(" " + LINE_END) for start, size in parts]
 
 
 def places_of(layout: Any) -> list[tuple[float, float]]:
@@ -42,11 +42,11 @@ def places_of(layout: Any) -> list[tuple[float, float]]:
         line = lines.get_line_readonly()
         _, logical = lines.get_line_extents()
         part = written[line.start_index : line.start_index + line.length].decode()
-        at = line.start_index
+        index = line.start_index
         for letter in part.rstrip(" "):
-            place = logical.x + line.index_to_x(at, False)
+            place = logical.x + line.index_to_x(index, False)
             found.append((place / UNIT, lines.get_baseline() / UNIT))
-            at += len(letter.encode())
+            index += len(letter.encode())
         if not lines.next_line():
             return found
 

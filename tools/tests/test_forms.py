@@ -73,7 +73,7 @@ def bars_of(data: bytes, dpi: int) -> tuple[slice, slice, jobs.Dots]:
 
 def modules_of(item: LaidOut) -> jobs.Dots:
     """The dots of the bars of a label."""
-    modules = item.label.modules
+    modules = item.record.modules
     bits = jobs.bits_of(modules.rows(), modules.width)
     box = item.layout.boxes["bars"]
     wide = bits.repeat(box.width // modules.width, axis=1)
@@ -101,7 +101,7 @@ class SameDots(unittest.TestCase):
         for form, dots in shown.items():
             ink = jobs.ink_of(dots)
             self.assertTrue(
-                all(abs(one - other) <= 3 for one, other in zip(ink, code)), (form, ink, code)
+                all(abs(side - other) <= 3 for side, other in zip(ink, code)), (form, ink, code)
             )
         self.assertTrue(numpy.array_equal(shown["zpl"], shown["pbm"]))
 
@@ -113,9 +113,9 @@ class Zpl(unittest.TestCase):
 
     def test_copies_are_counted_by_the_printer(self) -> None:
         """Labels that are the same and follow one another are one label with ^PQ."""
-        one = (LINES[0], {"title": "Seife", "copies": 500})
-        other = (LINES[0], {"title": "Heft", "copies": 2})
-        job = self.job([one, one, other, one, (LINES[1], {"copies": 1})])
+        soap = (LINES[0], {"title": "Seife", "copies": 500})
+        book = (LINES[0], {"title": "Heft", "copies": 2})
+        job = self.job([soap, soap, book, soap, (LINES[1], {"copies": 1})])
         self.assertEqual(re.findall(rb"\^PQ([0-9]+)\n", job), [b"1000", b"2", b"500"])
         self.assertEqual(job.count(b"^XA"), 4)
         self.assertEqual(len(jobs.dots_of_zpl(job)), 1503)

@@ -15,7 +15,7 @@ from typing import Any, Iterator
 from unittest import mock
 
 import support
-from labeltools.lines.reasons import reason_of, REASONS
+from labeltools.lines.reasons import LineFault, REASONS, refused_line
 
 
 LANGUAGES = sorted(path.stem for path in (support.TOOLS / "po").glob("*.po"))
@@ -111,12 +111,13 @@ def entries(text: bytes) -> str:
 def texts_of_tools() -> dict[str, str]:
     """The entries of the texts of the tools, as xgettext finds them."""
     words = ["xgettext", "--language=Python", "--from-code=UTF-8", "--output=-"]
-    words += [f"--keyword={one}" for one in KEYWORDS]
+    words += [f"--keyword={keyword}" for keyword in KEYWORDS]
     found = subprocess.run([*words, *sources()], capture_output=True, check=True).stdout
     window = ["xgettext", "--language=Glade", "--from-code=UTF-8", "--output=-"]
     window += [str(support.TOOLS / "labeltools/window/window.ui")]
-    both = entries(found), entries(subprocess.run(window, capture_output=True, check=True).stdout)
-    return {one: many for text in both for one, many in ENTRY.findall(text)}
+    of_window = subprocess.run(window, capture_output=True, check=True).stdout
+    files = entries(found), entries(of_window)
+    return {text: plural for file in files for text, plural in ENTRY.findall(file)}
 
 
 def has_words(text: str) -> bool:
@@ -144,7 +145,7 @@ def is_literal(node: ast.expr) -> bool:
 
 def in_words() -> list[tuple[str, str]]:
     """The texts that name options in words, each behind what it needs."""
-    return [(needs, text) for needs, _, text in (one.partition(": ") for one in IN_WORDS)]
+    return [(needs, text) for needs, _, text in (line.partition(": ") for line in IN_WORDS)]
 
 
 def texts_of_windows() -> set[str]:
@@ -169,7 +170,8 @@ def remedies(is_shown: bool = False) -> set[str]:
             if isinstance(node, ast.Call) and getattr(node.func, "id", "") == "Remedy":
                 if is_shown and len(node.args) < 3 and not node.keywords:
                     continue
-                found |= {one.value for one in node.args[:1] if isinstance(one, ast.Constant)}
+                options = [word for word in node.args[:1] if isinstance(word, ast.Constant)]
+                found |= {option.value for option in options}
             elif isinstance(node, ast.Call) and getattr(node.func, "id", "") == "map":
                 if not is_shown and getattr(node.args[0], "id", "") == "Remedy":
                     found |= {*ast.literal_eval(node.args[1])}
@@ -186,10 +188,11 @@ def says() -> list[tuple[str, str]]:
                 named.setdefault(ast.unparse(node.targets[0]), []).append(node.value)
         for node in nodes_of(path):
             if isinstance(node, ast.Call) and getattr(node.func, "id", "") in ("Remedy", "replace"):
-                said = [one.value for one in node.keywords if one.arg == "says"] or node.args[2:3]
+                by_name = [keyword.value for keyword in node.keywords if keyword.arg == "says"]
+                said = by_name or node.args[2:3]
                 option = node.args[0].value if isinstance(node.args[0], ast.Constant) else ""
-                for one in said:
-                    for value in named.get(ast.unparse(one), [one]):
+                for expression in said:
+                    for value in named.get(ast.unparse(expression), [expression]):
                         found += [(option, text) for text in templates_in(value)]
     return found
 
@@ -197,10 +200,10 @@ def says() -> list[tuple[str, str]]:
 def templates_in(node: ast.expr) -> list[str]:
     """The templates of the texts that an expression may be."""
     return [
-        ast.literal_eval(one.args[0])
-        for one in ast.walk(node)
-        if isinstance(one, ast.Call) and getattr(one.func, "id", "") == "Text"
-        if is_literal(one.args[0])
+        ast.literal_eval(call.args[0])
+        for call in ast.walk(node)
+        if isinstance(call, ast.Call) and getattr(call.func, "id", "") == "Text"
+        if is_literal(call.args[0])
     ]
 
 
@@ -215,9 +218,9 @@ class German(unittest.TestCase):
         for name, call, templates in calls():
             shown = f"{name}: {ast.unparse(call)}"
             self.assertTrue(all(map(is_literal, call.args[:templates])), shown)
-            for one in call.args[templates:]:
-                is_text = isinstance(one, ast.Constant) and has_words(str(one.value))
-                self.assertFalse(is_text or isinstance(one, ast.JoinedStr), shown)
+            for field in call.args[templates:]:
+                is_text = isinstance(field, ast.Constant) and has_words(str(field.value))
+                self.assertFalse(is_text or isinstance(field, ast.JoinedStr), shown)
 
     def test_each_text_is_in_each_language_with_its_fields(self) -> None:
         support.needs("xgettext", "msgcat")
@@ -232,14 +235,14 @@ class German(unittest.TestCase):
                 found = entries(file)
                 others = dict(OTHER_OF.findall(found))
                 plurals = dict(ENTRY.findall(found))
-                lacking = [one for one in texts if has_words(one) and not others.get(one)]
+                lacking = [text for text in texts if has_words(text) and not others.get(text)]
                 self.assertEqual(lacking, [])
                 self.assertEqual(sorted({*others} - {*texts}), [], "texts that no tool has")
                 for text in others:
                     self.assertEqual(plurals[text], texts[text])
-                    for one in re.findall('"(.+)"', others[text]):
-                        self.assertEqual(fields_of(one), fields_of(text), text)
-                        self.assertEqual(judged_of(one), judged_of(text), text)
+                    for form in re.findall('"(.+)"', others[text]):
+                        self.assertEqual(fields_of(form), fields_of(text), text)
+                        self.assertEqual(judged_of(form), judged_of(text), text)
                 if language == "fr":  # no line may break before these signs
                     self.assertNotRegex("".join(others.values()), "(?<!fc-list) [:;?!]")
 
@@ -256,8 +259,8 @@ class German(unittest.TestCase):
         words are only reached by commands and typed options, and may only become fewer.
         """
         support.needs("xgettext", "msgcat")
-        named = {one for one in texts_of_tools() if "--" in one}
-        (of_journal,) = (one for one in named if "line of the journal" in one)
+        named = {text for text in texts_of_tools() if "--" in text}
+        (of_journal,) = (text for text in named if "line of the journal" in text)
         self.assertEqual(named - {of_journal}, {text for _, text in in_words()})
         other = texts_of_windows()
         for needs, text in in_words():
@@ -297,7 +300,7 @@ class German(unittest.TestCase):
         for name, (text, words) in tables.items():
             capitals: Any = {
                 "one_text": in_capitals,
-                "ngettext": lambda one, many, count: in_capitals(one if count == 1 else many),
+                "ngettext": lambda text, plural, count: in_capitals(text if count == 1 else plural),
             }
             with mock.patch.multiple("labeltools.common.text", **capitals):
                 ran = support.run_here("label-table", *words, "--summary", input=text.encode())
@@ -390,17 +393,26 @@ class German(unittest.TestCase):
         """Its reasons are those of labels(1), which stay English."""
         source = (support.TOP / "crates/labelcore/src/message.rt").read_text()
         cases = source.partition("fn first_words")[2].partition("\n}")[0]
-        texts = [one.template for one in REASONS]
+        texts = [reason.template for reasons in REASONS.values() for reason in reasons]
         for first in re.findall(r'=> "([^"]+)"', cases):
-            self.assertEqual(len([one for one in texts if one.startswith(first)]), 1, first)
-        for message, template, fields in (
-            ("check digit is 2, should be 1", "check digit is {}, should be {}", ("2", "1")),
-            ("data does not fit version 10-H", "data does not fit version 10-{}", ("H",)),
-            ("no data", "no data", ()),
-            ("something new", "{}", ("something new",)),
+            self.assertEqual(len([text for text in texts if text.startswith(first)]), 1, first)
+        for number, message, template, fields in (
+            (7, "check digit is 2, should be 1", "check digit is {}, should be {}", ("2", "1")),
+            (10, "data does not fit version 10-H", "data does not fit version 10-{}", ("H",)),
+            (4, "no data", "no data", ()),
+            (99, "something new", "{}", ("something new",)),
         ):
-            text = reason_of(message)
-            self.assertEqual((text, text.template, text.fields), (message, template, fields))
+            text = refused_line(number, message).what
+            self.assertEqual((str(text), text.template), (message, template))
+            self.assertEqual(text.fields, fields)
+
+    def test_faults_have_the_numbers_of_the_library(self) -> None:
+        """Each has a reason."""
+        header = (support.TOP / "lib/labels.h").read_text()
+        names = re.findall(r"^    LABELS_(\w+)", header.partition("enum labels_code {")[2], re.M)
+        for fault in LineFault:
+            self.assertEqual(names[fault], fault.name)
+        self.assertEqual({*REASONS}, {*LineFault})
 
 
 if __name__ == "__main__":

@@ -13,6 +13,7 @@ import support
 from guess_tables import small_tables, tables, Verdict, verdict_of
 from labeltools.common.messages import Silence
 from labeltools.sheets.file_options import FileOptions
+from labeltools.tables.candidates import is_weight
 from labeltools.tables.guess import Guess, guess, guess_of
 from labeltools.tables.name_words import column_words
 from labeltools.tables.scores import WEIGHTS
@@ -90,6 +91,7 @@ class Guesses(unittest.TestCase):
 
     def test_the_row_of_the_names(self) -> None:
         names, row = NAMES, ROW
+        long_names = ";".join(f"The {letter} of the article, as in the shop" for letter in "wxyz")
         for above, header in (
             ("", 1),
             ("Preisliste;;;\n;;;\n", 3),
@@ -97,7 +99,7 @@ class Guesses(unittest.TestCase):
             ("Liste;Stand:;01.11.2026;\n", 2),
             ("fa;fb;fc;fd\n", 2),  # names that a program has for itself
             ("Pflicht;Pflicht;Pflicht;Pflicht\n", 2),
-            (";".join(f"The {one} of the article, as in the shop" for one in "wxyz") + "\n", 2),
+            (f"{long_names}\n", 2),
             ("Preisliste, Stand Mai\n", 2),  # one that has no delimiter, or another one
             ("Preisliste\nMai\n\nStand 1\n", 5),
         ):
@@ -178,10 +180,10 @@ class Guesses(unittest.TestCase):
                 said = support.run_here("label-table", path).stderr.decode()
                 self.assertIn(f"most codes in {name} are not EAN or UPC: ", said)
                 proposed = commands_in(said)
-                self.assertEqual(proposed, [f"--code {name} {one} {path}" for one in ways])
-                for one in proposed:
-                    done = support.run_here("label-table", *shlex.split(one))
-                    self.assertIn(b'"row"', done.stdout, one)
+                self.assertEqual(proposed, [f"--code {name} {way} {path}" for way in ways])
+                for command in proposed:
+                    done = support.run_here("label-table", *shlex.split(command))
+                    self.assertIn(b'"row"', done.stdout, command)
                     self.assertNotIn(b"most codes", done.stderr)
                 done = support.run_here("label-table", *shlex.split(ways[0]), path)
                 self.assertIn(f"--code {name} {ways[0]} {path}", support.messages(done)[-1])
@@ -206,7 +208,7 @@ class Guesses(unittest.TestCase):
             (short[:2], False),
             ((*short, "72651101041"), False),  # this one is no UPC
         ):
-            text = "UPC\n" + "".join(f"{one}\n" for one in codes)
+            text = "UPC\n" + "".join(f"{code}\n" for code in codes)
             said, done = self.proposed_and_run(text)
             self.assertEqual("--fill-zeros" in said and "most codes" not in said, is_sure, codes)
             if is_sure:
@@ -413,10 +415,11 @@ class Guesses(unittest.TestCase):
         self.assertEqual(guess(carton, 1).doubts, {"code": [0, 1]})
         plain = [["Item no", *NUMBERS[1]], ["EAN", *CODES], ["Carton EAN", *CODES[::-1]]]
         self.assertEqual(guess(plain, 1).columns, {"code": 1})
-        both = [["Inventory number", *NUMBERS[1]], ["EAN", *CODES]]  # which a shop may have, too
-        self.assertEqual(guess(both, 1).columns, {"code": 1})
-        both = [["Ticket number", *NUMBERS[1]], ["Barcode", *NUMBERS[0]]]
-        self.assertEqual(guess(both, 1).columns, {"code": 1})
+        # an inventory number a shop may have, too
+        numbered = [["Inventory number", *NUMBERS[1]], ["EAN", *CODES]]
+        self.assertEqual(guess(numbered, 1).columns, {"code": 1})
+        tickets = [["Ticket number", *NUMBERS[1]], ["Barcode", *NUMBERS[0]]]
+        self.assertEqual(guess(tickets, 1).columns, {"code": 1})
         few = [["Item no", *NUMBERS[1]], ["EAN", CODES[0], "", ""]]
         self.assertEqual(guess(few, 1).columns, {"code": 1})
         few[0][0] = "PZN"
@@ -437,7 +440,7 @@ class Guesses(unittest.TestCase):
         self.assertEqual(guess(books, 1).columns, {"code": 0})
         urls = [
             ["code", "1201", "1202", "1203"],
-            ["image", *(f"https://x.example/{n}" for n in "abc")],
+            ["image", *(f"https://x.example/{letter}" for letter in "abc")],
         ]
         self.assertEqual(guess(urls, 1).columns, {"code": 0})
 
@@ -511,9 +514,9 @@ class Guesses(unittest.TestCase):
             (("short",), ("long",)),
         ):
             for kind, other in itertools.product(kinds, others):
-                both = {one for one in words[kind].all if words[other].has(one)}
-                both |= {one for one in words[other].all if words[kind].has(one)}
-                self.assertEqual(both, set(), f"{kind} and {other}")
+                shared = {word for word in words[kind].all if words[other].has(word)}
+                shared |= {word for word in words[other].all if words[kind].has(word)}
+                self.assertEqual(shared, set(), f"{kind} and {other}")
 
     def check_proposals(self, folder: Path) -> None:
         """Racks, lots, short numbers and tickets, and what was given, in two commands."""
@@ -582,8 +585,8 @@ class Codes(unittest.TestCase):
     def test_two_numbers_of_articles_are_asked_about(self) -> None:
         """Nothing says which of them a scanner is to read: the shop's, or the maker's."""
         for names in ("Producer code;Item no.", "Stock number;SKU", "Kennung;Artikelnummer"):
-            both = [[name, *numbers] for name, numbers in zip(names.split(";"), NUMBERS)]
-            found = guess([["Title", "Tea", "Book", "Gum"], *both], 1)
+            columns = [[name, *numbers] for name, numbers in zip(names.split(";"), NUMBERS)]
+            found = guess([["Title", "Tea", "Book", "Gum"], *columns], 1)
             self.assertEqual((found.doubts, "code" in found.columns), ({"code": [1, 2]}, False))
         for name, is_asked in (("Artikelnummer", False), ("Kennung", False), ("Telefon", True)):
             found = guess([["Title", "Tea", "Book", "Gum"], [name, *NUMBERS[0]]], 1)
@@ -612,8 +615,8 @@ class Codes(unittest.TestCase):
         """Both are another one in each row; a name that is not known is asked about."""
         of_museum = ["1956.012", "1956.013a", "1971.104"]
         for names in ("priref;Objektnummer", "Object record ID;Account object number"):
-            program, thing = names.split(";")
-            found = guess([[program, "40012", "40013", "40014"], [thing, *of_museum]], 1)
+            of_program, of_thing = names.split(";")
+            found = guess([[of_program, "40012", "40013", "40014"], [of_thing, *of_museum]], 1)
             self.assertIn(1, found.doubts.get("code", [found.columns.get("code")]), names)
         serial = ["Seriennummer", "5CG1432XKJ", "5CG1432XKL", "CN0H7P2A"]
         found = guess([["Mittel-ID", "LAP00124", "LAP00125", "MON00310"], serial], 1)
@@ -657,7 +660,6 @@ class Codes(unittest.TestCase):
             ("Name DE;Name EN", [1]),
             ("Name EN;Name DE", []),
             ("Name;Name EN", [1]),
-            ("Aufdruck;Merkmal", []),
         ):
             columns = [[name, *texts] for name in names.split(";")]
             found = guess([["EAN", *CODES], *columns], 1)
@@ -701,7 +703,7 @@ class Codes(unittest.TestCase):
         sheet = Sheet([["EAN"], [CODES[0]], ["4006381333932"]], hidden=(2,))
         for kind in KINDS:
             found = guess_of(kind(sheet), "x", TableOptions(), Silence())
-            self.assertIn("a digit is wrong", found.codes[0].problem)
+            self.assertIn("a digit is wrong", str(found.codes[0].problem))
 
     def test_numbers_of_articles_are_no_titles(self) -> None:
         columns = [["Item", *NUMBERS[1]], ["UPC", *CODES], ["Desc", "Tea", "Book", "Gum"]]
@@ -753,8 +755,8 @@ class Prices(unittest.TestCase):
             ("Brutto;Web price", ["0,25", "0,35", "1,05"], HIGH),
             ("Price;Cost price", [""] * 3, [""] * 3),
         ):
-            one, other = names.split(";")
-            found = guess([codes, name, [one, *first], [other, *second]], 1)
+            left, right = names.split(";")
+            found = guess([codes, name, [left, *first], [right, *second]], 1)
             self.assertNotEqual(found.columns.get("price"), 2, names)
             self.assertEqual(found.doubts.get("price", [3]), [3], names)
         for few in ("Ordinary price", "Shop price"):  # which are named beside it
@@ -815,8 +817,8 @@ class Prices(unittest.TestCase):
             ("Price;Retail price", 2),
             ("Price;Sale price", None),
         ):
-            one, other = names.split(";")
-            found = guess([codes, [one, *bare], [other, *whole]], 1)
+            left, right = names.split(";")
+            found = guess([codes, [left, *bare], [right, *whole]], 1)
             self.assertEqual(found.columns.get("price"), wanted, names)
         reduced = [["Tag price", *whole], ["Current price", *whole[:2], "4.28", "6.40"]]
         self.assertNotEqual(guess([codes, *reduced], 1).columns.get("price"), 1)
@@ -872,9 +874,16 @@ class Weights(unittest.TestCase):
     def test_no_table_that_weights_are_not_made_from_gets_a_wrong_command(self) -> None:
         judged = [table for table in tables() if not table.is_fitted]
         found = [verdict_of(table, table.guess())[0] for table in judged]
-        self.assertEqual([found.count(one) for one in (Verdict.WRONG, Verdict.BOLD)], [0, 0])
+        self.assertEqual((found.count(Verdict.WRONG), found.count(Verdict.BOLD)), (0, 0))
         self.assertGreater(found.count(Verdict.RIGHT), LEAST_RIGHT * len(judged))
         self.assertLess(found.count(Verdict.NEEDLESS), MOST_NEEDLESS * len(judged))
+
+    def test_each_fact_and_weight_has_a_table_whose_verdict_it_changes(self) -> None:
+        """And one that changes none is named: so no rule stays that nobody needs."""
+        self.assertEqual([*guess_fit.needless_parts(guess_fit.parts())], [])
+        same = guess_fit.Part(is_weight.__name__, is_weight)
+        self.assertEqual([*guess_fit.needless_parts([same])], [same.title])
+        self.assertEqual([*guess_fit.needless_parts([guess_fit.Part("new")])], [" new"])
 
 
 if __name__ == "__main__":

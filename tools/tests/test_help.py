@@ -65,7 +65,7 @@ class Help(unittest.TestCase):
         self.assertEqual({*pages}, languages)
         for page in pages.values():
             for part in ("^## ", r"^\d\. ", r"^!\["):
-                counts = {len(re.findall(part, one, re.M)) for one in (page, pages["C"])}
+                counts = {len(re.findall(part, text, re.M)) for text in (page, pages["C"])}
                 self.assertEqual(len(counts), 1, part)
 
     def test_controls_are_named_as_the_screen_does(self) -> None:

@@ -62,6 +62,8 @@ class Install(unittest.TestCase):
                 languages = [path.stem for path in (support.TOP / "tools/po").glob("*.po")]
                 locale = "labeltools/locale/{}/LC_MESSAGES/label-tools.mo"
                 wanted |= {locale.format(language) for language in languages}
+                shown = command_of("git", "ls-files", "designs/*.svg", "docs/pictures/design-*")
+                wanted |= {f"designs/{Path(name).name}" for name in shown.split()}
             else:
                 wanted |= {"lib/examples/read.py", "tools/tests/printers.py"}
             top = self.folder / place
@@ -214,7 +216,7 @@ class Notices(unittest.TestCase):
         crates: set[str] = {word for _, words in lines for word in words.split()} - own
         for crate in [*crates]:
             code = [path.read_text(encoding="utf-8") for path in (kit / crate).rglob("src/**/*.rt")]
-            taken = {name for it in code for name in re.findall(r"\b(\w+)::", it)}
+            taken = {name for source in code for name in re.findall(r"\b(\w+)::", source)}
             crates |= {name for name in taken if [*(kit / name).glob("LICENSE*")]}
         self.assertEqual(crates, {"arrayvec", "clap", "itoa", "strsim", "thiserror"})
         notices = " ".join(text("debian/copyright").replace("\n .\n", "\n").split())

@@ -4,16 +4,31 @@ label does not shrink the others.
 
 import itertools
 import os
+import subprocess
 import unittest
-from typing import Any, Sequence
+from typing import Any, Iterator, Sequence
 
+import numpy
+
+import jobs
 import support
+from labeltools.common.messages import Silence
 from labeltools.designs.framed import styled_text
 from labeltools.layout.area import ROLL_SMALLEST
 from labeltools.layout.frame import PRICE_STYLES
-from labeltools.layout.letters import extent_of, FONT, Letters, OTHER_FONT
+from labeltools.layout.layout import LaidOut
+from labeltools.layout.letters import (
+    extent_of,
+    FONT,
+    Letters,
+    OTHER_FONT,
+)
+from labeltools.lines.library import labels_library
 from labeltools.lines.symbologies import SYMBOLOGIES
-from laying import laid_out, look
+from labeltools.printing.job import planned, PrintOptions
+from labeltools.printing.press import labels_of, Prepared
+from laying import documents_of, Laid, laid_out, look, NO_EDGES
+from rendering import rendered
 
 EVERY = (
     "ean13 400638133393",
@@ -33,6 +48,7 @@ FULL: dict[str, Any] = {
 }
 FULL_BUT_TITLE = {**FULL, "title": "Seife"}
 PRICED = {"title": "Bleistift, weich, 2B", "price": "0,80 €"}
+COPIED = ("12,99 €", "$3.75", "CHF 11.95", "19,90 EUR", "kr 9,95", "2,11€", "7.50", "1.50 zł")
 # millimetres
 SIZES = (
     (20.0, 10.0),
@@ -50,6 +66,18 @@ SIZES = (
     (105.0, 74.0),
     (105.0, 148.0),
 )
+STOCKS = (
+    ((63.5, 38.1), 600),
+    ((38.1, 21.2), 600),
+    ((70.0, 37.0), 300),
+    ((99.1, 38.1), 600),
+    ((105.0, 74.0), 300),
+    ((60.0, 40.0), 203),
+    ((50.0, 25.0), 203),
+    ((57.0, 32.0), 300),
+    ((40.0, 30.0), 300),
+    ((100.0, 50.0), 203),
+)
 HOSTILE = (
     "Å̂Çg jpqy",
     "日本語のとても長い名前をもつ商品です、二行になります",
@@ -64,9 +92,62 @@ def setUpModule() -> None:
     os.environ["LABELS"] = str(support.labels_program())
 
 
+def sheet_of(data: bytes, size: tuple[float, float]) -> Prepared:
+    """Labels of a size for a PDF, each on a page."""
+    job = planned(PrintOptions(cell=size, columns=1, rows=1, page=size, edge=NO_EDGES, to="pdf"))
+    return labels_of(job, "lines", data, Silence())
+
+
+def copied(data: bytes, size: tuple[float, float]) -> str:
+    """What is copied from a PDF of one label of a size."""
+    (document,) = documents_of(sheet_of(data, size))
+    words = ["pdftotext", "-layout", "-", "-"]
+    done = subprocess.run(words, input=document, capture_output=True, check=True)
+    return "\n".join(line.strip() for line in done.stdout.decode().splitlines())
+
+
+def digits_in_pdf(line: bytes) -> Iterator[Any]:
+    """The digits below the bars of a line in a PDF, each in one size."""
+    job = planned(PrintOptions(cell=(60, 40), columns=1, rows=1, page=(60, 40), to="pdf", dpi=600))
+    prepared = labels_of(job, "lines", line, Silence())
+    (document,) = documents_of(prepared)
+    page = rendered(["pdftoppm", "-r", "600", "-mono", "FILE", "out"], document)
+    (item,) = prepared.laid_out.labels
+    (corner,) = job.plan.places
+    box, module = item.layout.boxes["digits"], item.layout.module
+    left, top = corner[0] + box.left, corner[1] + box.top
+    for place in item.layout.symbology.places:
+        inside = page[
+            top : top + box.height, left + place.left * module : left + place.right * module
+        ]
+        (inked,) = inside.any(axis=0).nonzero()
+        for part in numpy.split(inked, (numpy.diff(inked) > 1).nonzero()[0] + 1):
+            yield in_one_size(inside[:, part[0] : part[-1] + 1])
+
+
+def form_of(digit: str) -> Any:
+    """A digit as liblabels draws it in dots, in the same size."""
+    glyphs = labels_library()._glyphs
+    wide = 20 * glyphs.WIDTH
+    dots = jobs.bits_of(
+        [(row << -wide % 8).to_bytes((wide + 7) // 8, "big") for row in glyphs.rows_of(digit, 20)],
+        wide,
+    )
+    (inked,) = dots.any(axis=0).nonzero()
+    return in_one_size(dots[:, inked[0] : inked[-1] + 1])
+
+
+def in_one_size(dots: Any) -> Any:
+    """Dots of a digit, from its first row with ink to the last one, as 40 rows of 24."""
+    (rows,) = dots.any(axis=1).nonzero()
+    high, wide = rows[-1] + 1 - rows[0], dots.shape[1]
+    down, across = numpy.arange(40) * high // 40 + rows[0], numpy.arange(24) * wide // 24
+    return dots[numpy.ix_(down, across)].astype(float)
+
+
 def filed(*fields: dict[str, Any], line: str = "ean13 400638133393") -> bytes:
     """A file of labels of one line."""
-    return support.file_of([(line, dict(one)) for one in fields])
+    return support.file_of([(line, dict(label)) for label in fields])
 
 
 class Boxes(unittest.TestCase):
@@ -144,7 +225,7 @@ class Frames(unittest.TestCase):
             cut = (
                 "row 9: a text is too long, so it ends in “…”: shorten it, or choose a larger label"
             )
-            said = [remark.reason for remark in laid.prepared.remarks]
+            said = [str(remark.reason) for remark in laid.prepared.remarks]
             self.assertEqual(said, [cut] if frame.lines == 1 else [])
 
     def test_a_wide_price_among_many_equal_labels(self) -> None:
@@ -214,7 +295,7 @@ class Sizes(unittest.TestCase):
                 for item in laid.labels:
                     module = laid.millimetres(item.layout.module)
                     symbology = item.layout.symbology
-                    seen.add(item.label.record.symbology)
+                    seen.add(item.record.symbology)
                     least = 0.25
                     if symbology.is_number:
                         least = ROLL_SMALLEST if is_roll else 0.264
@@ -227,7 +308,7 @@ class Sizes(unittest.TestCase):
         data = "".join(f"{line}\n" for line in EVERY[:4]).encode()
         for size, dpi in itertools.product(SIZES, (203, 300, 600)):
             laid = laid_out(data, size, dpi, design="shelf", is_roll=True)
-            seen |= {item.label.record.symbology for item in laid.labels}
+            seen |= {item.record.symbology for item in laid.labels}
             for item in laid.labels:
                 self.assertGreaterEqual(laid.millimetres(item.layout.boxes["bars"].height), 5, size)
         self.assertEqual(seen, {*SYMBOLOGIES} - {"qr"})
@@ -253,11 +334,21 @@ class Words(unittest.TestCase):
         for place in places:
             self.assertTrue(any(span.left - 2 <= place < span.right for span in spans), places)
 
+    def test_digits_of_a_drawing_are_those_of_the_library(self) -> None:
+        """In a PDF they have the forms of OCR-B that liblabels draws in dots."""
+        support.needs("pdftoppm")
+        data = "0123456578901230"
+        seen = [*digits_in_pdf(b"ean8 0123456\n"), *digits_in_pdf(b"ean8 7890123\n")]
+        for digit, form in zip(data, seen, strict=True):
+            far = [float(abs(form - form_of(other)).mean()) for other in "0123456789"]
+            self.assertEqual(far.index(min(far)), int(digit), far)
+            self.assertLess(min(far), 0.08, digit)
+
     def test_shortened_titles_are_said_before_anything_is_drawn(self) -> None:
         data = filed(PRICED, {**PRICED, "title": LONG * 3}, {**PRICED, "text": ["x" * 300]})
         laid = laid_out(data, (60.0, 40.0), 300)
         self.assertEqual(
-            [remark.reason for remark in laid.prepared.remarks],
+            [str(remark.reason) for remark in laid.prepared.remarks],
             [
                 "rows 3-4: a text is too long, so it ends in “…”: shorten it, or choose a larger label"
             ],
@@ -269,7 +360,7 @@ class Words(unittest.TestCase):
         kilos, grams = {"title": f"{long}1 kg"}, {"title": f"{long}500 g"}
         other = {"title": f"Roter {long}1 kg"}
         laid = laid_out(filed(kilos, grams, other, other), (60.0, 40.0), 300)
-        first, second = [remark.reason for remark in laid.prepared.remarks]
+        first, second = [str(remark.reason) for remark in laid.prepared.remarks]
         self.assertEqual(
             first,
             "rows 2-5: a text is too long, so it ends in “…”: shorten it, or choose a larger label",
@@ -294,10 +385,10 @@ class Words(unittest.TestCase):
         )
         cut = 0
         for item in laid.labels:
-            text, style = styled_text("title", item.label, item.layout, laid.pen.letters)
+            text, style = styled_text("title", item.record, item.layout, laid.pen.letters)
             width = item.layout.boxes["title"].width
             layout = laid.pen.fitter.laid_out(text, style, width, style.size)
-            self.assertEqual(laid.pen.is_shortened(item), layout.is_ellipsized(), item.label.title)
+            self.assertEqual(laid.pen.is_shortened(item), layout.is_ellipsized(), item.record.title)
             cut += layout.is_ellipsized()
         self.assertTrue(5 < cut < 150, cut)
 
@@ -312,7 +403,7 @@ class Prices(unittest.TestCase):
         look(self, laid, item)
         box = item.layout.boxes["price"]
         texts = laid.pen.texts(item)
-        return [one for one in texts if one.box.top == box.top and one.box.height == box.height]
+        return [text for text in texts if text.box.top == box.top and text.box.height == box.height]
 
     def test_cents_are_raised_where_that_makes_the_price_larger(self) -> None:
         plain = laid_out(
@@ -334,8 +425,30 @@ class Prices(unittest.TestCase):
             laid = laid_out(rows, (63.5, 38.1), 300, has_raised_cents=is_wished)
             (item,) = laid.labels
             self.assertFalse(laid.fault(item))
-            bold = [one for one in laid.pen.texts(item) if one.style.is_bold]
+            bold = [text for text in laid.pen.texts(item) if text.style.is_bold]
             self.assertEqual(len(bold) - 1, parts, is_wished)
+
+    def test_a_raised_price_is_copied_whole(self) -> None:
+        """In a PDF its parts are letters of one line, and the currency is behind the cents."""
+        support.needs("pdftotext")
+        parts = 0
+        for price in COPIED:
+            parts += len(self.numbers(price, (63.5, 38.1)))
+            said = copied(filed({"title": "Seife", "price": price}), (63.5, 38.1))
+            self.assertIn(price, said.split("\n"))
+        self.assertGreater(parts, 2 * len(COPIED))
+
+    def test_raised_prices_have_one_font_of_a_pdf(self) -> None:
+        """The digits of cents are other glyphs than those before them; a page that changes fonts
+        within its prices takes longer to draw and to read.
+        """
+        support.needs("pdffonts")
+        rows = filed(*({"title": "Seife", "price": f"{n}{n},{n}{n} €"} for n in range(1, 10)))
+        (document,) = documents_of(sheet_of(rows, (63.5, 38.1)))
+        done = subprocess.run(["pdffonts", "-"], input=document, capture_output=True, check=True)
+        fonts = [line.split()[0].partition(b"+")[2] for line in done.stdout.splitlines()[2:]]
+        self.assertEqual(len(fonts), len({*fonts}), fonts)
+        self.assertEqual(len(fonts), 3)  # of digits below bars, titles and prices
 
     def test_prices_that_have_no_cents_stay_whole(self) -> None:
         for price in ("12 €", "1.250", "1,259 €/l", "2 für 3,00 €", "٣٫٢٠"):
@@ -349,8 +462,9 @@ class Prices(unittest.TestCase):
             for item in laid.labels:
                 box = item.layout.boxes["price"]
                 texts = laid.pen.texts(item)
-                inside = [one for one in texts if one.box.top == box.top and not one.style.struck]
-                parts = [one for one in inside if one.style.is_bold and not one.style.lines]
+                beside = [text for text in texts if text.box.top == box.top]
+                inside = [text for text in beside if not text.style.struck]
+                parts = [text for text in inside if text.style.is_bold and not text.style.lines]
                 seen.add(len(parts))
                 if len(parts) > 1:
                     self.assertGreaterEqual(laid.millimetres(parts[1].text.size) * 0.729, 2.2)
@@ -364,7 +478,7 @@ class Prices(unittest.TestCase):
                 laid = laid_out(filed(line), size, 300, design=design, is_roll=True)
                 (item,) = laid.labels
                 look(self, laid, item)
-                struck = [one for one in laid.pen.texts(item) if one.style.struck]
+                struck = [text for text in laid.pen.texts(item) if text.style.struck]
                 self.assertEqual(len(struck), 1)
                 seen += struck[0].box.top == item.layout.boxes["price"].top
         self.assertGreater(seen, 0)
@@ -372,16 +486,67 @@ class Prices(unittest.TestCase):
     def test_nothing_is_smaller_than_in_wide_letters(self) -> None:
         fields = [FULL, PRICED, FULL_BUT_TITLE]
         for line, size in itertools.product(EVERY, SIZES):
-            data = support.file_of([(line, one) for one in fields])
+            data = support.file_of([(line, label) for label in fields])
             laid = laid_out(data, size, 300, is_roll=True)
             wide = laid_out(data, size, 300, is_roll=True, font=WIDE)
             self.assertEqual(len(laid.labels), len(wide.labels), (line, size))
-            for one, other in zip(laid.labels, wide.labels):
-                self.assertGreaterEqual(one.layout.module, other.layout.module)
-                bars, before = one.layout.boxes["bars"], other.layout.boxes["bars"]
+            for narrow, widened in zip(laid.labels, wide.labels):
+                self.assertGreaterEqual(narrow.layout.module, widened.layout.module)
+                bars, before = narrow.layout.boxes["bars"], widened.layout.boxes["bars"]
                 self.assertGreaterEqual(bars.height, before.height)
-                for kind, least in other.layout.frame.sizes.items():
-                    self.assertGreaterEqual(one.layout.frame.sizes[kind], least, (line, size))
+                for kind, least in widened.layout.frame.sizes.items():
+                    self.assertGreaterEqual(narrow.layout.frame.sizes[kind], least, (line, size))
+
+
+class Edges(unittest.TestCase):
+    """Words and codes begin at one edge, or have one middle."""
+
+    NEAR = 1.0  # millimetres
+
+    def edges(self, laid: Laid, item: LaidOut, *names: str) -> tuple[float, float]:
+        """Where the ink in boxes of a label begins and ends, in millimetres."""
+        found = item.layout.boxes
+        boxes = [found[name] for name in names if name in found]
+        dots = laid.dots(item)
+        ends = []
+        for box in boxes:
+            (inked,) = dots[box.top : box.bottom, box.left : box.right].any(axis=0).nonzero()
+            ends += [box.left + inked[0], box.left + inked[-1] + 1]
+        return laid.millimetres(min(ends)), laid.millimetres(max(ends))
+
+    def test_title_price_and_code_have_one_edge(self) -> None:
+        fields = [{"title": "Butter", "price": "2,80 €"}, {"title": "Butter"}, FULL_BUT_TITLE]
+        seen = set[str]()
+        for (size, dpi), design in itertools.product(STOCKS, ("article", "shelf")):
+            for line, label in itertools.product(EVERY, fields):
+                laid = laid_out(filed(label, line=line), size, dpi, design=design, is_roll=True)
+                for item in laid.labels:
+                    frame = item.layout.frame
+                    what = (size, dpi, design, line, label, frame.boxes)
+                    seen.add(frame.alignment)
+                    title = self.edges(laid, item, "title")
+                    code = self.edges(laid, item, "bars", "digits")
+                    if frame.kind == "below":
+                        bars = item.layout.boxes["bars"]
+                        middle = laid.millimetres(bars.left + bars.width / 2)
+                        self.assertAlmostEqual(sum(title) / 2, middle, delta=self.NEAR, msg=what)
+                    elif frame.kind != "beside":
+                        self.assertAlmostEqual(title[0], code[0], delta=self.NEAR, msg=what)
+                    if frame.alignment == "left" and "price" in frame.boxes:
+                        price = self.edges(laid, item, "price")
+                        self.assertAlmostEqual(price[0], code[0], delta=self.NEAR, msg=what)
+        self.assertGreaterEqual(seen, {"below", "left", "split"})
+
+    def test_unit_prices_can_be_read(self) -> None:
+        """Their digits are 2 mm high where there is room, which is the case on most stocks."""
+        line = {"title": "Butter", "price": "2,80 €", "unit": "1 kg = 5,98 €"}
+        heights = []
+        for (size, dpi), design in itertools.product(STOCKS, ("article", "shelf")):
+            laid = laid_out(filed(line), size, dpi, design=design, is_roll=True)
+            letters = laid.millimetres(laid.labels[0].layout.frame.sizes["details"])
+            heights.append(0.729 * letters)
+        self.assertGreaterEqual(min(heights), 1.5)
+        self.assertGreaterEqual(sum(height >= 2 for height in heights), 14, heights)
 
 
 class Measures(unittest.TestCase):

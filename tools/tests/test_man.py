@@ -118,11 +118,11 @@ class Pages(unittest.TestCase):
         parsers = {label_print: label_print.print_parser(), label_table: label_table.table_parser()}
         for (module, parser), least in zip(parsers.items(), (6, 2)):
             options = parser._actions
-            options = [it for it in options if it.option_strings and it.default]
-            named |= {it.option_strings[0]: it.default for it in options}
+            options = [option for option in options if option.option_strings and option.default]
+            named |= {option.option_strings[0]: option.default for option in options}
             found = defaults_of(f"{module.TOOL}.1")
             self.assertGreaterEqual(len(found), least)
-            self.assertEqual(found, {it: typed(named[it]) for it in found})
+            self.assertEqual(found, {name: typed(named[name]) for name in found})
             for option in options:
                 for said in re.findall(r"\(([\w. ]+)\)$", option.help or ""):
                     self.assertEqual(said, typed(option.default), option.option_strings)

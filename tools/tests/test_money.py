@@ -26,7 +26,7 @@ def outcome(text: str) -> object:
     try:
         return money.parse.__wrapped__(text)
     except money.NotMoney as error:
-        return error.what
+        return str(error.what)
 
 
 class Prices(unittest.TestCase):

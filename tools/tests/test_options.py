@@ -172,15 +172,15 @@ class Cells(unittest.TestCase):
         return jobs.pictures_of_pbm(done.stdout)
 
     def test_first(self) -> None:
-        one, other = self.pages(), self.pages("--first", "3")
-        self.assertEqual((len(one), len(other)), (1, 2))
-        half = one[0].shape[0] // 2
+        pages, moved = self.pages(), self.pages("--first", "3")
+        self.assertEqual((len(pages), len(moved)), (1, 2))
+        half = pages[0].shape[0] // 2
         self.assertTrue(
             numpy.array_equal(
-                one[0][:half], numpy.roll(other[0], -round(40 / 25.4 * 150), axis=0)[:half]
+                pages[0][:half], numpy.roll(moved[0], -round(40 / 25.4 * 150), axis=0)[:half]
             )
         )
-        self.assertFalse(other[0][:half].any())
+        self.assertFalse(moved[0][:half].any())
         done = support.printed(*self.GRID, "--first", "5", input=support.file_of(SHELF))
         self.assertEqual((done.returncode, done.stdout), (2, b""))
         done = support.printed("--paper", "60x40", "--first", "3", input=support.file_of(SHELF))
@@ -318,8 +318,8 @@ class Files(unittest.TestCase):
         self.assertEqual(sorted(os.listdir(self.folder / "data")), names)
 
     def test_names_that_come_twice(self) -> None:
-        for one, other in (("a/b", "a:b"), ("A", "a"), ("x" * 100 + "1", "x" * 100 + "2")):
-            done = self.each("twice/%s.png", f"qr {one}\nqr {other}\n".encode())
+        for code, other in (("a/b", "a:b"), ("A", "a"), ("x" * 100 + "1", "x" * 100 + "2")):
+            done = self.each("twice/%s.png", f"qr {code}\nqr {other}\n".encode())
             self.assertEqual(done.returncode, 1)
             self.assertIn(b"two labels would be the file", done.stderr)
             self.assertFalse((self.folder / "twice").exists())
@@ -368,8 +368,8 @@ class ReadBack(unittest.TestCase):
     def test_a_wrong_label(self) -> None:
         laid = laid_out(b"ean13 400638133393\nean13 501234567890\n", (60.0, 40.0), 300)
         first, second = laid.labels
-        record = first.label.record._replace(modules=second.label.modules)
-        wrong = replace(first, label=replace(first.label, record=record))
+        record = first.record._replace(drawn=second.record.modules)
+        wrong = replace(first, record=record)
         self.assertIsNone(laid.fault(first))
         self.assertEqual(laid.fault(wrong), "as drawn it is read as b'5012345678900'")
 

@@ -231,7 +231,7 @@ class Paper(unittest.TestCase):
         for size in ((45.0, 30.0), (50.0, 30.0), (52.0, 74.0)):
             double = (2 * size[0], 2 * size[1])
             small, large = (
-                words_of(printed([label], *roll(one, 600)))[0] for one in (size, double)
+                words_of(printed([label], *roll(paper, 600)))[0] for paper in (size, double)
             )
             for word in ("12,80", "Seife"):
                 ratio = size_of(large, word) / size_of(small, word)
@@ -298,7 +298,9 @@ class Together(unittest.TestCase):
 
     def test_one_wide_price_shrinks_no_other(self) -> None:
         """Ten prices of six letters are as large as without one of thirteen, which is said."""
-        usual: list[Label] = [(EAN, {"title": "Heft", "price": f"1{n},95 €"}) for n in range(10)]
+        usual: list[Label] = [
+            (EAN, {"title": "Heft", "price": f"1{number},95 €"}) for number in range(10)
+        ]
         wide: Label = (EAN, {"title": "Klavier", "price": "12.999,00 zł!"})
         arguments = roll((40.0, 35.0), 600)
         without = words_of(printed(usual, *arguments))
@@ -423,8 +425,8 @@ class Forms(unittest.TestCase):
         wanted = pictures(labels, *arguments)
         found = jobs.dots_of_zpl(printed(labels, *arguments, "--to", "zpl"))
         self.assertEqual(len(found), len(wanted))
-        for one, other in zip(found, wanted):
-            self.assertTrue(numpy.array_equal(one, other))
+        for dots, other in zip(found, wanted):
+            self.assertTrue(numpy.array_equal(dots, other))
 
     def test_some_symbologies_without_a_price(self) -> None:
         self.check([(EAN, PRICED), (QR, {"title": "Regal 7"})])
@@ -462,7 +464,7 @@ class Forms(unittest.TestCase):
         svg = "\n".join(line for line in svg.splitlines() if "rgb(100%" not in line)
         path = r"M ([0-9.]+) ([0-9.]+) L ([0-9.]+) \2 L \3 ([0-9.]+) L \1 \4 Z"
         found = {tuple(map(float, match)) for match in re.findall(path, svg)}
-        bars = {(one[0], one[2]): (one[1], one[3]) for one in sorted(found)}
+        bars = {(left, right): (top, bottom) for left, top, right, bottom in sorted(found)}
         bottom = max(end for _, end in bars.values())
         guards = [place for place, (_, end) in bars.items() if end == bottom]
         top = min(start for start, _ in bars.values())
@@ -544,7 +546,7 @@ class Shelf(unittest.TestCase):
         self.assertEqual((done.returncode, done.stderr), (0, b""))
         done = support.run("label-print", *roll((60.0, 40.0), 600), input=done.stdout)
         words = [word[0] for word in words_of(done.stdout)[0]]
-        self.assertTrue({"3,95", "5,90", "2,", "95"} <= set(words), words)
+        self.assertTrue({"3,95", "5,90", "2,95"} <= set(words), words)
 
     def test_a_note_is_on_each_label(self) -> None:
         labels: list[Label] = [(EAN, PRICED), (EAN, {**PRICED, "text": ["rot"]})]

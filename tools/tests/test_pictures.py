@@ -37,7 +37,7 @@ class Pictures(unittest.TestCase):
                         path = Path(folder, f"{design}-{number}-{place}.pbm")
                         dots = laid.dots(item, 40).repeat(2, axis=0).repeat(2, axis=1)
                         path.write_bytes(jobs.pbm_of(dots))
-                        seen.append((item.label.record.data.decode(), path))
+                        seen.append((item.record.data.decode(), path))
             read = [self.is_read(data, path) for data, path in seen]
         self.assertGreater(len(read), 80)
         self.assertTrue(all(read))

@@ -72,9 +72,11 @@ class Pages(unittest.TestCase):
     def test_labels_that_are_left_out_are_values(self) -> None:
         data = support.file_of([LABELS[0], ("ean13 4006381333932", {})])
         found = labels_of(self.job, "lines", data, Silence())
-        (one,) = found.left_out
-        self.assertEqual(one.origin, Origin("articles.xlsx", "row", 3))
-        self.assertEqual((one.data, one.reason), ("4006381333932", "check digit is 2, should be 1"))
+        (record,) = found.left_out
+        self.assertEqual(record.origin, Origin("articles.xlsx", "row", 3))
+        self.assertEqual(
+            (record.data, str(record.reason)), ("4006381333932", "check digit is 2, should be 1")
+        )
 
     def test_work_that_is_stopped_leaves_no_file(self) -> None:
         for end in (1, 2, 3):

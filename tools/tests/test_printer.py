@@ -188,7 +188,7 @@ class Heads(unittest.TestCase):
 class Symbologies(unittest.TestCase):
     def test_numbers(self) -> None:
         """The others take any data, and their bars are as wide as there is room for."""
-        found = {name for name, one in SYMBOLOGIES.items() if one.is_number}
+        found = {name for name, symbology in SYMBOLOGIES.items() if symbology.is_number}
         self.assertEqual(found, {"ean13", "ean8", "upca"})
 
 
@@ -380,10 +380,12 @@ class Queues(unittest.TestCase):
         said = "job [0-9]+; it waits in the queue: plain: it is paused; cupsenable plain lets it go on\n$"
         self.assertRegex(printed("cupsdisable"), said)
         sent = SentJob("plain", int(re.findall("job ([0-9]+)", printed("cupsdisable"))[0]))
-        self.assertEqual(sent.state().trouble, "plain: it is paused")
+        self.assertEqual(str(sent.state().trouble), "plain: it is paused")
         subprocess.run(["cancel", "-a", "plain"], check=True)
         state = sent.state()
-        self.assertEqual((state.trouble, state.is_over), (f"job {sent.number} was cancelled", True))
+        self.assertEqual(
+            (str(state.trouble), state.is_over), (f"job {sent.number} was cancelled", True)
+        )
         self.assertNotIn("paused", printed("cupsenable"))
         self.assertIn('plain: Destination "plain" is not accepting jobs', printed("cupsreject"))
         subprocess.run(["cupsaccept", "plain"], check=True)
@@ -475,6 +477,16 @@ class Queues(unittest.TestCase):
         self.assertIn(said, done.stderr.decode().replace("; ", ": "))
         self.scheduler.change("four", "QQPlaces=TopLeft")
         self.assertEqual(self.printed(*self.SHEET, "--print", "four").returncode, 0)
+
+    def test_a_driver_that_prints_each_page_several_times(self) -> None:
+        """No job can ask CUPS for another choice of that option."""
+        self.add("often", "vendor")
+        self.scheduler.change("often", "Copies=3")
+        done = self.printed(*self.SHEET, "--print", "often")
+        self.assertEqual(done.returncode, 2)
+        self.assertIn("often is set to Copies: 3, which could change labels", done.stderr.decode())
+        self.scheduler.change("often", "Copies=1")
+        self.assertEqual(self.printed(*self.SHEET, "--print", "often").returncode, 0)
 
     def test_how_dark_a_queue_prints_stays(self) -> None:
         before, after = self.jobs_of("vendor", "QQDarkness=High")
@@ -638,7 +650,7 @@ class Queues(unittest.TestCase):
         sent = SentJob("home", int(re.findall("job ([0-9]+)", said)[0]), title=name)
         self.assertTrue(sent.state().is_printed)  # no job of this name is there
         with mock.patch("labeltools.sending.ipp.state_at_printer", return_value=ABORTED):
-            self.assertEqual(sent.state().trouble, f"the printer gave up job {sent.number}")
+            self.assertEqual(str(sent.state().trouble), f"the printer gave up job {sent.number}")
 
     def meanwhile(self, queue: str, act: Callable[[], object]) -> str:
         """What label-print says if something is done while CUPS tries to print."""

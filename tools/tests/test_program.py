@@ -248,7 +248,7 @@ def code128_of_one(byte: int) -> str:
     table = support.TOP / "crates/linear/specs/Tables.antt"
     widths = re.findall(r"\b[1-4]{6,7}\b", table.read_text(encoding="utf-8"))
     start, value = (103, byte + 64) if byte < 32 else (104, byte - 32)
-    shown = [widths[it] for it in (start, value, (start + value) % 103, 106)]
+    shown = [widths[number] for number in (start, value, (start + value) % 103, 106)]
     bars = "".join("10"[place % 2] * int(width) for place, width in enumerate("".join(shown)))
     return f"{10 * '0'}{bars}{10 * '0'}"
 

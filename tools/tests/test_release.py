@@ -100,12 +100,12 @@ class Release(unittest.TestCase):
             if file.startswith(OF_THE_WINDOW)
         }
         self.assertEqual(with_window, {"label-window"})
-        with_pages = {name for name, names in packages.items() if any(".md" in it for it in names)}
+        with_pages = {name for name, names in packages.items() for file in names if ".md" in file}
         self.assertEqual(with_pages, {"labels-doc"})
         wheels = [file for file in packages["python3-liblabels"] if file.endswith(".whl")]
         self.assertEqual([Path(file).parts[:2] for file in wheels], [("share", "python-wheels")])
-        packed = {Path(it).name for it in files if not it.startswith("share/man/")}
-        self.assertEqual({it for it in packed if it.endswith(".gz")}, {"changelog.gz"})
+        packed = {Path(file).name for file in files if not file.startswith("share/man/")}
+        self.assertEqual({name for name in packed if name.endswith(".gz")}, {"changelog.gz"})
         (program,) = self.release.glob("labels_*_amd64.deb")
         self.assertLess(program.stat().st_size, MOST_OF_LABELS)
 
@@ -136,7 +136,7 @@ class Rules(unittest.TestCase):
         recipes = [read(name) for name in ("Makefile", "lib/Makefile")]
         recipes[0] = recipes[0].split("\ninstall: all")[1].split("\ndebian/changelog:")[0]
         calls = {*COMMAND.findall("\n".join(recipes).replace("\\\n", " "))}
-        paths = {str(Path(path).resolve()) for it in calls if (path := shutil.which(it))}
+        paths = {str(Path(path).resolve()) for call in calls if (path := shutil.which(call))}
         self.assertIn("/usr/bin/msgfmt", paths)
         found = subprocess.run(["dpkg", "-S", *paths], capture_output=True, text=True).stdout
         owners = {line.partition(":")[0] for line in found.splitlines()}
@@ -144,7 +144,9 @@ class Rules(unittest.TestCase):
         given = {*re.findall(r"(?m)^yes (.*)$", base)}
         named = re.findall(r"(?m)^Build-Depends: (.*)$", read("debian/control"))[0]
         given |= {*re.findall(r"[\w.+-]+", named), "binutils", "gcc", "make"}  # of build-essential
-        self.assertEqual({it for it in owners if it.partition("-x86")[0] not in given}, set())
+        self.assertEqual(
+            {owner for owner in owners if owner.partition("-x86")[0] not in given}, set()
+        )
 
     def test_a_release_for_amd64_needs_nothing_of_arm64(self) -> None:
         """Without the kit and without a library for arm64; a message says so."""

@@ -6,12 +6,13 @@ import io
 import re
 import sys
 import unittest
+from operator import attrgetter
 from unittest import mock
 
 import support
 from labeltools.common.messages import Origin, ToolError, write_message
 from labeltools.common.text import Text
-from labeltools.lines.file import first_remark, Label, label_lines, last_remark, read_lines
+from labeltools.lines.file import first_remark, last_remark, read_lines, Record, record_lines
 from labeltools.lines.symbologies import SYMBOLOGIES
 
 # the keys of settings of each symbology, as the filter's own source has them
@@ -35,7 +36,8 @@ class Messages(unittest.TestCase):
     def test_what_a_message_says_and_what_to_do(self) -> None:
         error = ToolError(Text("there is no sheet"), Text("give --sheet"), 2)
         self.assertEqual(
-            (str(error), error.what), ("there is no sheet: give --sheet", "there is no sheet")
+            (str(error), str(error.what)),
+            ("there is no sheet: give --sheet", "there is no sheet"),
         )
         self.assertEqual(str(ToolError(Text("there is no sheet"))), "there is no sheet")
 
@@ -53,7 +55,7 @@ class Symbologies(unittest.TestCase):
         return found
 
     def test_the_keys_of_settings_are_those_of_the_filter(self) -> None:
-        wanted = {name: one.settings for name, one in SYMBOLOGIES.items()}
+        wanted = {name: symbology.settings for name, symbology in SYMBOLOGIES.items()}
         self.assertEqual(self.keys_of_the_filter(), wanted)
 
     def test_the_modules_are_those_that_labels_draws(self) -> None:
@@ -76,20 +78,21 @@ class Symbologies(unittest.TestCase):
 
 class LinesFile(unittest.TestCase):
     LABELS = (
-        Label(2, "Pencil\n2B", ("red",), "0,80 €", "8 €/kg", "1,00 €", 3),
-        Label(4),
+        Record(2, "Pencil\n2B", ("red",), "0,80 €", "8 €/kg", "1,00 €", 3),
+        Record(4),
     )
 
     def file(self) -> bytes:
         lines = [first_remark("articles.xlsx")]
-        lines.append(label_lines(self.LABELS[0], f"ean13 {CODE[:-1]}", True))
-        lines.append(label_lines(self.LABELS[1], "qr,level=Q a\\nb", False))
+        lines.append(record_lines(self.LABELS[0], f"ean13 {CODE[:-1]}", True))
+        lines.append(record_lines(self.LABELS[1], "qr,level=Q a\\nb", False))
         lines.append(last_remark(2, [3, 5]))
         return "".join(lines).encode()
 
     def test_what_is_written_is_read(self) -> None:
         found = read_lines(self.file(), "x")
-        self.assertEqual(tuple(record.label for record in found.records), self.LABELS)
+        label = attrgetter("row", "shown", "copies", "names")
+        self.assertEqual([*map(label, found.records)], [*map(label, self.LABELS)])
         places = [record.origin for record in found.records]
         self.assertEqual(places, [Origin("articles.xlsx", "row", row) for row in (2, 4)])
         data = [(record.number, record.symbology, record.data) for record in found.records]
@@ -117,8 +120,8 @@ class LinesFile(unittest.TestCase):
         problem = "x: line 1 ends in CR LF: a program of Windows has changed the file; "
         problem += "take the file as label-table wrote it"
         self.assertEqual(self.refused(self.file().replace(b"\n", b"\r\n")), problem)
-        some = self.file().replace(b"a\\nb\n", b"a\\nb\r\n")
-        self.assertEqual(self.refused(some), problem.replace("line 1", "line 5"))
+        changed = self.file().replace(b"a\\nb\n", b"a\\nb\r\n")
+        self.assertEqual(self.refused(changed), problem.replace("line 1", "line 5"))
 
     def test_objects_that_are_not_understood(self) -> None:
         for key, value in (

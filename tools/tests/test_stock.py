@@ -66,7 +66,7 @@ class Stock(unittest.TestCase):
         self.assertGreater(len(layouts), 1)
         self.assertEqual(
             len(several.places),
-            sum(int(one.get("nx", 0)) * int(one.get("ny", 0)) for one in layouts),
+            sum(int(grid.get("nx", 0)) * int(grid.get("ny", 0)) for grid in layouts),
         )
         same = stock.glabels_sheet(("Avery", "J8160"))
         self.assertEqual(same, stock.glabels_sheet(("Avery", "L7160")))

@@ -80,7 +80,7 @@ except OSError as error:
 def ean(number: int) -> str:
     """The EAN-13 of a number."""
     digits = f"400{number:09d}"
-    total = sum(int(digit) * (3 if at % 2 else 1) for at, digit in enumerate(digits))
+    total = sum(int(digit) * (3 if place % 2 else 1) for place, digit in enumerate(digits))
     return digits + str(-total % 10)
 
 
@@ -108,7 +108,8 @@ class Words(unittest.TestCase):
 
     def test_remedies(self) -> None:
         remedies = [Remedy("sheet", value) for value in VALUES]
-        self.check([Text("{}", one) for one in remedies], [one.words for one in remedies])
+        said = [Text("{}", remedy) for remedy in remedies]
+        self.check(said, [remedy.words for remedy in remedies])
         side_by_side = [either((Remedy("a", "1"), Remedy("a", value))) for value in VALUES]
         self.check(side_by_side, [("--a", "1", "or", value) for value in VALUES])
 
@@ -119,11 +120,11 @@ class Words(unittest.TestCase):
             with self.assertRaises(ToolError) as caught:
                 list(chosen(sheets, None))
             said.append(caught.exception.hint)
-        one = [Remedy("sheet", value).words for value in VALUES]
-        wanted = [("give", "--sheet", "A", "or", words[-1]) for words in one]
+        options = [Remedy("sheet", value).words for value in VALUES]
+        wanted = [("give", "--sheet", "A", "or", words[-1]) for words in options]
         self.check(
-            [text for text, words in zip(said, one) if len(words) == 2],
-            [line for line, words in zip(wanted, one) if len(words) == 2],
+            [text for text, words in zip(said, options) if len(words) == 2],
+            [line for line, words in zip(wanted, options) if len(words) == 2],
         )
 
     def test_columns_and_files(self) -> None:
@@ -217,7 +218,8 @@ class Bombs(unittest.TestCase):
         self.assertEqual(self.ended(ods(table(["EAN"], [CODE], end=end)), "--code", "EAN"), "")
 
     def test_cells_far_to_the_right(self) -> None:
-        far = "".join(f'<row r="{n}"><c r="XFD{n}"><v>1</v></c></row>' for n in range(3, 100_000))
+        row = '<row r="{0}"><c r="XFD{0}"><v>1</v></c></row>'
+        far = "".join(row.format(number) for number in range(3, 100_000))
         said = self.ended(xlsx(rows(["EAN"], [CODE]) + far), "--code", "EAN")
         self.assertIn(" cells, with the empty ones before others", said)
 
@@ -237,15 +239,15 @@ class Bombs(unittest.TestCase):
         data = xlsx(rows(["EAN"], [CODE]), before="<x>" + "<a/>" * 400_000 + "</x>")
         parts = unpacked(data)
         book = parts["xl/workbook.xml"]
-        one = book[book.index("<sheet ") : book.index("/>", book.index("<sheet ")) + 2]
-        name = one[one.index('name="') + 6 :].partition('"')[0]
+        element = book[book.index("<sheet ") : book.index("/>", book.index("<sheet ")) + 2]
+        name = element[element.index('name="') + 6 :].partition('"')[0]
         others = [
-            re.sub(' state="[a-z]*"', "", one)
-            .replace(f'"{name}"', f'"h{n}"')
+            re.sub(' state="[a-z]*"', "", element)
+            .replace(f'"{name}"', f'"h{number}"')
             .replace("<sheet ", '<sheet state="hidden" ')
-            for n in range(300)
+            for number in range(300)
         ]
-        parts["xl/workbook.xml"] = book.replace(one, one + "".join(others))
+        parts["xl/workbook.xml"] = book.replace(element, element + "".join(others))
         self.assertEqual(self.ended(packed(parts), "--code", "EAN"), "")
 
     def test_a_word_without_an_end(self) -> None:
@@ -263,16 +265,16 @@ class Bombs(unittest.TestCase):
         wanted = ["Käse", "für", "×2", "é", "é", "xé", "zé"]
         self.assertEqual(OTHER_WORD.findall(text), wanted)
         old = text.encode("cp1252")
-        found = [one.decode("cp1252") for one in OTHER_BYTES.findall(old)]
+        found = [part.decode("cp1252") for part in OTHER_BYTES.findall(old)]
         self.assertEqual(found, ["Käse", "für", "×2\u00a0é", "é", "xé", "zé"])
         self.assertEqual(OTHER_LINE.findall(b"a\n\xe4b\nc\xe4\nd"), [b"\xe4b\n", b"c\xe4\n"])
 
     def test_many_columns_of_prices_or_codes(self) -> None:
         count = 250
-        prices = ["EAN;Artikel;" + ";".join(f"Preis {n}" for n in range(count))]
-        codes = [";".join(f"EAN {n}" for n in range(count))]
+        prices = ["EAN;Artikel;" + ";".join(f"Preis {column}" for column in range(count))]
+        codes = [";".join(f"EAN {column}" for column in range(count))]
         for row in range(60):
-            amounts = (f"{n % 97 + 1},{row % 100:02d} €" for n in range(count))
+            amounts = (f"{column % 97 + 1},{row % 100:02d} €" for column in range(count))
             prices.append(f"{ean(row)};Tee {row};" + ";".join(amounts))
             codes.append(";".join([ean(row)] * count))
         for lines in (prices, codes):
@@ -393,6 +395,35 @@ class Inputs(unittest.TestCase):
             os.umask(before)
         self.assertEqual(self.path.read_bytes(), b"22")
         self.assertEqual(self.path.stat().st_mode & 0o777, 0o640)
+
+    def test_a_save_that_was_ended_stops_no_later_one(self) -> None:
+        """On a disk where each file has a name, part of the file is left beside it."""
+        code = (
+            "import os, signal, sys; from io import BytesIO; from pathlib import Path\n"
+            "from labeltools.common import files\n"
+            "files.nameless = lambda folder: None\n"
+            "class Ended:\n"
+            "    def read(self, _):\n"
+            "        os.kill(os.getpid(), signal.SIGKILL)\n"
+            "data = Ended() if sys.argv[2] == 'ended' else BytesIO(b'22')\n"
+            "files.save(data, Path(sys.argv[1], 'a.pdf'))\n"
+        )
+        for word, status in (("ended", -signal.SIGKILL), ("whole", 0)):
+            command = [sys.executable, "-c", code, str(self.path.parent), word]
+            done = subprocess.run(command, capture_output=True, cwd=support.OURS)
+            self.assertEqual(done.returncode, status, done.stderr)
+        self.assertEqual((self.path.parent / "a.pdf").read_bytes(), b"22")
+
+    def test_data_that_are_ways_to_other_folders(self) -> None:
+        """Each file is in the folder that is named."""
+        support.labels_program()  # what is drawn needs the program and its library
+        data = support.file_of([("qr ../../x", {}), ("qr ..", {}), ("qr /etc/passwd", {})])
+        folder = self.path.parent / "labels"
+        words = ("--paper", "60x40", "--dpi", "203", "--to", "png", "--each", f"{folder}/%s")
+        done = support.printed(*words, input=data)
+        self.assertEqual(done.returncode, 0, done.stderr)
+        self.assertEqual(len(os.listdir(folder)), 3)
+        self.assertEqual(os.listdir(self.path.parent), ["labels"])
 
 
 class Private(Desk):
@@ -522,11 +553,11 @@ class Printers(Desk):
     def test_a_count_that_goes_up_and_down(self) -> None:
         """It is not asked for ever."""
         outlet = Swinging()
-        one = watch.Watch(outlet, "zpl", Silence())
-        one.more = None
+        watcher = watch.Watch(outlet, "zpl", Silence())
+        watcher.more = None
         with mock.patch.multiple(watch, IDLE=0.2, LOOKS=(0.001, 0.001), LONGEST=0.3):
-            one.end()
-        self.assertTrue(one.is_stuck)
+            watcher.end()
+        self.assertTrue(watcher.is_stuck)
 
     def test_a_line_without_an_end(self) -> None:
         longest = 2 * stream.LONGEST_LINE
@@ -638,7 +669,7 @@ class Drawings(unittest.TestCase):
         self.addCleanup(svg_page.check_cost.cache_clear)
         with mock.patch("subprocess.run", run):
             self.drawn("--design", self.page(100), "--dpi", "600", "--to", "zpl")
-        self.assertIn(("dots", "2362", "2362"), [tuple(one) for one in tried])
+        self.assertIn(("dots", "2362", "2362"), [tuple(size) for size in tried])
 
     def drawn(self, *words: str) -> None:
         """Draws a label."""

@@ -69,7 +69,7 @@ class Hostile(TableTest):
         parts = unpacked(xlsx(rows(["EAN"], [SMALL])))
         sheet = "xl/worksheets/sheet1.xml"
         begin, end = parts[sheet].split("<sheetData>")
-        stream = io.BytesIO(packed({one: text for one, text in parts.items() if one != sheet}))
+        stream = io.BytesIO(packed({name: text for name, text in parts.items() if name != sheet}))
         with zipfile.ZipFile(stream, "a", zipfile.ZIP_DEFLATED) as archive:
             archive.writestr(sheet, f"{begin}{'<a/>' * MANY}<sheetData>{end}")
         self.assertIn("takes too much", self.ended(stream.getvalue()))

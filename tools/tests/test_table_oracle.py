@@ -123,7 +123,7 @@ def found_in(row: Row, place: int) -> Found:
     try:
         return Found(cell if isinstance(cell, str) else taken_of(cell, PRINTED))
     except RowError as problem:
-        return Found(None, problem.what)
+        return Found(None, str(problem.what))
 
 
 def gnumerics(data: bytes, ending: str) -> Sheet:
@@ -143,8 +143,8 @@ def gnumerics(data: bytes, ending: str) -> Sheet:
             first = int(row.attrib["No"]) + 1
             hidden.update(range(first, first + int(row.get("Count", "1"))))
     kinds = {
-        (int(one.attrib["Row"]) + 1, int(one.attrib["Col"])): one
-        for one in root.iterfind(".//g:Cell", space)
+        (int(element.attrib["Row"]) + 1, int(element.attrib["Col"])): element
+        for element in root.iterfind(".//g:Cell", space)
     }
     cells = {}
     for number, line in enumerate(csv.reader(io.StringIO(text.decode()), delimiter=";"), 1):
@@ -174,9 +174,9 @@ def converted(path: Path, kind: str, *options: str) -> bytes:
     return target.read_bytes()
 
 
-def same(one: str, other: str) -> bool:
+def same(text: str, other: str) -> bool:
     """Whether two texts are the same but for the kind of their spaces, and those at their ends."""
-    return plain(one) == plain(other)
+    return plain(text) == plain(other)
 
 
 def plain(text: str) -> str:
@@ -236,8 +236,8 @@ def is_cut(mine: Found, theirs: Found, number_format: str) -> bool:
     """A time whose last part is one less."""
     if mine.text is None or theirs.text is None or ":" not in number_format:
         return False
-    one, other = (int(re.findall("[0-9]+", text)[-1]) for text in (mine.text, theirs.text))
-    return (one + 1) % 60 == other % 60
+    last, their_last = (int(re.findall("[0-9]+", text)[-1]) for text in (mine.text, theirs.text))
+    return (last + 1) % 60 == their_last % 60
 
 
 DIFFERENCES: dict[str, Difference] = {
@@ -297,9 +297,9 @@ def table_of(numbers: random.Random, columns: int) -> list[list[tuple[Any, str]]
     found = values(numbers)
     first = [next(found) for _ in range(14)]
     for number_format in FORMATS:
-        some = numbers.sample(first, columns // 2)
-        rest = [next(found) for _ in range(columns - len(some))]
-        lines.append([(value, number_format) for value in (*some, *rest)])
+        chosen = numbers.sample(first, columns // 2)
+        rest = [next(found) for _ in range(columns - len(chosen))]
+        lines.append([(value, number_format) for value in (*chosen, *rest)])
     for _ in range(8):
         lines.append(
             [(numbers.choice(TEXTS), numbers.choice(("General", "@"))) for _ in range(columns)]
@@ -350,7 +350,9 @@ def by_xlsxwriter(numbers: random.Random, columns: int) -> Made:
     stream, formats = io.BytesIO(), {}
     book = xlsxwriter.Workbook(stream, {"in_memory": True})
     sheet = book.add_worksheet("Preise")
-    styles = {one: book.add_format({"num_format": one}) for one in FORMATS}
+    styles = {
+        number_format: book.add_format({"num_format": number_format}) for number_format in FORMATS
+    }
     lines = table_of(numbers, columns)
     for row, line in zip(placed(numbers, len(lines)), lines):
         for place, (value, number_format) in enumerate(line):
@@ -447,8 +449,9 @@ class Oracle(unittest.TestCase):
             self.assertGreater(len(mine.hidden), 5, writer)
             for key in sorted(mine.cells.keys() | theirs.cells.keys()):
                 number_format = made.formats.get(key, "General")
-                one, other = mine.cells.get(key, Found("")), theirs.cells.get(key, Found(""))
-                name = self.difference(one, other, number_format)
+                own = mine.cells.get(key, Found(""))
+                other = theirs.cells.get(key, Found(""))
+                name = self.difference(own, other, number_format)
                 cells += 1
                 names[name] += 1
                 self.assertTrue(

@@ -325,7 +325,7 @@ class Titles(RulesTest):
             text = f"EAN\tName\tText\n{PENCIL}\t{first}\tx\n{SMALL}\t{other}\ty\n"
             status, messages, labels = self.said(text, *words, "--delimiter", "tab")
             self.assertEqual((status, messages), (0, [f"{said} {once}"] if said else []))
-            self.assertEqual([one["title"] for one, _ in labels], [first, other])
+            self.assertEqual([label["title"] for label, _ in labels], [first, other])
 
     def test_quotes_around_each_text_of_a_column_are_said(self) -> None:
         said = """each text in column 2 ("Name") is in quotes, as 'Tee' in row 2: it is printed as it is"""
@@ -334,7 +334,7 @@ class Titles(RulesTest):
             (("'Tee'", "Brot", "'Tee, grün'"), []),
             (("'Tee'",), []),  # one may have them
         ):
-            rows = "".join(f"{code};{one}\n" for code, one in zip((PENCIL, SMALL, BOOK), texts))
+            rows = "".join(f"{code};{text}\n" for code, text in zip((PENCIL, SMALL, BOOK), texts))
             done = self.said(f"EAN;Name\n{rows}", *"--code EAN --title Name".split())
             self.assertEqual(done[1], wanted)
 
@@ -346,9 +346,9 @@ class Titles(RulesTest):
         )
         words = "--code EAN --title Title --where Sell=x".split()
         status, messages, labels = self.said(table, *words)
-        self.assertEqual([one.get("title") for one, _ in labels], [None] * 3)
+        self.assertEqual([label.get("title") for label, _ in labels], [None] * 3)
         status, messages, labels = self.said(table, *words, "--variants-of", "Handle")
-        self.assertEqual([one.get("title") for one, _ in labels], ["Shirt", "Cap", None])
+        self.assertEqual([label.get("title") for label, _ in labels], ["Shirt", "Cap", None])
         self.assertEqual(
             messages,
             [
@@ -474,7 +474,7 @@ class Names(RulesTest):
         self.assertEqual(
             [(label["row"], label["title"]) for label, _ in labels], [(6, "Pen"), (7, "Atlas")]
         )
-        data = xlsx(rows(*(one.split(";") for one in lines)))
+        data = xlsx(rows(*(line.split(";") for line in lines)))
         self.assertRegex(self.said(data, *arguments)[1][0], "give --header-row 5$")
         labels = self.said(data, *arguments, "--header-row", "5")[2]
         self.assertEqual([label["row"] for label, _ in labels], [6, 7])
@@ -687,8 +687,8 @@ class Encodings(RulesTest):
                 read = dict(re.findall(r'([\w-]+) reads "([^"]*)"', messages[0]))
                 self.assertLessEqual(len(read), 4)
                 words = text.replace(",", " ").split()
-                right = [one for one, word in read.items() if set(word.split()) <= set(words)]
-                decoded = [one for one in right if data.decode(one).endswith(f"{text}\n")]
+                right = [name for name, word in read.items() if set(word.split()) <= set(words)]
+                decoded = [name for name in right if data.decode(name).endswith(f"{text}\n")]
                 self.assertTrue(decoded, (codec, messages))
 
     def test_an_encoding_is_never_named_twice(self) -> None:

@@ -61,7 +61,7 @@ class Written(WorkbookTest):
 
     def strings(self, before: str = "", after: str = "") -> str:
         """Shared strings, each with something before and after its text."""
-        return "".join(f"<si>{before}<t>{escape(one)}</t>{after}</si>" for one in self.NAMES)
+        return "".join(f"<si>{before}<t>{escape(name)}</t>{after}</si>" for name in self.NAMES)
 
     @support.slow
     def test_each_form_says_the_same_wherever_its_pieces_end(self) -> None:
@@ -130,7 +130,7 @@ class Xlsx(WorkbookTest):
         not_understood = 'has the number format "{}", which is not understood'
         drawn = 'has the number format "{}", and would be drawn as 12'
         no_number = "is the number {}, which is not whole or has too many digits"
-        for one, problem, shown in (
+        for written, problem, shown in (
             (cell(7, style=5), not_understood, '"LOT "0'),
             (cell(7, style=9), not_understood, "000\\-000"),
             ('<c t="str" s="12"><v>100</v></c>', not_understood, '"SKU-"@'),
@@ -142,7 +142,7 @@ class Xlsx(WorkbookTest):
             (cell(1.5), no_number, "1.5"),
             (cell(10**15), no_number, str(10**15)),
         ):
-            texts[one] = f"refused: {problem.format(shown)}: enter it again as text"
+            texts[written] = f"refused: {problem.format(shown)}: enter it again as text"
         self.check_codes(texts, "code128", formats)
 
     def test_cells_that_have_no_value(self) -> None:
@@ -347,15 +347,19 @@ class Formats(WorkbookTest):
             'has the number format "{}", which is not understood',
         )
         day = "is a date before March 1900 or after 9999"
+        as_date = "give --date-as dd.mm.yyyy, or another format"
         language = "has a number format that depends on the language of the spreadsheet"
         long = "is the number 0.333333333333333 in a format without fixed decimals"
         numbers = '# ?/?|0.00E+00|[h]:mm|[>4]0;0|0.00 EUR|000-000|0.00" €|0 0|x'
         days = "d. mmm yyyy|dddd|[$-F800]dddd\\,\\ d|yyy|dd 0|d%0|d%"
         cases: list[tuple[float, str | int, str, str]] = [
-            *((5, one, unknown.format(one), again) for one in numbers.split("|")),
             *(
-                (45678, one, unknown.format(one), "give --date-as dd.mm.yyyy, or another format")
-                for one in days.split("|")
+                (5, number_format, unknown.format(number_format), again)
+                for number_format in numbers.split("|")
+            ),
+            *(
+                (45678, number_format, unknown.format(number_format), as_date)
+                for number_format in days.split("|")
             ),
             *((value, "d", day, again) for value in (60, -1, 2958466)),
             *((5, number, language, again) for number in (22, 44, 999)),
@@ -634,7 +638,8 @@ class LongTables(WorkbookTest):
     def test_many_rows_in_seconds(self) -> None:
         lines = [[PENCIL, "a", cell(0.5, style=1)] for _ in range(20000)]
         head = ["EAN", "Name", "Price"]
-        urls = "".join(f"https://example.com/01/0{PENCIL}/21/{n};x;1\n" for n in range(20000))
+        url = f"https://example.com/01/0{PENCIL}/21"
+        urls = "".join(f"{url}/{number};x;1\n" for number in range(20000))
         pencils = f'{PENCIL};"a, b";1\n' * 20000
         tables: list[tuple[bytes, str, int]] = [
             (f"EAN;Name;Price\n{pencils}".encode(), "auto", 20),

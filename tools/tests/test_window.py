@@ -12,14 +12,14 @@ import threading
 import time
 import unittest
 from contextlib import redirect_stderr, redirect_stdout
-from dataclasses import replace
+from dataclasses import fields, replace
 from functools import partial
 from importlib import import_module
 from io import StringIO
 from itertools import permutations, product
 from pathlib import Path
 from types import SimpleNamespace
-from typing import Any, Callable
+from typing import Any, Callable, Iterator
 from unittest import mock
 from xml.etree import ElementTree
 
@@ -28,9 +28,9 @@ import cairo
 import support
 import test_german
 from labeltools.commands.label_print import print_options
-from labeltools.commands.label_table import understood
+from labeltools.commands.label_table import table_options, understood
 from labeltools.common.arguments import words_of
-from labeltools.common.messages import ToolError
+from labeltools.common.messages import BadArguments, ToolError
 from labeltools.common.text import NOTHING, Text
 from labeltools.drawing.forms import FORMS
 from labeltools.printing.job import planned
@@ -52,19 +52,26 @@ PROGRAMS = ("Xvfb", "pdftoppm", "msgfmt")
 WAIT = 300.0  # seconds for work, on a busy machine too
 BEAT = 10  # milliseconds between two looks at the window
 SCALE = 4  # pixels of a millimetre
-LOADED = "application bar gtk printers questions sheets shop ways window work".split()
+LOADED = (
+    "application bar choices designs further gtk printers questions sheets shop ways widgets window"
+    " work".split()
+)
 # What setUpModule makes.
 screen: Any = None
 scheduler: Any = None
 folder: Any = None
 application: Any = None
 bar: Any = None
+choices: Any = None
+designs: Any = None
+further: Any = None
 printers: Any = None
 gtk: Any = None
 questions: Any = None
 sheets: Any = None
 shop: Any = None
 ways: Any = None
+widgets: Any = None
 window: Any = None
 work: Any = None
 Gdk: Any = None
@@ -104,12 +111,25 @@ def load() -> None:
     """Loads the window, where there is a screen. Nothing moves on it, since each step of a movement
     would be drawn.
     """
-    global application, bar, gtk, printers, questions, sheets, shop, ways, window, work
-    global Gdk, Gio, GLib, Gtk
+    global application, bar, choices, designs, further, gtk, printers, questions, sheets, shop, ways
+    global widgets, window, work, Gdk, Gio, GLib, Gtk
     sys.path.insert(0, str(support.TOOLS))
-    application, bar, gtk, printers, questions, sheets, shop, ways, window, work = (
-        import_module(f"labeltools.window.{name}") for name in LOADED
-    )
+    (
+        application,
+        bar,
+        choices,
+        designs,
+        further,
+        gtk,
+        printers,
+        questions,
+        sheets,
+        shop,
+        ways,
+        widgets,
+        window,
+        work,
+    ) = (import_module(f"labeltools.window.{name}") for name in LOADED)
     Gdk, Gio, GLib, Gtk = gtk.Gdk, gtk.Gio, gtk.GLib, gtk.Gtk
     Gtk.init([])
     Gtk.Settings.get_default().set_property("gtk-enable-animations", False)
@@ -156,6 +176,47 @@ def named(widget: Any) -> Any:
             yield one, one.get_accessible().get_name() or label or labelled
 
 
+def cut_texts(widget: Any) -> Iterator[str]:
+    """Yields the texts in a widget that have less room than they need."""
+    for one in gtk.within(widget):
+        if isinstance(one, Gtk.Label) and one.get_mapped():
+            layout, room = one.get_layout(), one.get_allocation()
+            width, height = layout.get_pixel_size()
+            is_cut = width > room.width + 1 or height > room.height + 1
+            if is_cut or layout.is_ellipsized():
+                yield one.get_text()
+
+
+def show_cut_texts(path: Path) -> None:
+    """Prints the texts that are cut in a window with a table, on a low screen with large letters:
+    with all that it can show, and while it asks how a table is read.
+    """
+    load()
+    gtk.add_style()
+    Gtk.Settings.get_default().set_property("gtk-xft-dpi", 144 * 1024)
+    one = window.Window()
+    one.present()
+    one.resize(1024, 554)
+    one.open(path)
+    while not one.has_labels:
+        settle(0.1)
+    for fold in (one.widgets.more_of_table, one.widgets.more_of_paper, one.widgets.fold):
+        (fold.set_active if fold is one.widgets.fold else fold.set_expanded)(True)
+    with one.filling():
+        given = "--variants-of Handle --encoding cp1252 --decimal point --fill-zeros --links"
+        one.take(given_table=given, given_print="--edge 1 --paper-as-given")
+    for name in questions.BELOW:
+        one.questions.ask(name, questions.which("copies"), [("Preis A  –  19,57", bool)] * 2)
+    settle(0.5)
+    print([*cut_texts(one.get_child())])
+    long = Text(
+        "it is not clear how the letters of {} are stored", "Price list of the old till.csv"
+    )
+    one.questions.ask_of_file(questions.said(long), questions.said(long), [("Füller", bool)] * 4)
+    settle(0.5)
+    print([*cut_texts(one.get_child())])
+
+
 class Keeper(unittest.TestCase):
     """A shop keeper at a window: what he does, and what he sees."""
 
@@ -177,6 +238,11 @@ class Keeper(unittest.TestCase):
         self.window = window.Window()
         self.window.present()
 
+    @property
+    def widgets(self) -> Any:
+        """The widgets of the window that code uses."""
+        return self.window.widgets
+
     def tearDown(self) -> None:
         if not self.has_typed:
             self.check_sentences()
@@ -197,7 +263,7 @@ class Keeper(unittest.TestCase):
         surface = cairo.ImageSurface(cairo.FORMAT_RGB24, *sides)
         canvas = cairo.Context(surface)
         canvas.scale(SCALE, SCALE)
-        shown.draw(canvas, self.window.number.get_value_as_int())
+        shown.draw(canvas, self.widgets.number.get_value_as_int())
         surface.flush()
         data = bytes(surface.get_data())
         return data, data.count(bytes(3))
@@ -226,21 +292,21 @@ class Keeper(unittest.TestCase):
 
     def counted(self) -> Any:
         """What the window says of its labels."""
-        return self.window.count.get_text()
+        return self.widgets.count.get_text()
 
     def answer(self, name: str, **values: Any) -> Any:
         """A dialog of the window that is confirmed, and has these values."""
         calls = {f"{call}.return_value": value for call, value in values.items()}
         confirmed = Gtk.ResponseType.ACCEPT if "get_filename" in values else Gtk.ResponseType.OK
-        setattr(self.window, name, mock.Mock(**{"run.return_value": confirmed, **calls}))
+        dialog = mock.Mock(**{"run.return_value": confirmed, **calls})
+        self.window.widgets = replace(self.widgets, **{name: dialog})
 
     def change(self, **choices: Any) -> None:
         """Changes choices, and waits for the labels; for other words the table is read again."""
         self.has_typed = self.has_typed or bool({"for_table", "for_print"}.intersection(choices))
-        taken = [{name.replace("_", "-"): value} for name, value in choices.items()]
-        self.remade(lambda: [*map(self.window.take, taken)])
-        words = choices.get("for_table", self.window.words)
-        self.until(lambda: self.window.words == words)
+        self.remade(lambda: [self.window.take(**{name: choices[name]}) for name in choices])
+        words = choices.get("for_table", self.window.further.typed)
+        self.until(lambda: self.window.further.typed == words)
         self.until(lambda: self.window.has_labels or self.problem())
 
     def remade(self, change: Callable[[], Any]) -> None:
@@ -256,34 +322,34 @@ class Keeper(unittest.TestCase):
 
     def problem(self) -> Any:
         """What the window asks, or says that it cannot do."""
-        if self.window.stack.get_visible_child_name() == "asking":
-            return f"{self.window.asked.get_text()}\n{self.window.asked_more.get_text()}"
+        if self.widgets.stack.get_visible_child_name() == "asking":
+            return f"{self.widgets.asked.get_text()}\n{self.widgets.asked_more.get_text()}"
         asked = [self.window.questions.box(name) for name in questions.BELOW]
         if texts := [one.text.get_text() for one in asked if one.get_visible()]:
             return texts[0]
         event = self.window.events.event
-        is_wrong = self.window.bar.get_visible() and event.kind == "error"
+        is_wrong = self.widgets.bar.get_visible() and event.kind == "error"
         return event.sentence if is_wrong else ""
 
     def said(self) -> Any:
         """What the bar says, but for where the next labels begin; nothing where it is closed."""
-        text = self.window.bar_text.get_text() if self.window.bar.get_visible() else ""
+        text = self.widgets.bar_text.get_text() if self.widgets.bar.get_visible() else ""
         return text.partition(" The next labels begin")[0]
 
     def happened(self) -> Any:
         """What the list behind the clock says, the newest first."""
-        rows = [row.get_child().get_children() for row in self.window.history_list.get_children()]
+        rows = [row.get_child().get_children() for row in self.widgets.history_list.get_children()]
         return [parts[-1].get_text() for parts in rows]
 
     def answers(self) -> Any:
         """The buttons that help."""
         asked = [self.window.questions.box(name) for name in questions.BELOW]
-        boxes = [one.answers for one in asked if one.get_visible()] + [*self.window.helps]
-        if self.window.stack.get_visible_child_name() == "asking":
-            boxes = [self.window.answers]
+        boxes = [one.answers for one in asked if one.get_visible()] + [*self.widgets.helps]
+        if self.widgets.stack.get_visible_child_name() == "asking":
+            boxes = [self.widgets.answers]
         seen = [one for box in boxes for one in box if one.get_visible()]
         found = {one.get_label() or one.get_child().get_text(): one for one in seen}
-        act = self.window.bar_act
+        act = self.widgets.bar_act
         return {**found, act.get_label(): act} if self.said() and act.get_visible() else found
 
     def said_after(self, work: Callable[..., Any], *values: Any) -> Any:
@@ -322,17 +388,17 @@ class Keeper(unittest.TestCase):
     def confirmed(self, kind: str = "", which: str = "") -> Any:
         """What the window says once Print is pressed, there and in the dialog."""
         GLib.timeout_add(BEAT, self.confirm, kind, which)
-        return self.said_after(self.window.print_button.clicked)
+        return self.said_after(self.widgets.print_button.clicked)
 
     def confirm(self, kind: str, which: str) -> bool:
         """Presses Print in the dialog once that is there; returns whether to look again."""
-        if not self.window.printing.get_visible():
+        if not self.widgets.printing.get_visible():
             return not self.problem()
-        self.window.print_trial.set_active(kind == "trial")
+        self.widgets.print_trial.set_active(kind == "trial")
         if which:
-            self.window.print_what.set_active_id(kind)
-            self.window.print_rows.set_text(which)
-        self.window.printing.response(Gtk.ResponseType.OK)
+            self.widgets.print_what.set_active_id(kind)
+            self.widgets.print_rows.set_text(which)
+        self.widgets.printing.response(Gtk.ResponseType.OK)
         return False
 
     def by_commands(self, *words: Any) -> Any:
@@ -342,12 +408,15 @@ class Keeper(unittest.TestCase):
         return support.run("label-print", *words, input=lines).stdout
 
     def rows(self) -> Any:
-        return [tuple(row) for row in self.window.notes]
+        return [tuple(row) for row in self.widgets.notes]
 
 
 GUM = "EAN;Name;Price\n96385074;Gum;1,00\n"
 TEA = GUM + "4006381333931;Tea;{}\n"
 NOT_YET = GUM + "{};Tea;2,00\n"
+PEN = "EAN;Name;Price\n4006381333931;Pen;1,00\n{};Tea;2,00\n"
+TWO = "EAN;Name;Price\n{};Tea;2,00\n{};Pen;1,00\n"
+IS_AUTO = {"symbology": "auto"}
 OPEN = "EAN;Name;Price\n96385074;Gum;1,200\n4006381333931;Pen;2,500\n"
 CARETS = "EAN^Name\n96385074^Gum\n4006381333931^Tea\n"
 CARET = "EAN^13\n96385074\n4006381333931\n"
@@ -365,10 +434,10 @@ DAYS = rows(NAMED, ["96385074", cell(45678, style=1), "1,00"])
 PRESSED: tuple[tuple[str | bytes, dict[str, Any], str, str], ...] = (
     (NOT_YET.format("36000291452"), {}, "Put lost zeros back in front", "--fill-zeros"),
     (NOT_YET.format("4006350000000"), {}, "Codes may end with zeros", "--allow-zeros"),
-    (NOT_YET.format("3"), {}, "The codes are Code 128", "--symbology code128"),
-    (NOT_YET.format("A-1"), {}, "The codes are QR Code", "--symbology qr"),
+    (TWO.format("3", "4"), IS_AUTO, "The codes are Code 128", "--symbology code128"),
+    (TWO.format("A-1", "A-2"), IS_AUTO, "The codes are QR Code", "--symbology qr"),
     (NOT_YET.format("01234565"), {}, "The codes are EAN-8", "--symbology ean8"),
-    (NOT_YET.format("0000096385074"), {}, "The codes are EAN-13", "--symbology ean13"),
+    (PEN.format("0000096385074"), {}, "The codes are EAN-13", "--symbology ean13"),
     (
         NOT_YET.format("40063813339"),
         {"for_table": BARE},
@@ -376,7 +445,7 @@ PRESSED: tuple[tuple[str | bytes, dict[str, Any], str, str], ...] = (
         f"{BARE} --symbology upca",
     ),
     (NOT_YET.format("4006381333931"), {"for_table": "--symbology ean8"}, "Find their kind", ""),
-    (NOT_YET.format("400638133393"), {}, "The codes have no check digit", BARE),
+    (TWO.format("400638133393", "401234500000"), {}, "The codes have no check digit", BARE),
     (NOT_YET.format("4006381333931"), {"for_table": BARE}, "The codes have a check digit", ""),
     (TEA.format("soon"), {}, "Prices may be any text", "--price-text"),
     (TEA.format("2,0000"), {}, "Print two decimals", "--price-as 0,00"),
@@ -429,15 +498,15 @@ PRESSED: tuple[tuple[str | bytes, dict[str, Any], str, str], ...] = (
     (CARET, {}, "It is data", "--code 1 --delimiter none"),
     (
         GUM.replace("Gum", "Füller").encode("cp1252"),
-        {"for_table": ""},
+        {"given_table": ""},
         "Füller",
         "--encoding cp1252",
     ),
-    (GUM.replace("Gum", "Füller").encode("utf-16-le"), {}, "UTF-16-LE", "--encoding utf-16-le"),
+    (GUM.replace("Gum", "Füller").encode("utf-16-le"), {}, "Füller", "--encoding utf-16-le"),
     (
         GUM.replace("Gum", "Füller").encode(),
         {"for_table": "--encoding cp1252"},
-        "Read it as UTF-8",
+        "Read the letters as they are stored",
         "",
     ),
     (SHEETS, {}, "Tea", "--sheet Tea"),
@@ -453,12 +522,110 @@ PRESSED: tuple[tuple[str | bytes, dict[str, Any], str, str], ...] = (
 )
 
 
+# what a button says that it changes of a label
+CHANGED = {"Draw the address": "code", "As 31.12.2026": "title"}
+# a table, what is chosen before, and a button that would do harm to its first row
+HARMFUL: tuple[tuple[str, dict[str, Any], str], ...] = (
+    (NOT_YET.format("A-1"), {}, "The codes are Code 128"),
+    (NOT_YET.format("3"), {}, "The codes are QR Code"),
+    (NOT_YET.format("0000096385074"), {}, "The codes are EAN-13"),
+    (PEN.format("01234565"), {}, "The codes are EAN-8"),
+    (NOT_YET.format("400638133393"), {}, "The codes have no check digit"),
+    (
+        TWO.format("01234565", "4006381333931"),
+        {"for_table": "--symbology ean8"},
+        "Find their kind",
+    ),
+    (TEA.format("2,0000").replace("1,00", "1,00 €"), {}, "Print two decimals"),
+    (
+        "EAN;Name;Price;Currency\n96385074;Gum;1.00;EUR\n4006381333931;Tea;soon;EUR\n",
+        {"for_table": "--currency Currency"},
+        "Prices may be any text",
+    ),
+)
+
+
 # a driver, the height of labels on its roll, a button that helps, and the words of label-print
 OF_PRINTERS = (
     ("edged", 40, "Keep labels away from the edge", "--edge 4.3,4.3,4.3,4.3"),
     ("general", 40, "Keep labels away from the edge", "--edge 6.4,12.7,6.4,12.7"),
     ("general", 40, "Print on this paper", "--paper-as-given"),
 )
+
+
+class Record(unittest.TestCase):
+    """The widgets of window.ui are those of the record that code has them by."""
+
+    # ids by which tests and pictures for the pages find something, and code does not
+    BY_TESTS = {"left_out_list", "more", "recent_button"}
+
+    def test_each_widget_has_its_type_and_a_use(self) -> None:
+        tree = ElementTree.parse(support.TOOLS / "labeltools/window/window.ui")
+        parts = [*tree.iter("object"), *tree.iter("menu"), *tree.iter("section")]
+        types = {part.get("id"): part.get("class", "GMenu") for part in parts if part.get("id")}
+        record = {field.name: field.type.__gtype__.name for field in fields(widgets.Widgets)}
+        self.assertEqual(record, {name: types.get(name) for name in record})
+        named = {part.text for part in tree.iter()}  # in the file itself
+        named |= {part.get("bind-source") for part in tree.iter("property")}
+        self.assertEqual({*types} - {*record} - named, self.BY_TESTS)
+
+    def test_what_lacks_is_named(self) -> None:
+        empty = Gtk.Builder()
+        with self.assertRaisesRegex(TypeError, "adding"):
+            widgets.widgets_of(empty)
+
+
+class Options(unittest.TestCase):
+    """The options of what is chosen are those of the commands that are shown."""
+
+    COLUMNS = {"code": "2", "title": "3", "price": "4", "copies": "6"}
+    NONE = dict.fromkeys(("text", "text_2", "unit_price", "old_price", "price_as"), "")
+    PAPER = {"stock": "Avery L7160", "first": 3, "width": 60.0, "height": 40.0, "design": "shelf"}
+    TYPED = dict.fromkeys(("for_table", "for_print", "given_table", "given_print"), "")
+    KINDS = {"symbology": "auto", "to": "pdf", "dpi": "600", "header_row": 1, "printer": ""}
+    FLAGS = {"sheet": True, "roll": False, "new_only": False}
+    ALL: dict[str, Any] = {**COLUMNS, **NONE, **PAPER, **TYPED, **KINDS, **FLAGS}
+    CHANGES: tuple[dict[str, Any], ...] = (
+        {"title": "", "copies": "", "price": "", "symbology": None, "to": None, "stock": ""},
+        {"text": "4", "text_2": "5", "unit_price": "6", "old_price": "7"},
+        {"text_2": "5", "symbology": "qr", "price_as": "0,00 €", "header_row": 0},
+        {"roll": True, "width": 62.5, "to": "zpl", "dpi": "203", "design": "article"},
+        {"for_table": "--title 9 --price 8 --where Name=Tea", "given_table": "--decimal point"},
+        {"for_table": "--header-row 3 --symbology ean8 --price-as 0.00", "price_as": "0,00 €"},
+        {"for_print": "--first 2 --edge 1 --to svg", "given_print": "--edge 2 --turn"},
+        {"for_table": "--no-header", "header_row": 0, "for_print": "--stock L7169"},
+    )
+    # options that are typed, and do not go with what is chosen
+    WRONG: tuple[dict[str, Any], ...] = (
+        {"for_table": "--header"},
+        {"for_table": "--no-header"},
+        {"for_table": "--header", "header_row": 0},
+        {"for_print": "--paper 9x9"},
+        {"for_print": "--stock L7169", "roll": True},
+        {"for_print": "--list-stock"},
+    )
+
+    def of_words(self, chosen: Any) -> Any:
+        """What the commands read."""
+        arguments = understood(choices.table_words(chosen))
+        return table_options(arguments), print_options(choices.print_words(chosen))
+
+    def test_they_are_those_of_the_words(self) -> None:
+        for change in self.CHANGES:
+            with self.subTest(change):
+                chosen = choices.Choices(**{**self.ALL, **change})
+                found = choices.table_options_of(chosen), choices.print_options_of(chosen)
+                self.assertEqual(found, self.of_words(chosen))
+
+    def test_what_does_not_go_together_is_refused_as_the_commands_do(self) -> None:
+        for change in self.WRONG:
+            with self.subTest(change):
+                chosen = choices.Choices(**{**self.ALL, **change})
+                with self.assertRaises(BadArguments) as found:
+                    choices.table_options_of(chosen), choices.print_options_of(chosen)
+                with self.assertRaises(BadArguments) as wanted:
+                    self.of_words(chosen)
+                self.assertEqual(found.exception.what, wanted.exception.what)
 
 
 class Mnemonics(unittest.TestCase):
@@ -520,7 +687,12 @@ class Sentences(unittest.TestCase):
 
     def test_texts_that_name_options_are_not_said(self) -> None:
         """Each needs an option that the window never gives, or words without a code."""
-        own = {*window.CONTROLS, "paper", "new-since", *test_german.remedies(True)} - {"after"}
+        own = {
+            *(name.replace("_", "-") for name in window.CONTROLS),
+            "paper",
+            "new-since",
+            *test_german.remedies(True),
+        } - {"after"}
         for needs, text in test_german.in_words():
             self.assertEqual(own.intersection(needs.split(", ")), set(), text)
 
@@ -537,8 +709,16 @@ class Remedies(Keeper):
                     self.change(**{name: value})
                 self.check_sentences()
                 self.assertIn(button, self.answers())
+                good = self.labels() if self.window.has_labels else {}
+                typed = self.window.choices().for_table
                 self.remade(self.answers()[button].clicked)
                 self.until(lambda: self.window.has_labels)
+                is_less = len(self.window.choices().for_table) < len(typed)
+                self.assertTrue(is_less or self.window.choices().for_table == typed)
+                later = self.labels()
+                for row, label in good.items():  # none is worse
+                    kept = {name: later[row][name] for name in label if name != CHANGED.get(button)}
+                    self.assertEqual({**label, **kept}, label, (button, row))
                 asked = shlex.split(words)
                 if "--header-row" not in asked:
                     asked += ["--header-row", "1"]
@@ -547,6 +727,32 @@ class Remedies(Keeper):
                 lines = support.run_here("label-table", *asked, "--", self.table).stdout
                 self.assertEqual(self.window.made.lines.output.decode(), lines.decode())
 
+    def labels(self) -> dict[int, dict[str, Any]]:
+        """The labels of the table by their rows: the code, the texts, the value of the price."""
+        found = {}
+        for line in self.window.made.lines.output.decode().splitlines():
+            if line.startswith("#"):
+                label = json.loads(line[1:])
+            else:
+                value = re.sub("[.]?0*(?![0-9.])", "", label.get("price", "").replace(",", "."))
+                texts = {name: label.get(name) for name in ("title", "text", "copies")}
+                found[label["row"]] = {**texts, "price": value, "code": line}
+        return found
+
+    def test_none_that_does_harm_is_offered(self) -> None:
+        """A row that is right would get another code or price, or no label."""
+        for table, before, button in HARMFUL:
+            with self.subTest(button):
+                self.closed()
+                self.open(table)
+                for name, value in before.items():
+                    self.change(**{name: value})
+                self.until(lambda: self.window.has_labels)
+                self.assertEqual(self.window.made.lines.count, 1 + (button == "Print two decimals"))
+                said = [str(remedy.says) for remedy in self.window.made.harmful]
+                self.assertIn(button, said)
+                self.assertNotIn(button, self.answers())
+
     def test_what_a_printer_needs_is_pressed(self) -> None:
         """What is printed is what label-print makes with the option."""
         self.open()
@@ -554,15 +760,15 @@ class Remedies(Keeper):
             with self.subTest(button, driver=driver):
                 scheduler.add(f"queue-{number}", driver)
                 self.chosen(f"queue-{number}")
-                self.change(roll=True, width=60, height=size, for_print="")
+                self.change(roll=True, width=60, height=size, given_print="")
                 self.until(lambda: self.window.has_labels)
                 GLib.timeout_add(BEAT, self.confirm, "", "")
-                self.window.print_button.clicked()
+                self.widgets.print_button.clicked()
                 self.until(self.answers)
                 self.check_sentences()
                 self.remade(self.answers()[button].clicked)
                 self.until(lambda: self.window.has_labels)
-                self.assertEqual(self.window.choices()["for-print"], words)
+                self.assertEqual(self.window.choices().given_print, words)
                 self.assertIn("sent to", self.confirmed())
                 self.until(lambda: not self.window.ways.waiting)  # the next one is not told of it
                 paper = ("--paper", f"60x{size}", "--dpi", "300")
@@ -573,7 +779,7 @@ class Remedies(Keeper):
         """But for whether row 1 has names, which a window always says."""
         pressed = [(button, words) for *_, button, words in (*PRESSED, *OF_PRINTERS)]
         pressed += [
-            ("Choose the encoding", "--encoding"),
+            ("The letters are wrong", "--encoding"),
             ("203 dpi", "--dpi"),
             ("Go on with label 3", "--after"),
         ]  # by tests of their own
@@ -583,14 +789,14 @@ class Remedies(Keeper):
                 found = [one for button, one in pressed if re.fullmatch(words, button)]
                 self.assertTrue(found, text)
         for row in (0, 1, 2):
-            chosen = {**self.window.choices(), "code": "1", "header-row": row}
-            self.assertTrue({"--no-header", "--header-row"} & {*shop.table_words(chosen)})
+            chosen = replace(self.window.choices(), code="1", header_row=row)
+            self.assertTrue({"--no-header", "--header-row"} & {*choices.table_words(chosen)})
 
 
 class WindowTest(Keeper):
     def test_saves_what_the_commands_print(self) -> None:
         self.open()
-        self.assertEqual(self.window.of.get_text(), "of 1")
+        self.assertEqual(self.widgets.of.get_text(), "of 1")
         self.change(first=9)
         page = ("--stock", "Avery L7160", "--dpi", "600", "--first", "9")
         self.assertEqual(self.saved("labels.pdf"), self.by_commands(*page))
@@ -605,14 +811,14 @@ class WindowTest(Keeper):
         self.chosen("tcp://10.0.0.1")
         for act, form, dpi, label in (
             (lambda: self.window.of_printers.choose(printers.FILE), "zpl", "300", "Sa_ve ZPL…"),
-            (lambda: self.window.take({"sheet": True}), "pdf", "600", "Sa_ve PDF…"),
-            (lambda: self.window.take({"roll": True}), "zpl", "300", "Sa_ve ZPL…"),
-            (lambda: self.window.take({"to": "pdf"}), "pdf", "600", "Sa_ve PDF…"),
+            (lambda: self.window.take(sheet=True), "pdf", "600", "Sa_ve PDF…"),
+            (lambda: self.window.take(roll=True), "zpl", "300", "Sa_ve ZPL…"),
+            (lambda: self.window.take(to="pdf"), "pdf", "600", "Sa_ve PDF…"),
         ):
             self.remade(act)
             chosen = self.window.choices()
-            self.assertEqual((chosen["to"], chosen["dpi"]), (form, dpi), label)
-            self.assertEqual(self.window.print_button.get_label(), label)
+            self.assertEqual((chosen.to, chosen.dpi), (form, dpi), label)
+            self.assertEqual(self.widgets.print_button.get_label(), label)
         self.assertTrue(self.saved("labels.pdf").startswith(b"%PDF-"))
 
     def test_nothing_stays_of_the_printer_before(self) -> None:
@@ -631,14 +837,14 @@ class WindowTest(Keeper):
         for first, then in permutations((*wanted, printers.FILE), 2):
             for key in (first, then):
                 self.chosen(key)
-            if then == printers.FILE and self.window.choices()["roll"]:
-                self.remade(lambda: self.window.take({"sheet": True}))
+            if then == printers.FILE and self.window.choices().roll:
+                self.remade(lambda: self.window.take(sheet=True))
             chosen = self.window.choices()
-            found = (chosen["roll"], chosen["to"], chosen["dpi"])
+            found = (chosen.roll, chosen.to, chosen.dpi)
             self.assertEqual(found, wanted.get(then, (False, "pdf", "600")), (first, then))
 
     def test_the_designs_that_come_with_it_are_a_folder_of_the_dialog(self) -> None:
-        folders = self.window.design_opener.list_shortcut_folders()
+        folders = self.widgets.design_opener.list_shortcut_folders()
         self.assertEqual([Path(one).name for one in folders], ["designs"])
         self.assertIn("rack-100x50.svg", os.listdir(folders[0]))
 
@@ -673,11 +879,11 @@ class WindowTest(Keeper):
         self.change(first=9)
         self.assertIn("It was a trial", self.answered("behind", "trial"))
         self.until(lambda: self.said() == "6 labels are printed on behind.")
-        self.assertEqual(self.window.choices()["first"], 9)
+        self.assertEqual(self.window.choices().first, 9)
         self.confirmed()
-        self.until(lambda: self.window.choices()["first"] == 15)
+        self.until(lambda: self.window.choices().first == 15)
         said = "The next labels begin at label 15 of the last sheet."
-        self.assertTrue(self.window.bar_text.get_text().endswith(said))
+        self.assertTrue(self.widgets.bar_text.get_text().endswith(said))
         self.until(lambda: self.window.has_labels)
         self.assertEqual(self.window.made.labels.job.options.first, 15)
 
@@ -693,7 +899,7 @@ class WindowTest(Keeper):
         self.until(lambda: self.window.has_labels)
         self.assertIn("photo.xls", self.problem())
         self.assertEqual((self.window.path, self.window.choices()), (self.table, chosen))
-        self.assertEqual(self.window.head.get_subtitle(), "articles.csv")
+        self.assertEqual(self.widgets.head.get_subtitle(), "articles.csv")
         self.assertIn("6 labels from 3 rows", self.counted())
 
     def test_a_trial_does_not_count_and_chosen_rows_do(self) -> None:
@@ -706,7 +912,7 @@ class WindowTest(Keeper):
             ("sheets", "2-", 4, 3),
         ):
             with self.subTest(kind):
-                if self.window.choices()["first"] != 20:
+                if self.window.choices().first != 20:
                     self.change(first=20)  # two labels on the first sheet, four on the second
                 said = self.answered("some", kind, which)
                 self.assertIn(f"{labels} labels are sent to some.", said)
@@ -722,18 +928,18 @@ class WindowTest(Keeper):
         found: list[Any] = []
 
         def look() -> bool:
-            shown = self.window.printing.get_visible()
+            shown = self.widgets.printing.get_visible()
             if shown:
-                found.append([row[0] for row in self.window.tray.get_model()])
-                found.append((self.window.tray.get_active_id(), self.window.media.get_visible()))
-                self.window.tray.set_active_id("Manual")
-                found.append(self.window.print_put.get_text())
-                self.window.printing.response(Gtk.ResponseType.OK)
+                found.append([row[0] for row in self.widgets.tray.get_model()])
+                found.append((self.widgets.tray.get_active_id(), self.widgets.media.get_visible()))
+                self.widgets.tray.set_active_id("Manual")
+                found.append(self.widgets.print_put.get_text())
+                self.widgets.printing.response(Gtk.ResponseType.OK)
             return not shown
 
         for before in ("", "Manual"):
             GLib.timeout_add(BEAT, look)
-            self.assertIn("sent to trays", self.said_after(self.window.print_button.clicked))
+            self.assertIn("sent to trays", self.said_after(self.widgets.print_button.clicked))
             tray, (active, has_media), put = found
             self.assertEqual(tray, ["as the printer is set", "Auto", "Manual"])
             self.assertEqual((active, has_media), (before, False))
@@ -755,9 +961,9 @@ class WindowTest(Keeper):
         self.open()
         self.assertIn("sent to later", self.answered("later"))
         self.until(lambda: "waiting. later: it is paused." in self.said())
-        self.assertEqual(self.window.bar.get_message_type(), Gtk.MessageType.WARNING)
+        self.assertEqual(self.widgets.bar.get_message_type(), Gtk.MessageType.WARNING)
         self.assertEqual([*self.answers()], ["Show the queue"])
-        self.window.bar.response(Gtk.ResponseType.CLOSE)
+        self.widgets.bar.response(Gtk.ResponseType.CLOSE)
         self.assertEqual(self.said(), "")
         self.answered("later")
         self.assertEqual((self.printed(), len(self.waiting())), ([], 2))
@@ -898,8 +1104,8 @@ class WindowTest(Keeper):
 
     def test_enter_accepts_an_address_and_a_name(self) -> None:
         for box, entry in (
-            (self.window.adding, self.window.new_address),
-            (self.window.naming, self.window.preset_name),
+            (self.widgets.adding, self.widgets.new_address),
+            (self.widgets.naming, self.widgets.preset_name),
         ):
             answers: list[bool] = []
 
@@ -924,17 +1130,18 @@ class WindowTest(Keeper):
             printers.PRINTERS.keep("tcp://10.0.0.1", {"to": "escpos", "dpi": "180", "name": "Till"})
             self.chosen(key)
             chosen = self.window.choices()
-            found = (chosen["roll"], chosen["to"], chosen["dpi"])
+            found = (chosen.roll, chosen.to, chosen.dpi)
             self.assertEqual(found, (roll, to, dpi), key)
-        self.assertIn("Till", [row[0] for row in self.window.printers])
-        with mock.patch.object(self.window.printers, "clear", create=True) as clear:
+            self.assertEqual(self.widgets.kind.get_visible(), not roll)  # it has no sheets
+        self.assertIn("Till", [row[0] for row in self.widgets.printers])
+        with mock.patch.object(self.widgets.printers, "clear", create=True) as clear:
             kept = printers.PRINTERS.all()
             self.window.of_printers.fill([*sending.printers(kept)])
             clear.assert_not_called()  # an open list stays open
-        self.window.take({"to": "pdf"})  # it understands nothing else
-        self.assertEqual(self.window.choices()["to"], "escpos")
+        self.window.take(to="pdf")  # it understands nothing else
+        self.assertEqual(self.window.choices().to, "escpos")
         self.window.of_printers.settle("was-here")
-        states = {row[3]: row[2] for row in self.window.printers}
+        states = {row[3]: row[2] for row in self.widgets.printers}
         self.assertEqual(states["was-here"], "not found")
         self.assertIn("was-here is not found", self.said_after(self.window.ways.ask))
 
@@ -943,12 +1150,14 @@ class WindowTest(Keeper):
         scheduler.add("held", "both")
         subprocess.run(["cupsdisable", "held"], check=True)
         found = {one.key: one for one in sending.printers({})}
-        self.assertEqual((found["idle"].state, found["held"].state), ("ready", "it is paused"))
+        self.assertEqual(
+            (str(found["idle"].state), str(found["held"].state)), ("ready", "it is paused")
+        )
         self.assertEqual((found["idle"].is_ready, found["held"].is_ready), (True, False))
 
     def test_says_what_is_left_out_and_what_there_is(self) -> None:
         self.open()
-        self.assertEqual(self.window.left_out.get_text(), "1 row is skipped")
+        self.assertEqual(self.widgets.left_out.get_text(), "1 row is skipped")
         row, cell, why = self.rows()[0]
         self.assertEqual((row, cell), ("4", "4006381333932"))
         self.assertIn("a digit is wrong", why)
@@ -960,8 +1169,8 @@ class WindowTest(Keeper):
 
     def look(self, kind: Any, number: int = 1) -> Any:
         """Looks at a page, or at a label."""
-        self.window.view.set_active_id(kind)
-        self.window.number.set_value(number)
+        self.widgets.view.set_active_id(kind)
+        self.widgets.number.set_value(number)
         return self.shown()
 
     def test_shows_pages_and_labels(self) -> None:
@@ -976,23 +1185,25 @@ class WindowTest(Keeper):
     def test_a_click_begins_at_a_cell(self) -> None:
         self.open()
         settle(0.2)
-        paper = self.window.paper
+        paper = self.widgets.paper
         scale = paper.get_allocated_width() / 210
         self.remade(lambda: self.window.on_click(paper, mock.Mock(x=100 * scale, y=70 * scale)))
-        self.assertEqual(self.window.choices()["first"], 5)
+        self.assertEqual(self.window.choices().first, 5)
         self.window.on_click(paper, mock.Mock(x=1, y=1))  # beside the cells
-        self.assertEqual(self.window.choices()["first"], 5)
+        self.assertEqual(self.window.choices().first, 5)
 
     def test_a_chosen_row_shows_its_label(self) -> None:
         """A row that is left out has no label, but one whose title is shortened has."""
         long = "Pencil for every shop in the country " * 9
         self.open(TABLE.replace("Soap", long))
         self.look("label")
-        notes = self.window.notes
+        notes = self.widgets.notes
         (place,) = [number for number, note in enumerate(notes) if "a text is too long" in note[2]]
         self.assertEqual(notes[place][0], "3")
-        self.window.left_out_list.get_selection().select_path(Gtk.TreePath(place))
-        self.until(lambda: self.window.number.get_value_as_int() == 2)
+        self.window.builder.get_object("left_out_list").get_selection().select_path(
+            Gtk.TreePath(place)
+        )
+        self.until(lambda: self.widgets.number.get_value_as_int() == 2)
 
     def test_a_table_is_an_argument(self) -> None:
         words = [support.TOOLS / "label-window", self.table]
@@ -1032,7 +1243,7 @@ class WindowTest(Keeper):
 
     def test_a_table_is_opened_by_the_button(self) -> None:
         self.answer("opener", get_filename=str(self.table))
-        self.window.open_button.clicked()
+        self.window.builder.get_object("open_button").clicked()
         self.until(lambda: self.window.has_labels)
 
     def test_the_dialog_shows_tables_of_old_systems(self) -> None:
@@ -1041,7 +1252,9 @@ class WindowTest(Keeper):
         info.contains = Gtk.FileFilterFlags.DISPLAY_NAME
         for name, is_shown in (("A.CSV", 1), ("a.xlsx", 1), ("B.Xls", 1), ("a.pdf", 0), ("csv", 0)):
             info.display_name = name
-            self.assertEqual(self.window.tables.filter(info), bool(is_shown), name)
+            self.assertEqual(
+                self.window.builder.get_object("tables").filter(info), bool(is_shown), name
+            )
 
     def test_a_table_is_dropped(self) -> None:
         data = mock.Mock()
@@ -1055,12 +1268,12 @@ class WindowTest(Keeper):
 
     def test_names_in_another_row(self) -> None:
         self.open("Prices of May;;;;;\n;;;;;\n" + TABLE)
-        self.assertEqual(self.window.choices()["header-row"], 3)
+        self.assertEqual(self.window.choices().header_row, 3)
         self.assertIn("6 labels from 3 rows", self.counted())
         self.open("4006381333931;Pencil;0,80 €\n96385074;Gum;1,20 €\n")
-        self.assertEqual(self.window.choices()["header-row"], 0)
+        self.assertEqual(self.window.choices().header_row, 0)
         self.assertIn("2 labels from 2 rows", self.counted())
-        self.window.header_row.set_value(1)
+        self.widgets.header_row.set_value(1)
         self.until(lambda: not self.window.has_labels)
         self.until(lambda: self.window.has_labels)
         self.assertIn("1 label from 1 row", self.counted())
@@ -1081,7 +1294,7 @@ class WindowTest(Keeper):
         for key in (str(device), "roll"):
             self.window.of_printers.choose(key)
             self.assertEqual(self.problem(), "What does this printer print?")
-            self.assertFalse(self.window.print_button.is_sensitive())
+            self.assertFalse(self.widgets.print_button.is_sensitive())
             self.remade(lambda: self.pressed("Labels (ZPL)"))
         self.window.of_printers.know(printer.name, {"name": "Zebra", "to": "zpl", "dpi": "203"})
         wanted = self.by_commands("--paper", "60x40", "--to", "zpl", "--dpi", "203")
@@ -1101,18 +1314,18 @@ class WindowTest(Keeper):
         said: list[str] = []
 
         def add() -> bool:
-            entry = self.window.new_address
-            if not self.window.adding.get_visible():
+            entry = self.widgets.new_address
+            if not self.widgets.adding.get_visible():
                 return True
             if not said:
-                self.window.adding.response(Gtk.ResponseType.OK)
-                said.append(self.window.new_said.get_text())
+                self.widgets.adding.response(Gtk.ResponseType.OK)
+                said.append(self.widgets.new_said.get_text())
                 entry.set_text(printer.name[6:])
-                self.window.new_name.set_text("Shelf")
-                self.window.new_test.clicked()
-            text = self.window.new_said.get_text()
+                self.widgets.new_name.set_text("Shelf")
+                self.widgets.new_test.clicked()
+            text = self.widgets.new_said.get_text()
             if text.startswith("Sent"):
-                self.window.adding.response(Gtk.ResponseType.OK)
+                self.widgets.adding.response(Gtk.ResponseType.OK)
                 return False
             return True
 
@@ -1131,15 +1344,15 @@ class WindowTest(Keeper):
             said = self.confirmed()
         self.assertIn("prints at 203 dpi", said)
         self.remade(self.answers()["203 dpi"].clicked)
-        self.assertEqual(self.window.choices()["dpi"], "203")
+        self.assertEqual(self.window.choices().dpi, "203")
         page = ("--paper", "60x40", "--to", "zpl", "--dpi", "203")
         self.assertEqual(self.saved("a.zpl"), self.by_commands(*page))
 
     def test_no_printer(self) -> None:
         """Then a file is saved; a printer in the network needs no CUPS."""
         self.open()
-        self.until(lambda: self.window.print_button.get_label() == "Sa_ve PDF…")
-        keys = [row[3] for row in self.window.printers]
+        self.until(lambda: self.widgets.print_button.get_label() == "Sa_ve PDF…")
+        keys = [row[3] for row in self.widgets.printers]
         self.assertEqual(keys, ["add", "file"])
         with mock.patch.object(sending, "connection", side_effect=ToolError(NOTHING)):
             found = [*sending.printers({"tcp://10.0.0.1": {"to": "zpl"}})]
@@ -1154,33 +1367,33 @@ class WindowTest(Keeper):
         memory.write_text(json.dumps({names: old}))
         self.open()
         chosen = self.window.choices()
-        found = (chosen["printer"], chosen["to"], chosen["dpi"], chosen["roll"])
+        found = (chosen.printer, chosen.to, chosen.dpi, chosen.roll)
         self.assertEqual(found, ("tcp://10.0.0.7", "zpl", "300", True))
 
     def test_guesses_and_remembers_by_names(self) -> None:
         self.open()
         chosen = self.window.choices()
         self.assertEqual(
-            [chosen[name] for name in ("code", "title", "price", "copies")], ["2", "3", "4", "6"]
+            [chosen.code, chosen.title, chosen.price, chosen.copies], ["2", "3", "4", "6"]
         )
         self.change(price="", roll=True)
         self.assertFalse((self.folder / "labels/window.json").exists())  # nothing went out
         self.saved("labels.pdf")
         later = self.folder / "next week.csv"
         later.write_text(TABLE.replace("Pencil", "Pen"))
-        self.window.take({"price": "4", "sheet": True})
+        self.window.take(price="4", sheet=True)
         self.open(path=later)
         chosen = self.window.choices()
-        self.assertEqual((chosen["price"], chosen["roll"], chosen["sheet"]), ("", True, False))
+        self.assertEqual((chosen.price, chosen.roll, chosen.sheet), ("", True, False))
         for written in ('{"Nr": [1], "EAN": 3}', "[]", "{", '{"Nr\\nEAN": {"price": 7}}'):
             (self.folder / "labels/window.json").write_text(written)
             self.open(path=later)
-            self.assertEqual(self.window.choices()["price"], "4")
+            self.assertEqual(self.window.choices().price, "4")
         names = "Nr\\nEAN\\nName\\nPrice\\nStock\\nLabels"
         wrong = f'{{"{names}": {{"price": 7, "title": "9", "widget": 1, "copies": ""}}}}'
         (self.folder / "labels/window.json").write_text(wrong)
         self.open(path=later)
-        self.assertEqual(self.window.choices()["copies"], "")
+        self.assertEqual(self.window.choices().copies, "")
 
     def test_asks_where_only_the_keeper_knows(self) -> None:
         """Of two prices none is taken, and tables without names have nothing in common."""
@@ -1199,14 +1412,14 @@ class WindowTest(Keeper):
     def test_prints_only_what_is_new(self) -> None:
         """What went out is kept, and asked for once there is such a list."""
         self.open()
-        self.assertFalse(self.window.new_only.get_visible())
+        self.assertFalse(self.widgets.new_only.get_visible())
         self.saved("labels.pdf")
         self.open(TABLE.replace("Soap", "Soap, blue"))
-        self.assertTrue(self.window.new_only.get_visible())
+        self.assertTrue(self.widgets.new_only.get_visible())
         everything = self.window.made.lines.count
         self.change(new_only=True)
         self.assertEqual(self.window.made.lines.count, 1)
-        self.assertIn("--new-since", self.window.command.get_text())
+        self.assertIn("--new-since", self.widgets.command.get_text())
         self.saved("changed.pdf")
         self.open()
         self.change(new_only=False)
@@ -1225,7 +1438,7 @@ class WindowTest(Keeper):
         self.assertEqual(self.printed(), [b"96385074"])
         self.change(width=60, height=40, for_print="--only 3")
         # what is typed is read when nothing is typed any more
-        self.until(lambda: {it.label.title for it in self.window.made.labels.labels} == {"Soap"})
+        self.until(lambda: {it.record.title for it in self.window.made.labels.labels} == {"Soap"})
         self.saved("one.zpl")
         self.assertEqual(self.printed(), [b"96385074", b"036000291452"])
         self.open()
@@ -1239,32 +1452,32 @@ class WindowTest(Keeper):
 
     def test_a_second_text_is_below_the_first(self) -> None:
         self.open()
-        self.assertFalse(self.window.text_2.get_visible())
-        self.window.more.clicked()
-        self.assertTrue(self.window.text_2.get_visible())
+        self.assertFalse(self.widgets.text_2.get_visible())
+        self.window.builder.get_object("more").clicked()
+        self.assertTrue(self.widgets.text_2.get_visible())
         self.change(text="3", text_2="5")
         self.saved("labels.pdf")
-        texts = [item.label.text for item in self.window.made.labels.labels]
+        texts = [item.record.body for item in self.window.made.labels.labels]
         self.assertEqual(texts[0], "Pencil, red\n5000")
         self.open()  # it is kept
-        self.assertTrue(self.window.text_2.get_visible())
-        self.window.more.clicked()
+        self.assertTrue(self.widgets.text_2.get_visible())
+        self.window.builder.get_object("more").clicked()
         self.until(lambda: self.window.has_labels)
-        self.assertEqual(self.window.choices()["text-2"], "")
+        self.assertEqual(self.window.choices().text_2, "")
 
     def test_a_printer_of_a_language_of_its_own_has_its_usual_dots(self) -> None:
         self.open()
         self.change(roll=True, to="zpl")
-        self.assertEqual(self.window.choices()["dpi"], "203")
+        self.assertEqual(self.window.choices().dpi, "203")
         self.assertEqual(self.window.made.labels.job.plan.dpi, 203)
         self.change(dpi="300")
         self.assertEqual(self.window.made.labels.job.plan.dpi, 300)
         self.change(to="pdf")
-        self.assertEqual(self.window.choices()["dpi"], "600")
+        self.assertEqual(self.window.choices().dpi, "600")
         self.change(to="zpl", dpi="300")
         self.saved("kept.zpl")
         self.open()  # what is kept is not changed
-        self.assertEqual(self.window.choices()["dpi"], "300")
+        self.assertEqual(self.window.choices().dpi, "300")
 
     def test_a_design_is_a_file(self) -> None:
         """It is drawn at once, what is said of it is in the list, and it is chosen again."""
@@ -1277,21 +1490,22 @@ class WindowTest(Keeper):
         self.open()
         self.change(roll=True, width=60, height=40)
         built_in, _ = self.shown()
-        with mock.patch.object(self.window, "design_opener", create=True) as opener:
+        opener = mock.Mock()
+        with mock.patch.object(self.window, "widgets", replace(self.widgets, design_opener=opener)):
             opener.run.return_value = Gtk.ResponseType.ACCEPT
             opener.get_filename.return_value = str(path)
             self.change(design="file")
-            self.assertEqual(self.window.design.get_active_id(), str(path))
+            self.assertEqual(self.widgets.design.get_active_id(), str(path))
             self.assertNotEqual(self.shown()[0], built_in)
-            said = [row[2] for row in self.window.notes]
+            said = [row[2] for row in self.widgets.notes]
             self.assertIn("own.svg has no rectangle for price", " ".join(said))
-            self.assertIn(f"--design {path}", self.window.command.get_text())
+            self.assertIn(f"--design {path}", self.widgets.command.get_text())
             path.write_text(whole.format(70))
             self.change(design="file")
             self.assertIn("the place title extends 11.0 mm beyond the label", self.problem())
             opener.run.return_value = Gtk.ResponseType.CANCEL
             self.change(design="file")
-            self.assertEqual(self.window.design.get_active_id(), str(path))
+            self.assertEqual(self.widgets.design.get_active_id(), str(path))
         self.change(design="article")
         self.assertEqual(self.shown()[0], built_in)
 
@@ -1299,7 +1513,7 @@ class WindowTest(Keeper):
         self.open()
         self.change(roll=True, width=50, height=25, to="zpl")
         self.answer("naming")
-        self.window.preset_name.set_text("shelf roll")
+        self.widgets.preset_name.set_text("shelf roll")
         self.window.lookup_action("keep-preset").activate(None)
         self.change(sheet=True, to="pdf", width=60)
         self.window.presets.fill()
@@ -1307,7 +1521,7 @@ class WindowTest(Keeper):
         preset = GLib.Variant("s", "shelf roll")
         self.remade(lambda: self.window.lookup_action("preset").activate(preset))
         chosen = self.window.choices()
-        self.assertEqual((chosen["roll"], chosen["width"], chosen["to"]), (True, 50, "zpl"))
+        self.assertEqual((chosen.roll, chosen.width, chosen.to), (True, 50, "zpl"))
         self.assertEqual(self.window.made.labels.job.plan.sheet.page, (50, 25))
         self.window.lookup_action("forget-preset").activate(preset)
         self.window.presets.fill()
@@ -1315,11 +1529,15 @@ class WindowTest(Keeper):
 
     def in_menu(self, model: Any = None) -> Any:
         """The texts of the menu, and of its parts."""
-        model = model or self.window.menu
+        model = model or self.window.builder.get_object("menu")
         found = []
         for place in range(model.get_n_items()):
             text = model.get_item_attribute_value(place, "label", None)
-            found += [text.get_string()] if text and model is not self.window.menu else []
+            found += (
+                [text.get_string()]
+                if text and model is not self.window.builder.get_object("menu")
+                else []
+            )
             for link in ("section", "submenu"):
                 inner = model.get_item_link(place, link)
                 found += self.in_menu(inner) if inner else []
@@ -1334,14 +1552,16 @@ class WindowTest(Keeper):
 
     def recent(self) -> list[str]:
         """The tables that the button beside Open has."""
-        return [item.get_uri_display() for item in self.window.recent.get_items()]
+        return [
+            item.get_uri_display() for item in self.window.builder.get_object("recent").get_items()
+        ]
 
     def test_a_printer_of_other_dots_gets_labels_for_these(self) -> None:
         """If the dots were changed since it was chosen, the labels are looked at first."""
         scheduler.add("name", "name")
         self.open()
         self.chosen("name")
-        self.assertEqual(self.window.dpi.get_active_id(), "360")
+        self.assertEqual(self.widgets.dpi.get_active_id(), "360")
         self.change(dpi="600")
         said = self.confirmed()
         self.assertIn("name prints at 360 dpi: the labels are drawn for it", said)
@@ -1356,7 +1576,7 @@ class WindowTest(Keeper):
         queue = Queue("zebra", 203, {203: "203dpi", 600: "600dpi"})
         self.window.ways.ask_queue((queue, {}))
         self.until(self.problem)
-        self.assertEqual(self.window.dpi.get_active_id(), "203")
+        self.assertEqual(self.widgets.dpi.get_active_id(), "203")
 
     def test_what_becomes_of_a_job_is_shown(self) -> None:
         """By CUPS: a queue that is paused, and jobs that are cancelled; the list has all."""
@@ -1409,9 +1629,9 @@ class WindowTest(Keeper):
         """Its controls, and what it tells."""
         code = "import test_window; test_window.load(); one = test_window.window.Window(); "
         code += "test_window.work.Work.stop(one.work); one.on_stop(None); "
-        code += "(name,) = one.price_as.list_mnemonic_labels(); "
-        code += "print(one.print_button.get_label(), name.get_text(), one.bar_text.get_text()); "
-        code += "one.stock.set_text('L7169'); print(one.sheets[0][1])"
+        code += "(name,) = one.widgets.price_as.list_mnemonic_labels(); "
+        code += "print(one.widgets.print_button.get_label(), name.get_text(), one.widgets.bar_text.get_text()); "
+        code += "one.widgets.stock.set_text('L7169'); print(one.widgets.sheets[0][1])"
         for language, texts, sheet in (
             (
                 "en",
@@ -1449,20 +1669,20 @@ class WindowTest(Keeper):
         self.closed()
         self.open()
         self.assertEqual(self.problem(), "")
-        self.assertEqual(self.window.choices()["for-table"], "--encoding cp1252")
+        self.assertEqual(self.window.choices().given_table, "--encoding cp1252")
         self.closed()
         self.open("EAN;Name\n96385074;Füller, rot\n")  # now it is UTF-8
         self.assertEqual(self.problem(), "")
-        self.assertEqual(self.window.made.labels.labels[0].label.title, "Füller, rot")
+        self.assertEqual(self.window.made.labels.labels[0].record.title, "Füller, rot")
 
     def test_a_table_that_cannot_be_read_shows_nothing_of_the_last_one(self) -> None:
         self.open()
-        self.assertEqual(self.window.choices()["symbology"], "auto")
+        self.assertEqual(self.window.choices().symbology, "auto")
         self.closed()
         shown = self.window.choices()
-        self.assertEqual({shown[one] for one in ("code", "price", "symbology")}, {None})
+        self.assertEqual({shown.code, shown.price, shown.symbology}, {None})
         for one in ("new_only", "result"):
-            self.assertFalse(getattr(self.window, one).get_visible(), one)
+            self.assertFalse(getattr(self.widgets, one).get_visible(), one)
 
     def test_what_came_of_work_is_shown_at_once(self) -> None:
         """Nothing looks at the work again and again; how far it is, is shown twice a second."""
@@ -1474,34 +1694,34 @@ class WindowTest(Keeper):
             lambda talk: settle_until(lambda: talk.stops), bool, "reading a.csv…"
         )
         self.window.work.talk.go_on(1200, 0)  # how many rows a table has is not known
-        self.assertFalse(self.window.working.get_visible())
-        self.until(self.window.working.get_visible)
-        self.assertEqual(self.window.progress.get_text(), "reading a.csv… 1200")
+        self.assertFalse(self.widgets.working.get_visible())
+        self.until(self.widgets.working.get_visible)
+        self.assertEqual(self.widgets.progress.get_text(), "reading a.csv… 1200")
         self.window.work.talk.go_on(1200, 20000)
-        self.until(lambda: self.window.progress.get_text() == "1200 of 20000")
+        self.until(lambda: self.widgets.progress.get_text() == "1200 of 20000")
         self.window.on_stop(None)
-        self.assertFalse(self.window.working.get_visible())
+        self.assertFalse(self.widgets.working.get_visible())
 
     def test_stop_while_a_table_is_read_says_so(self) -> None:
         self.window.work.start(lambda talk: settle_until(lambda: talk.stops), bool)
-        self.window.stack.set_visible_child_name("work")
+        self.widgets.stack.set_visible_child_name("work")
         self.window.on_stop(None)
-        self.assertEqual(self.window.stack.get_visible_child_name(), "empty")
+        self.assertEqual(self.widgets.stack.get_visible_child_name(), "empty")
         self.assertTrue(self.said())
 
     def test_a_sheet_is_looked_for_when_its_name_is_whole(self) -> None:
         self.open()
         before = self.window.made
-        self.window.stock.grab_focus()
-        self.until(self.window.stock.has_focus)
-        self.window.stock.set_text("Avery L716")
+        self.widgets.stock.grab_focus()
+        self.until(self.widgets.stock.has_focus)
+        self.widgets.stock.set_text("Avery L716")
         settle(0.5)
         self.assertIs(self.window.made, before)
-        self.remade(lambda: self.window.stock.set_text("Avery L7163"))
+        self.remade(lambda: self.widgets.stock.set_text("Avery L7163"))
         self.assertEqual(len(self.window.made.labels.job.plan.places), 14)
-        self.window.stock.set_text("avery l7160")
+        self.widgets.stock.set_text("avery l7160")
         settle(0.5)
-        self.remade(self.window.first.grab_focus)  # which leaves it
+        self.remade(self.widgets.first.grab_focus)  # which leaves it
         self.assertEqual(len(self.window.made.labels.job.plan.places), 21)
 
     def test_what_is_just_typed_counts(self) -> None:
@@ -1509,25 +1729,25 @@ class WindowTest(Keeper):
         scheduler.add("typed", "both")
         self.open()
         self.chosen("typed")
-        self.window.stock.grab_focus()
-        self.until(self.window.stock.has_focus)
-        self.window.stock.set_text("Herma no such")
+        self.widgets.stock.grab_focus()
+        self.until(self.widgets.stock.has_focus)
+        self.widgets.stock.set_text("Herma no such")
         self.window.lookup_action("print").activate(None)
         self.until(self.problem)
         self.assertIn("Herma no such: no such sheet", self.problem())
-        self.assertFalse(self.window.printing.get_visible())
-        self.remade(lambda: self.window.stock.set_text("Avery L7160"))
+        self.assertFalse(self.widgets.printing.get_visible())
+        self.remade(lambda: self.widgets.stock.set_text("Avery L7160"))
         self.until(lambda: self.window.has_labels)
         self.window.events.hide()
-        self.window.stock.set_text("avery l7163")
-        self.window.first.set_text("3")
+        self.widgets.stock.set_text("avery l7163")
+        self.widgets.first.set_text("3")
         self.assertEqual(self.confirmed(), "sent to typed.")
         page = ("--stock", "Avery L7163", "--first", "3", "--dpi", "600")
         self.assertEqual(self.saved("typed.pdf"), self.by_commands(*page))
 
     def test_sheets_that_begin_with_what_is_typed_come_first(self) -> None:
-        self.window.stock.set_text("Herma 44")
-        begin = [row[0].startswith("Herma 44") for row in self.window.sheets]
+        self.widgets.stock.set_text("Herma 44")
+        begin = [row[0].startswith("Herma 44") for row in self.widgets.sheets]
         self.assertEqual(begin, sorted(begin, reverse=True))
         self.assertEqual(len(set(begin)), 2)
 
@@ -1535,18 +1755,18 @@ class WindowTest(Keeper):
         """It is reported that they have none, and chosen from what the column has."""
         self.open(TABLE.replace(" €", ""))
         self.assertIn("3 prices have no currency.", self.counted())
-        shown = [row[0] for row in self.window.price_as.get_model()]
+        shown = [row[0] for row in self.widgets.price_as.get_model()]
         self.assertEqual(shown[:3], ["as in the table  –  0,80", "0,80 €", "€0.80"])
         self.change(price_as="€0.00")
         self.assertNotIn("currency", self.counted())
-        self.assertEqual(self.window.made.labels.labels[0].label.record.label.price, "€0.80")
+        self.assertEqual(self.window.made.labels.labels[0].record.price, "€0.80")
         self.saved("labels.pdf")
         self.open()  # it is kept
-        self.assertEqual(self.window.choices()["price-as"], "€0.00")
+        self.assertEqual(self.window.choices().price_as, "€0.00")
         self.change(price="5")
-        self.assertEqual(self.window.choices()["price-as"], "")
+        self.assertEqual(self.window.choices().price_as, "")
         self.open(TABLE.replace("€", "CHF"))
-        self.assertNotIn("0,80 €", [row[0] for row in self.window.price_as.get_model()])
+        self.assertNotIn("0,80 €", [row[0] for row in self.widgets.price_as.get_model()])
 
     def test_what_is_guessed_beside_the_columns_is_taken(self) -> None:
         """Variants, lost zeros and prices as programs write them are read as label-table proposes,
@@ -1558,21 +1778,102 @@ class WindowTest(Keeper):
             "b;Gum, red;72651101030;34.000000;EUR",
         )
         self.open("\n".join([names, *rows, ""]))
-        labels = [one.label.record.label for one in self.window.made.labels.labels]
+        labels = [one.record for one in self.window.made.labels.labels]
         self.assertEqual(
             [(one.title, one.price) for one in labels],
             [("Tea, green", "0.80 EUR"), ("Tea, green", "49.90 EUR"), ("Gum, red", "34.00 EUR")],
         )
         words = "--variants-of Handle --currency Currency --fill-zeros"
-        self.assertEqual(self.window.choices()["for-table"], words)
-        self.assertEqual(self.window.choices()["price-as"], "0.00 ¤")
+        self.assertEqual(self.window.choices().given_table, words)
+        said = ["Rows of the same Handle have one title.", "The currency is in Currency."]
+        self.assertEqual(self.given(), [*said, "Lost zeros are put back in front."])
+        self.assertEqual(self.window.choices().price_as, "0.00 ¤")
         self.assertIn("Row 3 has the title of row 2", "".join(row[2] for row in self.rows()))
-        self.change(price_as="0,00 €", for_table="--currency Currency --fill-zeros")
-        self.assertEqual(self.window.made.labels.labels[0].label.record.label.price, "0,80 €")
+        self.remade(lambda: self.take_back(said[0]))
+        following = self.widgets.given_table.get_children()[0].get_children()[1]
+        self.assertIs(self.window.get_focus(), following)  # the next one to be taken back
+        self.change(price_as="0,00 €")
+        self.assertEqual(self.window.made.labels.labels[0].record.price, "0,80 €")
         self.saved("labels.pdf")
         self.open()  # what was chosen is kept
-        self.assertEqual(self.window.choices()["for-table"], "--currency Currency --fill-zeros")
-        self.assertEqual(self.window.choices()["price-as"], "0,00 €")
+        self.assertEqual(self.window.choices().given_table, "--currency Currency --fill-zeros")
+        self.assertEqual(self.window.choices().price_as, "0,00 €")
+
+    def given(self) -> list[str]:
+        """What the window says that a button chose, or that is guessed."""
+        lines = [*self.widgets.given_table, *self.widgets.given_print]
+        return [line.get_children()[0].get_text() for line in lines]
+
+    def take_back(self, said: str) -> None:
+        """Presses the button beside what is said."""
+        lines = [*self.widgets.given_table, *self.widgets.given_print]
+        (line,) = [one for one in lines if one.get_children()[0].get_text() == said]
+        line.get_children()[1].grab_focus()
+        line.get_children()[1].clicked()
+
+    def focus_of(self, choice: Any) -> Any:
+        """The button of a choice, which has the focus for it."""
+        return next(one for one in gtk.within(choice) if isinstance(one, Gtk.ToggleButton))
+
+    def test_what_a_button_chose_is_in_words_and_is_taken_back(self) -> None:
+        """Options have only what is typed; what an older window kept of buttons is no longer
+        there.
+        """
+        self.open(SHEETS)
+        self.pressed("Tea")
+        self.until(lambda: self.window.has_labels)
+        self.assertEqual(self.given(), ["The worksheet is Tea."])
+        self.assertEqual(self.widgets.for_table.get_text(), "")
+        self.take_back("The worksheet is Tea.")
+        self.until(lambda: "Tea" in self.answers())
+        self.closed()
+        names = "\n".join(TABLE.splitlines()[0].split(";"))
+        old = {
+            "for-table": "--currency-name Taler --where Name=Soap",
+            "for-print": "--edge 1 --turn",
+        }
+        (self.folder / "labels").mkdir(exist_ok=True)
+        (self.folder / "labels/window.json").write_text(json.dumps({names: old}))
+        self.open(TABLE)
+        said = ["Taler is a currency.", "Labels keep away from the edge."]
+        self.assertEqual(self.given(), said)
+        typed = self.widgets.for_table.get_text(), self.widgets.for_print.get_text()
+        self.assertEqual(typed, ("--where Name=Soap", "--turn"))
+        self.has_typed = True
+
+    def test_each_button_and_guess_has_words(self) -> None:
+        guessed = {"currency", "title", "variants-of"}
+        options = test_german.remedies(True) | guessed
+        options -= {*choices.CHOSEN, *choices.HEADERS, "after"}
+        self.assertEqual(options - {*further.SAID}, set())
+        self.assertGreater(len(options), 15)
+
+    def test_a_delimiter_that_is_right_is_not_asked_for(self) -> None:
+        """The names show it, whatever kind the codes are; of a single name it is asked for."""
+        self.open("Code;Name\nA-1;Shelf\nA-2;Rack\n")
+        self.change(symbology="qr", title="", price="")
+        self.assertEqual((self.problem(), self.window.made.lines.count), ("", 2))
+        self.assertIn("--delimiter", self.widgets.command.get_text())
+        self.closed()
+        self.open("Code\nWIFI:S:shop;T:WPA;;\nWIFI:S:office;T:WPA;;\n")
+        self.change(symbology="qr")
+        self.assertIn("It is data", self.answers())
+
+    def test_the_designs_that_come_with_it_are_in_the_list(self) -> None:
+        """With a picture and the size of their labels, which a roll can take at once."""
+        self.open()
+        rows = [tuple(row) for row in self.widgets.design.get_model()]
+        files = sorted((support.TOP / "designs").glob("*.svg"))
+        self.assertEqual([row[1] for row in rows[2:-1]], [*map(str, files)])
+        self.assertIn("for a place in a rack, 100 × 50 mm", [row[0] for row in rows])
+        pictures = [designs.picture_of_design(row[1]) for row in rows[:-1]]
+        self.assertEqual(len({one.get_pixels() for one in pictures}), len(files) + 2)
+        rack = str(support.TOP / "designs/rack-100x50.svg")
+        self.change(roll=True, design=rack)
+        self.assertIn("rack-100x50.svg is 100 by 50 mm, and a label is 60 by 40 mm", self.problem())
+        self.assertFalse(self.problem().startswith("/"))
+        self.remade(self.answers()["Labels of 100 by 50 mm"].clicked)
+        self.assertEqual(self.window.made.labels.job.plan.sheet.page, (100, 50))
 
     def test_what_the_sign_of_prices_means_is_asked_for(self) -> None:
         """In words, and not by an option, since only the keeper knows."""
@@ -1580,10 +1881,14 @@ class WindowTest(Keeper):
         self.change(price_as="€0.00")
         self.until(lambda: self.problem() == "Which sign is before the cents?")
         settle(0.5)  # nothing else is under way
-        self.assertNotIn("--", "".join(row[2] for row in self.window.notes))
+        self.assertEqual(self.counted(), "")  # not that there are none
+        self.assertNotIn("--", "".join(row[2] for row in self.widgets.notes))
         self.pressed("The point, as in 1.50")
-        self.until(lambda: self.window.words == "--decimal point" and self.window.has_labels)
-        self.assertEqual(self.window.made.labels.labels[0].label.record.label.price, "€1200.00")
+        given = "--decimal point"
+        self.until(lambda: self.window.further.given == given and self.window.has_labels)
+        self.assertEqual(self.given(), ["The point is before the cents."])
+        self.assertIs(self.window.get_focus(), self.focus_of(self.widgets.price))
+        self.assertEqual(self.window.made.labels.labels[0].record.price, "€1200.00")
 
     def test_the_bar_closes_by_escape_and_the_list_keeps_what_it_said(self) -> None:
         """The last twenty; what is good does not take the place of what went wrong with another."""
@@ -1597,7 +1902,7 @@ class WindowTest(Keeper):
         self.assertEqual(len(self.happened()), 20)
         self.window.events.show(bar.Event("success", "printed after all", about=1))
         self.assertEqual(self.said(), "printed after all")
-        closing = [one for one in gtk.within(self.window.bar) if isinstance(one, Gtk.Button)]
+        closing = [one for one in gtk.within(self.widgets.bar) if isinstance(one, Gtk.Button)]
         self.assertEqual(
             [one.get_accessible().get_name() for one in closing if one.get_visible()], ["Close"]
         )
@@ -1616,23 +1921,23 @@ class WindowTest(Keeper):
         rows = "96385074;Gum;1,20;0,80\n4006381333931;Pen;2,00;1,00\n"
         self.open("EAN;Name;Preis A;Preis B\n" + rows)
         self.until(lambda: self.window.has_labels)
-        self.assertFalse(self.window.print_button.is_sensitive())
-        self.assertIn("First answer", self.window.print_button.get_tooltip_text())
+        self.assertFalse(self.widgets.print_button.is_sensitive())
+        self.assertIn("First answer", self.widgets.print_button.get_tooltip_text())
         self.assertEqual(len(self.window.made.labels.labels), 2)
         first, *_ = self.answers()
         self.assertIs(self.window.get_focus(), self.answers()[first])
         self.remade(lambda: self.pressed(first))
-        self.assertTrue(self.window.print_button.is_sensitive())
+        self.assertTrue(self.widgets.print_button.is_sensitive())
 
     def test_a_question_is_scrolled_to(self) -> None:
         self.open()
-        self.window.more_of_table.set_expanded(True)
+        self.widgets.more_of_table.set_expanded(True)
         self.window.resize(800, 500)
         settle(0.3)
         self.window.questions.ask("printer", "What?", [("Labels", bool), ("Receipts", bool)])
         settle(0.3)
-        scroll = self.window.panel.get_ancestor(Gtk.ScrolledWindow).get_vadjustment()
-        area = self.window.ask_printer.get_allocation()
+        scroll = self.widgets.panel.get_ancestor(Gtk.ScrolledWindow).get_vadjustment()
+        area = self.widgets.ask_printer.get_allocation()
         self.assertGreater(area.y + area.height, scroll.get_page_size())
         self.assertLessEqual(area.y + area.height, scroll.get_value() + scroll.get_page_size())
 
@@ -1646,12 +1951,12 @@ class WindowTest(Keeper):
             if one is None or one in found:
                 break
             found.append(one)
-        names = [next(self.ids(one), "") for one in found if one.is_ancestor(self.window.panel)]
+        names = [next(self.ids(one), "") for one in found if one.is_ancestor(self.widgets.panel)]
         return [name for name in names if name]
 
     def ids(self, widget: Any) -> Any:
         """The ids of window.ui of a widget, and of what it is in, up to the panel."""
-        while widget is not self.window.panel:
+        while widget is not self.widgets.panel:
             name = Gtk.Buildable.get_name(widget)
             if name and self.window.builder.get_object(name) is widget:
                 yield name
@@ -1663,23 +1968,23 @@ class WindowTest(Keeper):
         of_label = ["code", "title", "price", "copies", "more_of_table"]
         of_paper = ["printer", "sheet", "roll", "stock", "first", "more_of_paper"]
         self.assertEqual(self.tab(), [*of_label, *of_paper])
-        self.window.roll.set_active(True)
+        self.widgets.roll.set_active(True)
         self.until(lambda: self.window.has_labels)
         of_roll = ["printer", "sheet", "roll", "width", "height", "more_of_paper"]
         self.assertEqual(self.tab(), [*of_label, *of_roll])
-        self.window.more_of_table.set_expanded(True)
+        self.widgets.more_of_table.set_expanded(True)
         settle(0.3)
         self.assertEqual(self.tab()[4:7], ["more_of_table", "text", "more"])
 
     def test_the_panel_fits_a_low_screen(self) -> None:
         """In each language, with a question; 1024 by 600 pixels leave 554 for it."""
         code = "import test_window as t; t.load(); t.gtk.add_style(); one = t.window.Window(); "
-        code += "one.stack.set_visible_child_name('work'); one.present(); t.settle(0.3); "
+        code += "one.widgets.stack.set_visible_child_name('work'); one.present(); t.settle(0.3); "
         code += (
             "one.questions.ask('price', t.questions.which('price'), [('VK – 19,57', bool)] * 2); "
         )
-        code += "t.settle(0.3); print(one.panel.get_preferred_height()[1], end=' '); "
-        code += "print(one.panel.get_preferred_width()[1])"
+        code += "t.settle(0.3); print(one.widgets.panel.get_preferred_height()[1], end=' '); "
+        code += "print(one.widgets.panel.get_preferred_width()[1])"
         for language in ("en", "de", "fr"):
             environment = support.speaking(language, self.folder / "locale")
             how: Any = {"cwd": support.TESTS, "env": environment, "capture_output": True}
@@ -1692,16 +1997,19 @@ class WindowTest(Keeper):
         """In each language, on a roll, with the list of what is skipped and buttons that help;
         lists of choices are as wide as their texts.
         """
-        self.table.write_text(TABLE + "A-17;A-17;No number;2,00 €;1;1\n5;96385074;Gum;soon;1;1\n")
+        more = "5;36000291452;Salt;2,00 €;1;1\n6;4006350000000;Tea;2,00 €;1;1\n"
+        self.table.write_text(f"{TABLE}{more}7;96385074;Gum;soon;1;1\n")
         code = "import sys; from pathlib import Path; import test_window as t; t.load(); "
         code += "t.gtk.add_style(); settings = t.Gtk.Settings.get_default(); "
         code += "settings.set_property('gtk-xft-dpi', 144 * 1024); "
-        code += "one = t.window.Window(); one.present(); one.roll.set_active(True); "
+        code += "one = t.window.Window(); one.present(); one.widgets.roll.set_active(True); "
         code += "one.open(Path(sys.argv[1])); t.settle(3); assert one.has_labels; "
-        code += "one.fold.set_active(True); t.settle(0.3); print(one.get_preferred_width()[0], "
-        code += "one.get_preferred_height()[0], len(one.helps.get_children()), "
+        code += (
+            "one.widgets.fold.set_active(True); t.settle(0.3); print(one.get_preferred_width()[0], "
+        )
+        code += "one.get_preferred_height()[0], len(one.widgets.helps.get_children()), "
         code += "*(list.get_popup_accessible().get_widget().get_size_request()[0] "
-        code += "for list in (one.printer, one.title)))"
+        code += "for list in (one.widgets.printer, one.widgets.title)))"
         for language in ("en", "de", "fr"):
             environment = support.speaking(language, self.folder / "locale")
             how: Any = {"cwd": support.TESTS, "env": environment, "capture_output": True}
@@ -1711,6 +2019,18 @@ class WindowTest(Keeper):
             self.assertEqual((width <= 1024, height <= 600, buttons), (True, True, 3), language)
             self.assertGreater(min(lists), 200, language)
 
+    def test_no_text_is_cut_on_a_low_screen(self) -> None:
+        """With large letters, in each language."""
+        self.table.write_text(TABLE + "5;96385074;Gum;soon;1;1\n")
+        code = "import sys, pathlib, test_window; "
+        code += "test_window.show_cut_texts(pathlib.Path(sys.argv[1]))"
+        for language in ("en", *test_german.LANGUAGES):
+            environment = support.speaking(language, self.folder / "locale")
+            how: Any = {"cwd": support.TESTS, "env": environment, "capture_output": True}
+            words = [sys.executable, "-c", code, str(self.table)]
+            ran = subprocess.run(words, text=True, check=True, **how)
+            self.assertEqual(ran.stdout, "[]\n[]\n", language)
+
     def test_rows_are_chosen_in_a_list(self) -> None:
         """By marks, all that are looked for at once, or those that were not printed yet."""
         self.open()
@@ -1718,28 +2038,28 @@ class WindowTest(Keeper):
 
         def choose(typed: str, *acts: Callable[[], Any]) -> Any:
             def act() -> bool:
-                if not self.window.choosing.get_visible():
+                if not self.widgets.choosing.get_visible():
                     return True
                 for one in acts:
                     one()
-                self.window.choosing.response(Gtk.ResponseType.OK)
+                self.widgets.choosing.response(Gtk.ResponseType.OK)
                 return False
 
             GLib.timeout_add(BEAT, act)
             return rows.choose(self.window.made.labels, typed)
 
         def look_for(text: str) -> Callable[[], Any]:
-            return lambda: (self.window.rows_search.set_text(text), rows.found.refilter())
+            return lambda: (self.widgets.rows_search.set_text(text), rows.found.refilter())
 
         self.assertEqual(choose("5, 2-3"), "2-3,5")
-        self.assertEqual(choose("2", self.window.rows_all.clicked), "2-3,5")
-        soap = look_for("soap"), self.window.rows_all.clicked
+        self.assertEqual(choose("2", self.widgets.rows_all.clicked), "2-3,5")
+        soap = look_for("soap"), self.widgets.rows_all.clicked
         self.assertEqual(choose("", *soap), "3")
-        none = self.window.rows_none.clicked
+        none = self.widgets.rows_none.clicked
         self.assertEqual(choose("2-5", none, lambda: rows.on_mark("2")), "5")
         self.saved("labels.pdf")
         self.open(TABLE.replace("Soap", "Soap, blue"))
-        self.assertEqual(choose("", self.window.rows_new.clicked), "3")
+        self.assertEqual(choose("", self.widgets.rows_new.clicked), "3")
 
     def test_sheets_have_pictures(self) -> None:
         """Of their grid, by which a keeper knows hers."""
@@ -1755,7 +2075,7 @@ class WindowTest(Keeper):
     def test_the_wheel_changes_no_choice(self) -> None:
         """It scrolls what the controls are in."""
         self.open()
-        self.window.more_of_paper.set_expanded(True)
+        self.widgets.more_of_paper.set_expanded(True)
         settle(0.1)
         before = self.window.choices()
         for name in ("title", "design", "first"):
@@ -1770,13 +2090,13 @@ class WindowTest(Keeper):
     def test_reasons_wrap_at_the_edge_of_the_list(self) -> None:
         self.open()
         self.window.resize(800, 800)
-        self.until(lambda: self.window.reason.get_property("wrap-width") < 400)
+        self.until(lambda: self.widgets.reason.get_property("wrap-width") < 400)
         self.window.resize(1180, 800)
-        self.until(lambda: self.window.reason.get_property("wrap-width") > 400)
+        self.until(lambda: self.widgets.reason.get_property("wrap-width") > 400)
 
     def test_saves_beside_the_table(self) -> None:
         self.open()
-        chooser = self.window.saver
+        chooser = self.widgets.saver
         with (
             mock.patch.object(type(chooser), "run", return_value=0),
             mock.patch.object(type(chooser), "set_current_folder") as folder_of,
@@ -1789,17 +2109,18 @@ class WindowTest(Keeper):
     def test_offers_sheets_and_encodings(self) -> None:
         """One that is sure is taken, which is said, and can be chosen all the same."""
         self.open("EAN;Artikel\n96385074;Füller, blau\n".encode("cp1252"))
-        self.assertEqual(self.window.choices()["for-table"], "--encoding cp1252")
-        said = 'The table is read as cp1252, with words such as "Füller".\nCheck the letters.'
+        self.assertEqual(self.given(), ["The letters are Western European (Füller)."])
+        said = 'The letters are read as Western European (ä é €), in words such as "Füller".'
+        said += "\nCheck the letters."
         self.assertIn(said, [row[2] for row in self.rows()])
-        self.pressed("Choose the encoding")
+        self.pressed("The letters are wrong")
         self.until(self.problem)
         self.assertIn("Choose what reads well", self.problem())
         self.assertEqual([*self.answers()], ["Füller"])
         self.pressed("Füller")
         self.until(lambda: self.window.has_labels)
         self.assertEqual(self.problem(), "")
-        self.assertEqual(self.window.choices()["for-table"], "--encoding cp1252")
+        self.assertEqual(self.window.choices().given_table, "--encoding cp1252")
         self.assertNotIn(said, [row[2] for row in self.rows()])
 
     def test_keeps_how_a_table_is_read(self) -> None:
@@ -1810,7 +2131,7 @@ class WindowTest(Keeper):
         later.write_text(TABLE)
         self.open(path=later)
         self.until(lambda: self.window.has_labels)
-        self.assertEqual(self.window.choices()["for-table"], "--where Name=Soap")
+        self.assertEqual(self.window.choices().for_table, "--where Name=Soap")
         self.assertIn("2 labels from 1 row, ", self.counted())
 
     def test_a_file_that_is_no_table_is_said(self) -> None:
@@ -1824,7 +2145,7 @@ class WindowTest(Keeper):
             self.window.table = self.window.before = None
             self.open(path=path)
             self.assertIn(name, self.problem())
-            self.assertFalse(self.window.print_button.is_sensitive())
+            self.assertFalse(self.widgets.print_button.is_sensitive())
         self.open(path=self.folder / "none.csv")
         self.assertIn("none.csv", self.problem())
         self.open()
@@ -1836,7 +2157,7 @@ class WindowTest(Keeper):
         for words, said in (("--no-such-option", "--no-such-option"), ("'open", "quotation")):
             self.change(for_print=words)
             self.assertIn(said, self.problem())
-            self.assertFalse(self.window.print_button.is_sensitive())
+            self.assertFalse(self.widgets.print_button.is_sensitive())
             self.assertIs(self.window.shown, before)
         self.change(for_print="", price="")
         self.assertEqual(self.problem(), "")
@@ -1848,20 +2169,20 @@ class WindowTest(Keeper):
         self.assertIn("6 labels from 3 rows", self.counted())
         self.change(for_table="--where Name=Soap")
         self.until(lambda: "2 labels from 1 row" in self.counted())
-        self.assertEqual(self.window.choices()["price"], "")
+        self.assertEqual(self.window.choices().price, "")
         with redirect_stdout(StringIO()):
-            self.window.take({"for-table": "--help"})
+            self.window.take(for_table="--help")
             settle(0.5)
 
     def test_a_wrong_picture_stops_the_print(self) -> None:
         self.open()
         made = self.window.made.labels
         first = made.labels[0]
-        packed = bytearray(first.label.modules.packed)
+        packed = bytearray(first.record.modules.packed)
         packed[len(packed) // 2] ^= 0b00111100
-        modules = replace(first.label.modules, packed=bytes(packed))
-        record = first.label.record._replace(modules=modules)
-        bad = replace(first, label=replace(first.label, record=record))
+        modules = replace(first.record.modules, packed=bytes(packed))
+        record = first.record._replace(drawn=modules)
+        bad = replace(first, record=record)
         prints = [bad if item is first else item for item in made.prints]
         self.window.made = replace(self.window.made, labels=replace(made, prints=prints))
         path = self.folder / "wrong.pdf"
@@ -1887,10 +2208,10 @@ class WindowTest(Keeper):
         self.assertEqual(self.said(), "Stopped: nothing was printed")
         self.assertNotIn(threading.main_thread(), threads)
         self.assertEqual(list(self.folder.glob("*.pdf")), [])
-        self.assertTrue(self.window.print_button.is_sensitive())
-        self.window.take({"price": ""})
+        self.assertTrue(self.widgets.print_button.is_sensitive())
+        self.window.take(price="")
         self.window.on_stop(None)  # the labels that are there are not those that are chosen
-        self.assertFalse(self.window.print_button.is_sensitive())
+        self.assertFalse(self.widgets.print_button.is_sensitive())
 
     def test_stop_tells_how_many_labels_a_printer_took(self) -> None:
         """While they go out nothing else is chosen or opened."""
@@ -1904,7 +2225,7 @@ class WindowTest(Keeper):
         )
         self.window.ways.send_to(printer.name, self.window.made.labels)
         self.until(lambda: len(printer.labels) > 1)
-        self.assertFalse(self.window.stack.is_sensitive())
+        self.assertFalse(self.widgets.stack.is_sensitive())
         self.window.open(self.table)
         self.window.on_stop(None)
         printer.told.set()
@@ -1912,7 +2233,7 @@ class WindowTest(Keeper):
         taken = re.search("it took ([0-9]+) labels whole", self.problem())
         self.assertEqual(int(taken[1]) if taken else 0, len(printer.labels))
         self.assertLess(len(printer.labels), 40)
-        self.assertTrue(self.window.stack.is_sensitive())
+        self.assertTrue(self.widgets.stack.is_sensitive())
         self.assertEqual(len(self.printed()), len(printer.labels))
 
     def test_the_desktop_finds_the_window(self) -> None:
@@ -1941,13 +2262,15 @@ class WindowTest(Keeper):
         boxes = [one for one, _ in controls if isinstance(one, Gtk.ComboBox)]
         aloud = [one.get_accessible().get_name() for one in boxes]
         self.assertIn("Save a file…", aloud)
-        ids = {str(value) for value in self.window.choices().values() if value not in ("", None)}
+        ids = {
+            str(value) for value in vars(self.window.choices()).values() if value not in ("", None)
+        }
         self.assertEqual([one for one in aloud if one in ids], [])  # nobody should hear these
         self.window.offer(
-            self.window.helps, [("Prices may be any text, however long it is", bool)] * 3
+            self.widgets.helps, [("Prices may be any text, however long it is", bool)] * 3
         )
-        self.window.helps.show()
-        self.window.fold.set_active(True)
+        self.widgets.helps.show()
+        self.widgets.fold.set_active(True)
         settle(0.1)
         width, _ = self.window.get_preferred_width()
         height, _ = self.window.get_preferred_height()

@@ -201,7 +201,7 @@ class Trial:
         if not pages:
             return Outcome("not decoded", said)
         wanted = bars(kind, dpi)
-        counts = len(wanted) - sum(is_there(one, pages, kind, dpi) for one in wanted)
+        counts = len(wanted) - sum(is_there(code, pages, kind, dpi) for code in wanted)
         sizes = ", ".join(f"{page.dots.shape[1]}x{page.dots.shape[0]}" for page in pages[:3])
         if not counts:
             return Outcome("exact")
@@ -222,7 +222,8 @@ class Trial:
         job = path.read_bytes()
         if job[:4] in SYNCS:
             return [*pages_of_raster(job)]
-        start = min((at for at in (job.find(b"%!PS"), job.find(b"%PDF-")) if at >= 0), default=-1)
+        places = job.find(b"%!PS"), job.find(b"%PDF-")
+        start = min((place for place in places if place >= 0), default=-1)
         if start < 0:
             return ()
         document = job[start:].partition(b"\x1b%-12345X")[0]
@@ -247,7 +248,8 @@ def changed_options(ppd: Any, chance: random.Random) -> Iterator[str]:
     ppd.markDefaults()
     before = ppd.conflicts()
     for group in ppd.optionGroups:
-        for option in [*group.options, *(one for part in group.subgroups for one in part.options)]:
+        of_parts = [option for part in group.subgroups for option in part.options]
+        for option in [*group.options, *of_parts]:
             if option.keyword == "PageRegion" or chance.random() > OFTEN:
                 continue
             names = [choice["choice"] for choice in option.choices]
@@ -315,12 +317,12 @@ def is_found(page: Dots, bits: Dots, left: int, top: int, near: int) -> bool:
     rows = range(max(0, top - near), min(len(page) - high, top + near) + 1)
     for row in sorted(rows, key=lambda place: abs(place - top)):
         data = page[row + first, begin : left + wide + near].tobytes()
-        at = data.find(row_wanted)
-        while at >= 0:
-            column = begin + at
+        place = data.find(row_wanted)
+        while place >= 0:
+            column = begin + place
             if numpy.array_equal(page[row : row + high, column : column + wide], bits):
                 return True
-            at = data.find(row_wanted, at + 1)
+            place = data.find(row_wanted, place + 1)
     return False
 
 

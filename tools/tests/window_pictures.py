@@ -78,7 +78,7 @@ class Camera:
         self.window: Any = window.Window()
         self.window.present()
         self.settle(0.5)
-        head = self.window.head.get_allocated_height()  # GTK adds it to the height
+        head = self.window.widgets.head.get_allocated_height()  # GTK adds it to the height
         self.window.resize(size[0], size[1] - head)
         self.window.move(0, 0)
         self.window.get_window().focus(0)  # else no list is shown beside what is typed
@@ -112,11 +112,11 @@ class Camera:
 
     def is_asking(self) -> bool:
         """Whether the window asks something in place of the page."""
-        return bool(self.window.stack.get_visible_child_name() == "asking")
+        return bool(self.window.widgets.stack.get_visible_child_name() == "asking")
 
     def has_failed(self) -> bool:
         """Whether the window says that it cannot read a file."""
-        return self.window.path is not None and bool(self.window.bar.get_visible())
+        return self.window.path is not None and bool(self.window.widgets.bar.get_visible())
 
     def pixels(self) -> Any:
         """What the screen shows."""
@@ -175,9 +175,9 @@ class Camera:
     def place(self, name: str, right: float, down: float) -> tuple[float, float]:
         """Where a number is, as parts of the width and height of a widget."""
         if name == "ask_code":  # beside the heading
-            x, y = self.window.panel.translate_coordinates(self.window, 0, 0)
+            x, y = self.window.widgets.panel.translate_coordinates(self.window, 0, 0)
             return x + 130, y + 12
-        widget = getattr(self.window, name)
+        widget = self.window.builder.get_object(name)
         x, y = widget.translate_coordinates(self.window, 0, 0)
         area = widget.get_allocation()
         return x + right * area.width, y + down * area.height
@@ -219,23 +219,26 @@ def show_tables(camera: Camera) -> None:
     camera.shot("no-table")
     camera.open(shop_table())
     camera.shot("ordinary")
-    camera.while_popped("menu", window.menu_button)
-    window.fold.set_active(True)
+    camera.while_popped("menu", window.widgets.menu_button)
+    window.widgets.fold.set_active(True)
     camera.shot("errors")
-    window.fold.set_active(False)
-    window.first.set_value(3)
+    window.widgets.fold.set_active(False)
+    window.widgets.first.set_value(3)
     camera.until(lambda: window.has_labels)
     camera.shot("window")
     camera.numbered("window-steps.png")
-    window.more_of_table.set_expanded(True)
-    window.more_of_paper.set_expanded(True)
+    window.widgets.more_of_table.set_expanded(True)
+    window.widgets.more_of_paper.set_expanded(True)
     camera.shot("more")
-    window.more_of_table.set_expanded(False)
-    scroll = window.panel.get_ancestor(camera.gtk.Gtk.ScrolledWindow).get_vadjustment()
+    window.widgets.more_of_table.set_expanded(False)
+    scroll = window.widgets.panel.get_ancestor(camera.gtk.Gtk.ScrolledWindow).get_vadjustment()
     camera.settle(0.3)
     scroll.set_value(scroll.get_upper())
     camera.shot("more-below")
-    window.more_of_paper.set_expanded(False)
+    window.widgets.design.popup()
+    camera.shot("designs")
+    window.widgets.design.popdown()
+    window.widgets.more_of_paper.set_expanded(False)
     show_questions(camera)
 
 
@@ -249,15 +252,15 @@ def show_questions(camera: Camera) -> None:
     camera.open(xlsx(GOODS, ("Tea", "visible", GOODS)), "Price list.xlsx")
     camera.shot("asking")
     camera.open(shop_table() + WRONG)
-    window.fold.set_active(True)
+    window.widgets.fold.set_active(True)
     camera.shot("many-errors")
     camera.open(shop_table())
     window.table.keep_printed(window.made, window.made.labels)
     camera.open(shop_table().replace("Soap", "Soap, blue"))
-    window.new_only.set_active(True)
+    window.widgets.new_only.set_active(True)
     camera.until(lambda: window.has_labels)
     camera.shot("new-only")
-    window.new_only.set_active(False)
+    window.widgets.new_only.set_active(False)
     camera.until(lambda: window.has_labels)
 
 
@@ -266,9 +269,9 @@ def show_printers(camera: Camera) -> None:
     from labeltools.sending.printers import MEDIA, TRAY
 
     window = camera.window
-    window.printer.popup()
+    window.widgets.printer.popup()
     camera.shot("printers")
-    window.printer.popdown()
+    window.widgets.printer.popdown()
     window.of_printers.choose("/dev/usb/lp0")
     camera.shot("language")
     window.of_printers.choose("laser")
@@ -284,12 +287,12 @@ def show_printers(camera: Camera) -> None:
     rows = window.ways.printing.rows
     camera.while_asked("rows", lambda: rows.choose(labels, "2-4, 9"))
     camera.while_asked("naming", window.presets.ask)
-    window.stock.grab_focus()
-    window.stock.set_text("")
+    window.widgets.stock.grab_focus()
+    window.widgets.stock.set_text("")
     camera.type("Avery L71")
     camera.shot("sheets")
-    window.stock.set_text("Avery L7160")
-    window.print_button.grab_focus()
+    window.widgets.stock.set_text("Avery L7160")
+    window.widgets.print_button.grab_focus()
     camera.until(lambda: window.has_labels)
 
 
@@ -320,18 +323,18 @@ def show_events(camera: Camera) -> None:
     camera.while_asked("roll-dialog", lambda: window.ways.ask_direct(window.of_printers.chosen))
     show_progress(camera)
     window.ways.send_to("tcp://127.0.0.1:9", labels)  # nobody listens there
-    camera.until(lambda: window.bar.get_visible())
+    camera.until(lambda: window.widgets.bar.get_visible())
     camera.shot("silent")
     window.events.hide()
     window.ways.send_to(zebra.name, labels)
-    camera.until(lambda: window.bar.get_visible())
+    camera.until(lambda: window.widgets.bar.get_visible())
     camera.shot("failed")
     camera.while_asked("in-doubt", window.events.act)
     design = support.TOP / "designs/shelf-60x40.svg"
-    window.take({"design": str(design)})
+    window.take(design=str(design))
     camera.until(lambda: window.has_labels)
     camera.shot("own-design")
-    camera.while_popped("happened", window.history_button)
+    camera.while_popped("happened", window.widgets.history_button)
 
 
 def waiting_for(job: Any, trouble: Any) -> Any:
@@ -349,13 +352,13 @@ def show_progress(camera: Camera) -> None:
     from labeltools.window.work import progress_text
 
     window = camera.window
-    window.working.show()
-    window.progress.set_fraction(23 / 49)
+    window.widgets.working.show()
+    window.widgets.progress.set_fraction(23 / 49)
     talk = WindowTalk()
     talk.done, talk.total, talk.printer = 23, 49, "Zebra ZD421"
-    window.progress.set_text(progress_text(talk))
+    window.widgets.progress.set_text(progress_text(talk))
     camera.shot("printing")
-    window.working.hide()
+    window.widgets.working.hide()
 
 
 def draw(options: argparse.Namespace) -> None:

@@ -146,7 +146,7 @@ def _stroke_of(text: str) -> Stroke:
     return _rounded(stroke) if text.startswith("~") else stroke
 
 
-def _strokes_of(character: str) -> tuple[Stroke, ...]:
+def strokes_of(character: str) -> tuple[Stroke, ...]:
     """The strokes of a character: a frame if it has no form, as a control character."""
     if character == ZERO_OF_LETTERS:
         return (*_DIGITS[0], _stroke_of("3434"))
@@ -174,7 +174,7 @@ def rows_of(character: str, scale: int) -> tuple[int, ...]:
     spans = [math.sqrt(max(0.0, scale * scale / 4 - (y - middle) ** 2)) for y in range(scale)]
     pen = [sum(1 << x for x in range(scale) if abs(x - middle) <= span) for span in spans]
     rows = [0] * (HEIGHT * scale)
-    for x, y in {dot for stroke in _strokes_of(character) for dot in _dots_of(stroke, scale)}:
+    for x, y in {dot for stroke in strokes_of(character) for dot in _dots_of(stroke, scale)}:
         for row, dots in enumerate(pen):
             rows[y + row] |= dots << ((WIDTH - 1) * scale - x)
     return tuple(rows)

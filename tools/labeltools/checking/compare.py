@@ -22,8 +22,9 @@ from labeltools.common.text import Text
 from labeltools.designs.design import Design, PlacedSymbol
 from labeltools.designs.places import Place
 from labeltools.layout.layout import LaidOut
-from labeltools.lines.engine import bytes_a_row, Engine, LABELS_FAILED, Refused
-from labeltools.lines.file import LineRecord
+from labeltools.lines.engine import bytes_a_row, Engine, LABELS_FAILED
+from labeltools.lines.file import Record
+from labeltools.lines.reasons import Refused
 from labeltools.paper.box import Box
 from labeltools.paper.picture import Picture, rows_reader
 from labeltools.paper.plan import Plan
@@ -48,7 +49,7 @@ DIGITS = bytes.maketrans(b"\0\1", b"01")
 class Different(NotDecoded):
     """What differs in a label of a line, if that is known."""
 
-    def __init__(self, what: Text, record: LineRecord | None = None) -> None:
+    def __init__(self, what: Text, record: Record | None = None) -> None:
         super().__init__(what)
         self.record = record
 
@@ -82,7 +83,7 @@ class Where(NamedTuple):
 class Wanted(NamedTuple):
     """What has to be on a page for a symbol: of which line it is, the symbol, and where."""
 
-    record: LineRecord
+    record: Record
     symbol: Any
     where: Where
 
@@ -186,12 +187,12 @@ class Comparison:
         what = Text("its dots are wrong in the output, {:.1f} mm down", number * self.plan.dot)
         high = self.plan.room[1]
         there = [item for item, (_, top) in document.pages[0] if top <= number < top + high]
-        raise Different(what, there[0].label.record if there else None)
+        raise Different(what, there[0].record if there else None)
 
     def wanted_on(self, labels: Labels) -> Iterator[Wanted]:
         """Yields what has to be on a page, in the order of its drawing; raises `Different`."""
         for item, at in labels:
-            record = item.label.record
+            record = item.record
             for spot in self.design.symbols(item, self.area):
                 try:
                     symbol = self.symbol(spot, record)
@@ -222,7 +223,7 @@ class Comparison:
         self.check_cell(at, picture)
         return Where(picture, tuple(whites), (quarters + self.is_turned) % 4, scale, wide, high)
 
-    def symbol(self, spot: PlacedSymbol, record: LineRecord) -> Any:
+    def symbol(self, spot: PlacedSymbol, record: Record) -> Any:
         """Returns a symbol of a label, drawn anew from its line; raises `Different` where that does
         not say its data.
         """
@@ -234,10 +235,9 @@ class Comparison:
             escaped = said.replace(b"\\", b"\\\\").replace(b"\n", b"\\n")
             line = ",".join((place.symbology, *place.settings)).encode() + b" " + escaped
             engine, data = self.escaped, spot.data
-        try:
-            symbol = engine.symbol(line)
-        except Refused as refused:
-            raise Different(Text("{}", str(refused))) from refused
+        symbol = engine.symbol(line)
+        if isinstance(symbol, Refused):
+            raise Different(symbol.what)
         if symbol.data != data:
             raise Different(Text("its code says other data than its line"))
         return symbol
@@ -266,9 +266,9 @@ class Comparison:
                 raise Different(Text("its code extends beyond its cell"))
 
 
-def first_record(labels: Labels) -> LineRecord:
+def first_record(labels: Labels) -> Record:
     """Returns the line of the first label of a page."""
-    return labels[0][0].label.record
+    return labels[0][0].record
 
 
 def check_dots(wanted: Wanted, page: Picture, dot: float) -> None:
@@ -401,19 +401,18 @@ def wrong(wanted: Wanted, dot: float) -> Different:
     return Different(what, wanted.record)
 
 
-def text_for(place: Place, record: LineRecord) -> str | None:
+def text_for(place: Place, record: Record) -> str | None:
     """Returns the text of a label in a place, by the line itself; None where it is put together of
     several.
     """
-    label = record.label
-    columns = reversed([*zip(label.names, label.text)])  # the first one of a name counts
+    columns = reversed([*zip(record.names, record.text)])  # the first one of a name counts
     texts = {
         **{compared_name(name): text for name, text in columns},
         "code": record.data.decode("utf-8", "surrogateescape"),
-        "title": label.title,
-        "price": label.price,
-        "unit": label.unit,
-        "was": label.was,
+        "title": record.title,
+        "price": record.price,
+        "unit": record.unit,
+        "was": record.was,
     }
     name = compared_name(place.title)
     several = AGAIN.sub("", name)

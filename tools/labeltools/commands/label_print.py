@@ -7,24 +7,31 @@ import re
 import stat
 import sys
 from pathlib import Path
-from typing import Any, Callable, Sequence
+from types import MappingProxyType
+from typing import Any, Mapping, Sequence
 
-from labeltools.common.arguments import flag, Parser, value, wrong_argument
+from labeltools.common.arguments import (
+    add_options,
+    Option,
+    Parser,
+    read_beside,
+    wrong_argument,
+)
 from labeltools.common.messages import BAD_ARGUMENTS, sentence, ToolError, write_message
 from labeltools.common.process import (
     CommandTalk,
-    hold_signals,
     keep_standard_error,
     read_input,
     standard_output,
 )
 from labeltools.common.report import places_text, Ranges, report
+from labeltools.common.signals import hold_signals
 from labeltools.common.text import counted, joined, shell_line, Text
 from labeltools.designs.svg_design import is_file
-from labeltools.drawing.forms import FORMS
+from labeltools.drawing.forms import FORMS, PBM
 from labeltools.layout.area import PURPOSES
-from labeltools.lines.file import LineRecord
-from labeltools.paper.stock import forget, list_stock
+from labeltools.lines.file import Record
+from labeltools.paper.stock import forget, list_stock, Size
 from labeltools.printing.job import AS_GIVEN, DRAWING_DPI, Job, planned, PrintOptions, refuse
 from labeltools.printing.press import check_count, labels_of, Prepared
 from labeltools.printing.selection import ranges_in, selection_of
@@ -52,33 +59,70 @@ EXAMPLES = """examples:
   label-print --paper 60x40 --dpi 203 --to zpl --print tcp://HOST articles.lines
 
 man label-print has all details."""
-NUMBER = r"-?\d{1,%d}(?:\.\d{1,4})?"
+LENGTH = re.compile(r"-?\d{1,4}(?:\.\d{1,4})?", re.ASCII)
+SMALLEST = 0.0001  # of a length that is above zero, in millimetres
+FARTHEST = 10_000.0  # that something is moved
 
 
-def reads(
-    example: str, least: float = 0.0, kind: type = float, digits: int = 4
-) -> Callable[[str], Any]:
-    """Returns what reads numbers, from `least` on, that are written as in an example, of so many
-    digits at most.
-    """
-    one = NUMBER % digits
-    pattern = re.compile(re.sub(one, lambda _: f"({one})", example), re.ASCII)
+def lengths(argument: str, between: str, example: str, least: float = 0.0) -> list[float]:
+    """Returns the lengths of an argument, from `least` on: as many as an example has."""
+    parts = argument.split(between)
+    is_like = len(parts) == example.count(between) + 1 and all(map(LENGTH.fullmatch, parts))
+    found = [float(part) for part in parts] if is_like else []
+    if not found or min(found) < least:
+        raise wrong_argument(Text("{!r}: write it as {}", argument, example))
+    return found
 
-    def number(argument: str) -> Any:
-        match = pattern.fullmatch(argument)
-        numbers = [kind(number) for number in match.groups()] if match else []
-        if not numbers or min(numbers) < least:
-            raise wrong_argument(Text("{!r}: write it as {}", argument, example))
-        return tuple(numbers) if len(numbers) > 1 else numbers[0]
 
-    return number
+def size(argument: str) -> Size:
+    """Returns a width and a height."""
+    width, height = lengths(argument, "x", "63x38", SMALLEST)
+    return width, height
+
+
+def point(argument: str) -> Size:
+    """Returns how far something is from the left and from the top."""
+    left, top = lengths(argument, "x", "7x15")
+    return left, top
+
+
+def shift(argument: str) -> Size:
+    """Returns how far something is moved to the right and down, or the other way."""
+    right, down = lengths(argument, ",", "-0.5,1", -FARTHEST)
+    return right, down
+
+
+def module(argument: str) -> float:
+    """Returns the width of a module."""
+    (width,) = lengths(argument, ",", "38.1", SMALLEST)
+    return width
 
 
 def edges(argument: str) -> tuple[float, float, float, float]:
     """Returns the edges of one number for all, or of four."""
-    numbers = reads("5,5,5,5")(argument) if "," in argument else (reads("5")(argument),) * 4
-    left, top, right, bottom = numbers
-    return left, top, right, bottom
+    if "," in argument:
+        left, top, right, bottom = lengths(argument, ",", "5,5,5,5")
+        return left, top, right, bottom
+    (edge,) = lengths(argument, ",", "5")
+    return edge, edge, edge, edge
+
+
+def number_from(argument: str, least: int, digits: int, example: str) -> int:
+    """Returns a whole number of so many digits at most, from `least` on."""
+    is_number = argument.isascii() and argument.isdecimal() and len(argument) <= digits
+    if not is_number or int(argument) < least:
+        raise wrong_argument(Text("{!r}: write it as {}", argument, example))
+    return int(argument)
+
+
+def from_one(argument: str) -> int:
+    """Returns how many of something there are, or which of them is meant."""
+    return number_from(argument, 1, 4, "3")
+
+
+def labels_before(argument: str) -> int:
+    """Returns how many labels are on paper already: at most as many as one run takes."""
+    return number_from(argument, 0, 7, "9")
 
 
 def design_of(argument: str) -> str:
@@ -121,108 +165,204 @@ def printer_of(argument: str) -> str:
     return argument
 
 
-SIZE = reads("63x38", 0.0001)
-POINT = reads("7x15")
-COUNT = reads("3", 1, int)
+SHOWN_FORMS = ", ".join(name for name in FORMS if name != PBM.name)  # which is for tests
+SUMMARY = "report what was written and how to print it (always on a terminal)"
+OPTIONS: Mapping[str, Sequence[Option]] = {
+    "the paper": (
+        Option(
+            "--stock",
+            "NAME",
+            "the sheet of labels by its name, such as 'Avery L7160' or l7160",
+            apart="sheet",
+        ),
+        Option(
+            "--list-stock",
+            "WORD",
+            "list the sheets that have these words or this size, or all",
+            bare="",
+            apart="sheet",
+        ),
+        Option(
+            "--paper",
+            "WxH",
+            "one label on each page of this size, as on a roll",
+            size,
+            apart="sheet",
+        ),
+        Option(
+            "--cell",
+            "WxH",
+            "a grid, with --columns and --rows: the size of a cell",
+            size,
+            apart="sheet",
+        ),
+        Option("--columns", "N", "cells side by side", from_one),
+        Option("--rows", "N", "cells below one another", from_one),
+        Option("--page", "WxH", "the size of the page (210x297)", size),
+        Option(
+            "--margin",
+            "LEFTxTOP",
+            "where the first cell begins (by default the grid is centred)",
+            point,
+        ),
+        Option("--gap", "XxY", "the distance between two cells (0x0)", point),
+        Option(
+            "--edge",
+            "MM",
+            "white at the edges of a page: one for all, or left,top,right,bottom (5; on a roll 0)",
+            edges,
+        ),
+        Option("--shift", "X,Y", "move everything, for a printer that feeds off centre", shift),
+    ),
+    "how labels look": (
+        Option(
+            "--design",
+            "NAME",
+            "article: bars for a till (the default); shelf: a large price; or a page of SVG",
+            design_of,
+        ),
+        Option(
+            "--turn",
+            "",
+            "turn labels a quarter to the right (default: if more fit)",
+            apart="turn",
+        ),
+        Option("--no-turn", "", "never turn labels", target="turn", sets=False, apart="turn"),
+        Option(
+            "--module",
+            "MM",
+            "the width of the narrowest bar, or of a square of QR (what fits best)",
+            module,
+        ),
+        Option("--note", "TEXT", "a line of text for all labels, such as a date"),
+        Option("--font", "NAME", "the font of titles, texts and prices (Liberation Sans)"),
+        Option(
+            "--no-raised-cents",
+            "",
+            "print cents as large as the digits before them, and not raised",
+            target="has_raised_cents",
+            sets=False,
+        ),
+    ),
+    "what is printed": (
+        Option("--first", "N", "begin at this cell of the first page (1)", from_one),
+        Option(
+            "--only",
+            "ROWS",
+            "print only these rows of the table, such as 2,7-9, or 7- for all from 7 on",
+            rows,
+            target="rows_only",
+        ),
+        Option(
+            "--only-code",
+            "CODE",
+            "print the label with this code, or with a code of @FILE, which has one on each line; "
+            "with --only, all labels that either of the two names",
+            not_empty,
+            target="codes",
+            is_repeated=True,
+        ),
+        Option(
+            "--after",
+            "N",
+            "skip this many labels, which are on paper already (0)",
+            labels_before,
+        ),
+        Option(
+            "--unique",
+            "",
+            "skip a line whose code came before, as for tickets and serial numbers",
+            target="is_unique",
+        ),
+        Option(
+            "--escapes",
+            "",
+            "read escapes in data, as labels --escapes does",
+            target="is_escaped",
+        ),
+    ),
+    "output": (
+        Option(
+            "--to",
+            "FORM",
+            f"{SHOWN_FORMS} (pdf)",
+            choices=tuple(FORMS),
+        ),
+        Option(
+            "--dpi",
+            "N",
+            f"the resolution of the printer, in dots per inch (pdf and svg: {DRAWING_DPI})",
+            from_one,
+        ),
+        Option(
+            "--each",
+            "NAME",
+            "a file for each label: %%d is its number, %%s its data",
+            apart="outlet",
+        ),
+        Option(
+            "--print",
+            "QUEUE",
+            "print on this queue of CUPS, tcp://HOST or /dev/usb/lp0, not to standard output",
+            printer_of,
+            target="queue",
+            apart="outlet",
+        ),
+        Option(
+            "--paper-as-given",
+            "",
+            "the printer takes this paper, up to its edge, even if its driver does not say so",
+            target="is_paper_as_given",
+        ),
+        Option(
+            "--journal",
+            "FILE",
+            "write each label into this file before it is sent; what is there is not sent again",
+            not_empty,
+        ),
+        Option(
+            "--again",
+            "PRINTER",
+            "with --only or --only-code: print once more what the journal has of this printer; "
+            "on a queue of CUPS: what was sent to it before",
+            not_empty,
+        ),
+        Option(
+            "--stream",
+            "",
+            "print each label as soon as its line has come in, and answer on standard error",
+            target="is_stream",
+        ),
+        Option("--dots", "N", "escpos: dots across the paper (576)", from_one),
+        Option(
+            "--no-cut",
+            "",
+            "escpos: do not cut after each label",
+            target="is_cut",
+            sets=False,
+        ),
+    ),
+}
 
 
 def print_parser() -> Parser:
     """Returns the arguments; their names are those of `PrintOptions`, which has their defaults."""
     parser = Parser(TOOL, USAGE, ABOUT, EXAMPLES)
-    add_sheet_options(parser.add_argument_group("the paper"))
-    add_size_options(parser.add_argument_group("how labels look"))
-    add_choice_options(parser.add_argument_group("what is printed"))
-    add_output_options(parser.add_argument_group("output"))
+    add_options(parser, OPTIONS)
     lines = "the file of label-table, or lines (standard input)"
     parser.add_argument("lines", metavar="LINES", nargs="?", help=lines)
-    summary = "report what was written and how to print it (always on a terminal)"
-    flag(parser, "--summary", "is_summed", summary)
+    Option("--summary", "", SUMMARY, target="is_summed").add_to(parser)
     parser.set_defaults(**vars(PrintOptions()))
     return parser
 
 
-def add_sheet_options(group: Any) -> None:
-    """Adds the options of the paper."""
-    one = group.add_mutually_exclusive_group()
-    stock = "the sheet of labels by its name, such as 'Avery L7160' or l7160"
-    value(one, "--stock", "NAME", str, stock)
-    listed = "list the sheets that have these words or this size, or all"
-    value(one, "--list-stock", "WORD", str, listed, nargs="?", const="")
-    value(one, "--paper", "WxH", SIZE, "one label on each page of this size, as on a roll")
-    value(one, "--cell", "WxH", SIZE, "a grid, with --columns and --rows: the size of a cell")
-    value(group, "--columns", "N", COUNT, "cells side by side")
-    value(group, "--rows", "N", COUNT, "cells below one another")
-    value(group, "--page", "WxH", SIZE, "the size of the page (210x297)")
-    margin = "where the first cell begins (by default the grid is centred)"
-    value(group, "--margin", "LEFTxTOP", POINT, margin)
-    value(group, "--gap", "XxY", POINT, "the distance between two cells (0x0)")
-    edge = "white at the edges of a page: one for all, or left,top,right,bottom (5; on a roll 0)"
-    value(group, "--edge", "MM", edges, edge)
-    shift = "move everything, for a printer that feeds off centre"
-    value(group, "--shift", "X,Y", reads("-0.5,1", -10000), shift)
-
-
-def add_size_options(group: Any) -> None:
-    """Adds the options of how labels look."""
-    design = "article: bars for a till (the default); shelf: a large price; or a page of SVG"
-    value(group, "--design", "NAME", design_of, design)
-    one = group.add_mutually_exclusive_group()
-    flag(one, "--turn", "turn", "turn labels a quarter to the right (default: if more fit)")
-    flag(one, "--no-turn", "turn", "never turn labels", False)
-    module = "the width of the narrowest bar, or of a square of QR (what fits best)"
-    value(group, "--module", "MM", reads("38.1", 0.0001), module)
-    value(group, "--note", "TEXT", str, "a line of text for all labels, such as a date")
-    value(group, "--font", "NAME", str, "the font of titles, texts and prices (Liberation Sans)")
-    cents = "print cents as large as the digits before them, and not raised"
-    flag(group, "--no-raised-cents", "has_raised_cents", cents, False)
-
-
-def add_choice_options(group: Any) -> None:
-    """Adds the options of which labels are printed, and from which lines."""
-    value(group, "--first", "N", COUNT, "begin at this cell of the first page (1)")
-    only = "print only these rows of the table, such as 2,7-9, or 7- for all from 7 on"
-    value(group, "--only", "ROWS", rows, only, dest="rows_only")
-    code = "print the label with this code, or with a code of @FILE, which has one on each line; "
-    code += "with --only, all labels that either of the two names"
-    value(group, "--only-code", "CODE", not_empty, code, action="append", dest="codes", default=[])
-    after = reads("9", 0, int, 7)  # as many as one run takes
-    value(group, "--after", "N", after, "skip this many labels, which are on paper already (0)")
-    unique = "skip a line whose code came before, as for tickets and serial numbers"
-    flag(group, "--unique", "is_unique", unique)
-    flag(group, "--escapes", "is_escaped", "read escapes in data, as labels --escapes does")
-
-
-def add_output_options(group: Any) -> None:
-    """Adds the options of where labels go, and in which form."""
-    forms = ", ".join(name for name in FORMS if name != "pbm")  # which is for tests
-    value(group, "--to", "FORM", str, f"{forms} (pdf)", choices=tuple(FORMS))
-    dpi = f"the resolution of the printer, in dots per inch (pdf and svg: {DRAWING_DPI})"
-    value(group, "--dpi", "N", COUNT, dpi)
-    one = group.add_mutually_exclusive_group()
-    each = "a file for each label: %%d is its number, %%s its data"
-    value(one, "--each", "NAME", str, each)
-    queue = "print on this queue of CUPS, tcp://HOST or /dev/usb/lp0, not to standard output"
-    value(one, "--print", "QUEUE", printer_of, queue, dest="queue")
-    given = "the printer takes this paper, up to its edge, even if its driver does not say so"
-    flag(group, "--paper-as-given", "is_paper_as_given", given)
-    journal = "write each label into this file before it is sent; what is there is not sent again"
-    value(group, "--journal", "FILE", not_empty, journal)
-    again = (
-        "with --only or --only-code: print once more what the journal has of this printer; on a "
-    )
-    again += "queue of CUPS: what was sent to it before"
-    value(group, "--again", "PRINTER", not_empty, again)
-    stream = "print each label as soon as its line has come in, and answer on standard error"
-    flag(group, "--stream", "is_stream", stream)
-    value(group, "--dots", "N", COUNT, "escpos: dots across the paper (576)")
-    flag(group, "--no-cut", "is_cut", "escpos: do not cut after each label", False)
-
-
-def print_options(words: Sequence[str] | None = None) -> PrintOptions:
-    """Returns what words ask for, or else the arguments of this program; raises `ToolError` and
-    `OSError`.
+def print_options(
+    words: Sequence[str] | None = None, chosen: Mapping[str, Any] = MappingProxyType({})
+) -> PrintOptions:
+    """Returns what words ask for, or else the arguments of this program, beside what is chosen
+    already, by the names of fields; raises `ToolError` and `OSError`.
     """
-    given = vars(print_parser().parse_args(words))
+    given = vars(read_beside(chosen, print_parser(), OPTIONS, words))
     given["only"] = selection_of(given.pop("rows_only") or (), given.pop("codes"))
     return PrintOptions(**given)
 
@@ -255,11 +395,14 @@ def labels_in(job: Job, talk: CommandTalk) -> Prepared:
     """Returns the labels of the lines of a file; reports what there is to say of them."""
     gc.disable()  # no label leaves a cycle behind, and to look for them takes time
     found = all_labels(job, talk)
-    for message in [*report(found.left_out, found.tables), *(one.reason for one in found.remarks)]:
+    for message in [
+        *report(found.left_out, found.tables),
+        *(remark.reason for remark in found.remarks),
+    ]:
         write_message(TOOL, message)
     check_count(job, found.prints)
     if after := job.options.after:
-        place = places_text([found.prints[0].label.record.origin], len(found.tables) > 1)
+        place = places_text([found.prints[0].record.origin], len(found.tables) > 1)
         write_message(TOOL, Text("--after {}: the first label is {}", after, place))
     return found
 
@@ -311,7 +454,7 @@ def direct_way(job: Job) -> Outlet:
     return StandardOutput(job.form.is_roll, is_synced=job.options.journal is not None)
 
 
-def sender_of(job: Job, outlet: Outlet, records: Sequence[LineRecord]) -> Sender:
+def sender_of(job: Job, outlet: Outlet, records: Sequence[Record]) -> Sender:
     """Returns what sends the labels of some lines, after a look at the journal."""
     options = job.options
     journal = Journal(options.journal, outlet.name, records) if options.journal else None
@@ -347,7 +490,7 @@ def give_out(found: Prepared, talk: CommandTalk) -> int:
     options = found.job.options
     outlet = direct_way(found.job)
     if options.each is not None:
-        data = [item.label.record.data for item in found.prints]
+        data = [item.record.data for item in found.prints]
         outlet = Files(options.each, data, options.after + 1)
     sender = sender_of(found.job, outlet, found.records)
     try:

@@ -6,9 +6,17 @@ import re
 import sys
 from contextlib import suppress
 from dataclasses import fields, replace
+from types import MappingProxyType
 from typing import Any, Callable, Mapping, Sequence, TypeVar
 
-from labeltools.common.arguments import flag, Parser, value, words_of, wrong_argument
+from labeltools.common.arguments import (
+    add_options,
+    Option,
+    Parser,
+    read_beside,
+    words_of,
+    wrong_argument,
+)
 from labeltools.common.budget import Budget, TABLE
 from labeltools.common.messages import (
     BAD_ARGUMENTS,
@@ -98,12 +106,11 @@ class TableTalk(CommandTalk):
 
     def __init__(self) -> None:
         super().__init__(TOOL)
-        self.rows: dict[str, list[int]] = {}
+        self.rows: dict[tuple[object, ...], list[int]] = {}
 
     def note(self, origin: Origin, cell: str, reason: Text, hint: Text) -> None:
         """Writes why a row is left out."""
-        kind = re.sub(r'"[^"]*"|[0-9]+X?', "", sentence(reason, hint))
-        rows = self.rows.setdefault(kind, [])
+        rows = self.rows.setdefault((reason.kind, hint.kind), [])
         rows.append(origin.number)
         if len(rows) <= MOST_ALIKE:
             super().note(origin, cell, reason, hint)
@@ -115,92 +122,6 @@ class TableTalk(CommandTalk):
             if more:
                 what = Text("{}: skipped for the same reason as row {}", listed(more), rows[0])
                 write_message(TOOL, what)
-
-
-def table_parser() -> Parser:
-    """Returns the parser of the arguments; but for a few their names are those of fields of
-    `TableOptions`, which have their defaults.
-    """
-    parser = Parser(TOOL, USAGE, ABOUT, EXAMPLES)
-    table = "the table; standard input if it is not given, or is -"
-    parser.add_argument("table", metavar="TABLE", nargs="?", help=table)
-    counts = "report at the end how many labels there are, and which prices"
-    flag(parser, "--summary", "is_summed", counts)
-    add_column_options(parser.add_argument_group("columns"))
-    add_row_options(parser.add_argument_group("rows"))
-    add_code_options(parser.add_argument_group("codes"))
-    add_price_options(parser.add_argument_group("prices and dates"))
-    add_file_options(parser.add_argument_group("the file"))
-    return parser
-
-
-def add_column_options(group: Any) -> None:
-    """Adds the options that say which column is what."""
-    value(group, "--code", "COLUMN", str, "the column of the codes; without it one is proposed")
-    title = "a column for the title; may be repeated"
-    value(group, "--title", "COLUMN", str, title, action="append", default=[])
-    text = "a column for the text below; may be repeated"
-    value(group, "--text", "COLUMN", str, text, action="append", default=[])
-    value(group, "--price", "COLUMN", str, "the column of the price")
-    unit = "the column of the price of a unit, such as 7,96 €/kg"
-    value(group, "--unit-price", "COLUMN", str, unit)
-    old = "the column of the price before a reduction"
-    value(group, "--old-price", "COLUMN", str, old)
-    value(group, "--currency", "COLUMN", str, "the column of the currency of the prices")
-    copies = "the column of the number of labels, 0 to 9999"
-    value(group, "--copies", "COLUMN", str, copies)
-    variants = "rows with the same value in it get the title of the first of them"
-    value(group, "--variants-of", "COLUMN", str, variants)
-
-
-def add_row_options(group: Any) -> None:
-    """Adds the options of which rows become lines."""
-    where = "use only rows that have this value; may be repeated"
-    value(group, "--where", "COLUMN=VALUE", condition, where, action="append", default=[])
-    since = "use only what is new or has changed since this file of lines was made"
-    value(group, "--new-since", "LINES", str, since)
-    flag(group, "--hidden", "hidden", "use hidden rows too")
-
-
-def add_code_options(group: Any) -> None:
-    """Adds the options of how codes are read and drawn."""
-    names = f"{', '.join(NAMES)} [default: {AUTO}]"
-    value(group, "--symbology", "NAME", str, names, choices=NAMES, default=AUTO)
-    value(group, "--symbology-column", "COLUMN", str, "the column of the symbologies")
-    some = "settings of all lines, such as height=30 or level=Q,mask=2"
-    value(group, "--settings", "TEXT", settings, some)
-    flag(group, "--fill-zeros", "fill_zeros", "put back up to three lost leading zeros")
-    without = "the numbers have no check digit; labels adds it"
-    flag(group, "--without-check-digit", "without_check_digit", without)
-    zeros = "accept numbers that end in many zeros, which look rounded"
-    flag(group, "--allow-zeros", "allow_zeros", zeros)
-    flag(group, "--links", "links", "if the cell of a code is a link, draw its address")
-
-
-def add_price_options(group: Any) -> None:
-    """Adds the options of how prices and dates are read and written."""
-    value(group, "--price-as", "FORMAT", pattern, "write prices like '0,00 €' or '¤ 0.00'")
-    flag(group, "--price-text", "price_text", "prices may be any text, such as 'on request'")
-    name = "a currency that label-table does not know"
-    value(group, "--currency-name", "NAME", str, name, default="")
-    decimal = "decimal sign: comma or point [default: the locale's]"
-    value(group, "--decimal", "SIGN", sign, decimal)
-    value(group, "--date-as", "FORMAT", dates, "write dates like dd.mm.yyyy")
-
-
-def add_file_options(group: Any) -> None:
-    """Adds the options of how the file is read."""
-    sheet = "the sheet of .xlsx or .ods [default: the visible one with data]"
-    value(group, "--sheet", "NAME", str, sheet)
-    between = "the character between cells of CSV; or the word tab, or none for a single column"
-    value(group, "--delimiter", "C", delimiter, between)
-    encoding = "the encoding of CSV [default: UTF-8, or as its byte order mark says]"
-    value(group, "--encoding", "NAME", str, encoding)
-    one = group.add_mutually_exclusive_group()
-    flag(one, "--header", "has_header", "row 1 has the names of the columns")
-    no_names = "row 1 is an article, not the names of columns"
-    flag(one, "--no-header", "has_header", no_names, False)
-    value(one, "--header-row", "N", row_number, "this row has the names of the columns")
 
 
 def reported(make: Callable[[str], Read]) -> Callable[[str], Read]:
@@ -262,12 +183,131 @@ def row_number(text: str) -> int:
     return int(text)
 
 
+SUMMARY = "report at the end how many labels there are, and which prices"
+OPTIONS: Mapping[str, Sequence[Option]] = {
+    "columns": (
+        Option("--code", "COLUMN", "the column of the codes; without it one is proposed"),
+        Option("--title", "COLUMN", "a column for the title; may be repeated", is_repeated=True),
+        Option(
+            "--text", "COLUMN", "a column for the text below; may be repeated", is_repeated=True
+        ),
+        Option("--price", "COLUMN", "the column of the price"),
+        Option("--unit-price", "COLUMN", "the column of the price of a unit, such as 7,96 €/kg"),
+        Option("--old-price", "COLUMN", "the column of the price before a reduction"),
+        Option("--currency", "COLUMN", "the column of the currency of the prices"),
+        Option("--copies", "COLUMN", "the column of the number of labels, 0 to 9999"),
+        Option(
+            "--variants-of",
+            "COLUMN",
+            "rows with the same value in it get the title of the first of them",
+        ),
+    ),
+    "rows": (
+        Option(
+            "--where",
+            "COLUMN=VALUE",
+            "use only rows that have this value; may be repeated",
+            condition,
+            is_repeated=True,
+        ),
+        Option(
+            "--new-since",
+            "LINES",
+            "use only what is new or has changed since this file of lines was made",
+        ),
+        Option("--hidden", "", "use hidden rows too"),
+    ),
+    "codes": (
+        Option(
+            "--symbology",
+            "NAME",
+            f"{', '.join(NAMES)} [default: {AUTO}]",
+            choices=NAMES,
+            default=AUTO,
+        ),
+        Option("--symbology-column", "COLUMN", "the column of the symbologies"),
+        Option(
+            "--settings",
+            "TEXT",
+            "settings of all lines, such as height=30 or level=Q,mask=2",
+            settings,
+        ),
+        Option("--fill-zeros", "", "put back up to three lost leading zeros"),
+        Option("--without-check-digit", "", "the numbers have no check digit; labels adds it"),
+        Option("--allow-zeros", "", "accept numbers that end in many zeros, which look rounded"),
+        Option("--links", "", "if the cell of a code is a link, draw its address"),
+    ),
+    "prices and dates": (
+        Option("--price-as", "FORMAT", "write prices like '0,00 €' or '¤ 0.00'", pattern),
+        Option("--price-text", "", "prices may be any text, such as 'on request'"),
+        Option("--currency-name", "NAME", "a currency that label-table does not know", default=""),
+        Option("--decimal", "SIGN", "decimal sign: comma or point [default: the locale's]", sign),
+        Option("--date-as", "FORMAT", "write dates like dd.mm.yyyy", dates),
+    ),
+    "the file": (
+        Option(
+            "--sheet", "NAME", "the sheet of .xlsx or .ods [default: the visible one with data]"
+        ),
+        Option(
+            "--delimiter",
+            "C",
+            "the character between cells of CSV; or the word tab, or none for a single column",
+            delimiter,
+        ),
+        Option(
+            "--encoding",
+            "NAME",
+            "the encoding of CSV [default: UTF-8, or as its byte order mark says]",
+        ),
+        Option(
+            "--header",
+            "",
+            "row 1 has the names of the columns",
+            target="has_header",
+            apart="header",
+        ),
+        Option(
+            "--no-header",
+            "",
+            "row 1 is an article, not the names of columns",
+            target="has_header",
+            sets=False,
+            apart="header",
+        ),
+        Option(
+            "--header-row",
+            "N",
+            "this row has the names of the columns",
+            row_number,
+            apart="header",
+        ),
+    ),
+}
+
+
+def has_option(name: str) -> bool:
+    """Returns whether an option has a name."""
+    return any(option.name == name for options in OPTIONS.values() for option in options)
+
+
+def table_parser() -> Parser:
+    """Returns the parser of the arguments; but for a few their names are those of fields of
+    `TableOptions`, which have their defaults.
+    """
+    parser = Parser(TOOL, USAGE, ABOUT, EXAMPLES)
+    table = "the table; standard input if it is not given, or is -"
+    parser.add_argument("table", metavar="TABLE", nargs="?", help=table)
+    Option("--summary", "", SUMMARY, target="is_summed").add_to(parser)
+    add_options(parser, OPTIONS)
+    return parser
+
+
 def made(kind: type[Read], arguments: argparse.Namespace, **more: Any) -> Read:
     """Returns a record whose fields are the arguments of these names, or what is given beside
     them; a field keeps its default if there is no such argument.
     """
     found = {**vars(arguments), **more}
-    names = (one.name for one in fields(kind))
+    names = (field.name for field in fields(kind))
     return kind(**{name: found[name] for name in names if found[name] is not None})
 
 
@@ -289,17 +329,20 @@ def table_options(arguments: argparse.Namespace) -> TableOptions:
     )
 
 
-def understood(words: Sequence[str]) -> argparse.Namespace:
-    """Returns the arguments that words are; raises `BadArguments`."""
-    parser = table_parser()
-    arguments = parser.parse_args(words)
+def understood(
+    words: Sequence[str], chosen: Mapping[str, Any] = MappingProxyType({})
+) -> argparse.Namespace:
+    """Returns the arguments that words are, beside what is chosen already, by the names of fields;
+    raises `BadArguments`.
+    """
+    arguments = read_beside(chosen, table_parser(), OPTIONS, words)
     if arguments.code is None:
         raise BadArguments(Text("the following arguments are required: --code"))
-    check(parser, arguments)
+    check(arguments)
     return arguments
 
 
-def check(parser: Parser, arguments: argparse.Namespace) -> None:
+def check(arguments: argparse.Namespace) -> None:
     """Raises `BadArguments` for arguments that are wrong, or do not go together."""
     rules = made(CodeRules, arguments)
     is_free = rules.is_free and arguments.symbology_column is None
@@ -314,16 +357,16 @@ def check(parser: Parser, arguments: argparse.Namespace) -> None:
     ]
     refuse_together(len(given) > 1, NOT_TOGETHER, given)
     if arguments.variants_of and not arguments.title:
-        parser.error(Text("--variants-of needs --title"))
+        raise BadArguments(Text("--variants-of needs --title"))
     given = [Remedy("price-text", says=Text("Every price is a number"), is_less=True), AS_IN_TABLE]
     refuse_together(arguments.price_text and arguments.price_as, AS_TEXT_AND_PATTERN, given)
     is_priced = arguments.price or arguments.unit_price or arguments.old_price
     refuse_together(arguments.price_as and not is_priced, NO_PRICES, [AS_IN_TABLE])
     if arguments.symbology_column is None:
-        one = SYMBOLOGIES[EAN13.name if rules.symbology == AUTO else rules.symbology]
-        wrong = TableOptions(settings=arguments.settings or "").wrong_setting(one.name)
+        kind = SYMBOLOGIES[EAN13.name if rules.symbology == AUTO else rules.symbology]
+        wrong = TableOptions(settings=arguments.settings or "").wrong_setting(kind.name)
         if wrong:
-            parser.error(Text("{} has no setting {}", one.title, wrong))
+            raise BadArguments(Text("{} has no setting {}", kind.title, wrong))
 
 
 def refuse_together(is_wrong: object, what: Text, given: Sequence[Remedy]) -> None:
@@ -352,8 +395,8 @@ def propose(words: Sequence[str], arguments: argparse.Namespace) -> None:
         raise BadArguments(what, Text("give {} and the column that has them", Remedy("code")))
     say_what_is_found(guess, arguments)
     commands = commands_for(guess, words, arguments)
-    one, several = Text("this command makes the labels:"), Text("one of these makes the labels:")
-    write_message(TOOL, several if len(commands) > 1 else one)
+    single, several = Text("this command makes the labels:"), Text("one of these makes the labels:")
+    write_message(TOOL, several if len(commands) > 1 else single)
     for command in commands:
         print(visible(command), file=sys.stderr)
 

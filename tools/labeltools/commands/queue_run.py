@@ -4,7 +4,8 @@ from dataclasses import replace
 
 from labeltools.commands.label_print import check_given, labels_in, TOOL
 from labeltools.common.messages import write_message
-from labeltools.common.process import CommandTalk, hold_signals
+from labeltools.common.process import CommandTalk
+from labeltools.common.signals import hold_signals
 from labeltools.common.text import joined, Text
 from labeltools.paper.stock import forget
 from labeltools.printing.job import form_of, planned, PrintOptions

@@ -1,7 +1,7 @@
 """The arguments of a tool: its parser, and words for options."""
 
 import argparse
-from typing import Any, Mapping, NoReturn
+from typing import Any, Callable, Mapping, NamedTuple, NoReturn, Sequence
 
 from labeltools import RELEASE
 from labeltools.common.messages import BadArguments
@@ -9,10 +9,12 @@ from labeltools.common.text import Text, translated
 
 AS_WRITTEN = argparse.RawDescriptionHelpFormatter  # what is around the options
 # what argparse says of bad arguments; it looks for them where language.py has the translations
+ABOUT_ARGUMENT = Text("argument %(argument_name)s: %(message)s")
+NOT_ALLOWED = Text("not allowed with argument %s")
 OF_ARGPARSE = (
-    Text("argument %(argument_name)s: %(message)s"),
+    ABOUT_ARGUMENT,
     Text("unrecognized arguments: %s"),
-    Text("not allowed with argument %s"),
+    NOT_ALLOWED,
     Text("ignored explicit argument %r"),
     Text("the following arguments are required: %s"),
     Text("one of the arguments %s is required"),
@@ -38,17 +40,84 @@ class Parser(argparse.ArgumentParser):
 
     def error(self, message: str) -> NoReturn:
         """Raises `BadArguments`; a message of argparse is in the language of the user already."""
-        raise BadArguments(message if isinstance(message, Text) else Text("{}", message))
+        raise BadArguments(Text("{}", message))
 
 
-def value(group: Any, name: str, metavar: str, kind: Any, text: str, **how: Any) -> None:
-    """Adds an option with a value, which `kind` reads; `metavar` stands for it in the help."""
-    group.add_argument(name, metavar=metavar, type=kind, help=text, **how)
+class Option(NamedTuple):
+    """An option of a tool: its name, what its value is called, which is empty for one without a
+    value, and what the help says.
+
+    `read` reads the value; `bare` is what the option is without it, None where it needs one.
+    `target` is the field that it sets, where that has another name than the option; one without a
+    value sets it to `sets`. Only one of those with the same `apart` may be given.
+    """
+
+    name: str
+    value: str
+    help: str
+    read: Callable[[str], Any] = str
+    target: str | None = None
+    default: object = None
+    sets: object = True
+    apart: str = ""
+    bare: str | None = None
+    is_repeated: bool = False
+    choices: Sequence[str] | None = None
+
+    @property
+    def field(self) -> str:
+        """The field that it sets."""
+        return self.target or self.name.removeprefix("--").replace("-", "_")
+
+    def is_in(self, values: Mapping[str, Any]) -> bool:
+        """Returns whether the values of fields are such that it was given."""
+        value = values.get(self.field)
+        return value is not None if self.value else value == self.sets
+
+    def add_to(self, group: Any) -> None:
+        """Adds it to a group of a parser."""
+        how: dict[str, Any] = {"help": self.help, "dest": self.target, "default": self.default}
+        if not self.value:
+            group.add_argument(self.name, action="store_const", const=self.sets, **how)
+            return
+        how |= {"metavar": self.value, "type": self.read, "choices": self.choices}
+        if self.is_repeated:
+            how |= {"action": "append", "default": []}
+        elif self.bare is not None:
+            how |= {"nargs": "?", "const": self.bare}
+        group.add_argument(self.name, **how)
 
 
-def flag(group: Any, name: str, target: str, text: str, is_on: bool = True) -> None:
-    """Adds an option without a value, which sets its target."""
-    group.add_argument(name, action="store_const", const=is_on, dest=target, help=text)
+def add_options(parser: Parser, groups: Mapping[str, Sequence[Option]]) -> None:
+    """Adds options to a parser, in groups by their titles."""
+    for title, options in groups.items():
+        group = parser.add_argument_group(title)
+        apart: dict[str, Any] = {"": group}
+        for option in options:
+            if option.apart not in apart:
+                apart[option.apart] = group.add_mutually_exclusive_group()
+            option.add_to(apart[option.apart])
+
+
+def read_beside(
+    chosen: Mapping[str, Any],
+    parser: Parser,
+    groups: Mapping[str, Sequence[Option]],
+    words: Sequence[str] | None = None,
+) -> argparse.Namespace:
+    """Returns what words ask for, beside what is chosen already, by the names of fields; words
+    count more. Raises `BadArguments`, as for two options of which only one may be given.
+    """
+    found = parser.parse_args(words, argparse.Namespace(**chosen))
+    apart = [option for options in groups.values() for option in options if option.apart]
+    before = {option.apart: option for option in apart if option.is_in(chosen)}
+    for option in apart:
+        other = before.get(option.apart, option)
+        if option.is_in(vars(found)) and option.name != other.name:
+            message = translated(NOT_ALLOWED) % other.name
+            names = {"argument_name": option.name, "message": message}
+            parser.error(translated(ABOUT_ARGUMENT) % names)
+    return found
 
 
 def wrong_argument(what: Text) -> argparse.ArgumentTypeError:
@@ -70,7 +139,7 @@ def words_of(options: Mapping[str, Any]) -> list[str]:
         if value is True:
             found.append(f"--{name}")
         elif isinstance(value, list):
-            found += [word for one in value for word in (f"--{name}", one)]
+            found += [word for part in value for word in (f"--{name}", part)]
         elif value:
             found += option_of(name, value if isinstance(value, str) else f"{value:g}")
     return found

@@ -42,6 +42,11 @@ PIXELS = Share(25 * MILLION, Text("million pixels in its pictures"), unit=MILLIO
 DOTS = Share(75 * MILLION, NOTHING)  # A3 at 600 dpi has 70 million
 SECONDS = Share(20, Text("seconds of the processor"), 40 / MILLION)
 
+# cells by which columns are guessed: of a large table a part, so these are no reason to refuse it
+LOOKED_AT = Share(160_000, NOTHING, 0.02)
+NAMES_LOOKED_AT = Share(400_000, NOTHING, 0.02)  # for names in many encodings
+COMPARED = Share(MILLION, NOTHING)  # pairs of amounts
+
 # each drawing of a page
 PAGE_SECONDS = Share(5, SECONDS.name)
 PAGE_MEMORY = Share(500 * MILLION, MEGABYTES, unit=MILLION)
@@ -87,6 +92,15 @@ class Budget:
         taken = self.taken[share] = self.taken.get(share, 0) + count
         if taken > share.most(self.size):
             raise self.refusal(share)
+
+    def some(self, share: Share, wanted: int) -> int:
+        """Takes as much of something as is wanted, but at most half of what is left, so that the
+        next one gets some, too; returns how much.
+        """
+        taken = self.taken.get(share, 0)
+        count = min(wanted, (share.most(self.size) - taken) // 2)
+        self.taken[share] = taken + count
+        return count
 
     def allow(self, share: Share, count: int) -> None:
         """Raises `TooMuch` if one thing of several has more of something than each may have."""

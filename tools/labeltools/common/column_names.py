@@ -42,10 +42,10 @@ def row_with_names(rows: Iterable[tuple[int, Sequence[str]]], asked: Sequence[st
     >>> row_with_names([(1, ["a"])], ["EAN"])
     0
     """
-    wanted = [name_of(one) for one in asked if not one.isdecimal()]
+    wanted = [name_of(name) for name in asked if not name.isdecimal()]
     for number, cells in rows:
         names = Counter(name_of(cell) for cell in cells)
-        if wanted and all(names[one] == 1 for one in wanted):
+        if wanted and all(names[name] == 1 for name in wanted):
             return number
     return 0
 

@@ -10,7 +10,8 @@ from typing import IO, Iterator
 from labeltools.common.messages import ToolError
 from labeltools.common.text import Text
 
-PART = ".{number}.part"  # a name that no label has: those begin with no dot
+# a name that no label has, since those begin with no dot, and no other process
+PART = ".{process}-{number}.part"
 BLOCK = 1 << 20
 
 
@@ -36,7 +37,7 @@ def save(file: IO[bytes], path: Path, number: int = 1) -> None:
     """Writes a whole file, which has its name once it is whole; raises `OSError` with its name. It
     has no name before, where the disk can do so: nothing is left of it if the tool is ended.
     """
-    part = path.with_name(PART.format(number=number))
+    part = path.with_name(PART.format(process=os.getpid(), number=number))
     try:
         with nameless(path.parent) or part.open("xb") as stream:
             while data := file.read(BLOCK):

@@ -74,7 +74,7 @@ class Origin(NamedTuple):
     number: int
 
     def __str__(self) -> str:
-        return self.text
+        return str(self.text)
 
     @property
     def text(self) -> Text:
@@ -130,7 +130,7 @@ def fault_of(error: Exception) -> Text:
     from traceback import extract_tb  # which takes time, in each run without a fault, too
 
     places = extract_tb(error.__traceback__)
-    own = [one for one in places if Path(one.filename).is_relative_to(OURS)] or places
+    own = [place for place in places if Path(place.filename).is_relative_to(OURS)] or places
     if not own:  # a library has raised it
         return Text("this is a fault of the program: report it as {}", type(error).__name__)
     where = (type(error).__name__, own[-1].lineno, Path(own[-1].filename).name)
@@ -149,9 +149,10 @@ def sentence(what: Text, hint: Text) -> Text:
     """
     if not hint:
         return what
-    if what.endswith("?"):
+    shown = str(what)
+    if shown.endswith("?"):
         return joined(" ", (what, hint))
-    return Text("{}; {}", what, hint) if ": " in what else Text("{}: {}", what, hint)
+    return Text("{}; {}", what, hint) if ": " in shown else Text("{}: {}", what, hint)
 
 
 def visible(text: str) -> str:

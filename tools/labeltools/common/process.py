@@ -1,15 +1,14 @@
-"""How a tool starts and ends: standard input and output, signals, messages and statuses."""
+"""How a tool starts and ends: standard input and output, messages and statuses."""
 
 import os
 import select
-import signal
 import stat
 import sys
 import time
-from contextlib import contextmanager, suppress
+from contextlib import suppress
 from importlib import import_module
 from io import RawIOBase, TextIOWrapper
-from typing import Any, BinaryIO, Callable, Iterator, NoReturn
+from typing import Any, BinaryIO, Callable, NoReturn
 
 from labeltools.common.budget import Budget, Kind, LINES
 from labeltools.common.messages import (
@@ -24,6 +23,7 @@ from labeltools.common.messages import (
     visible,
     write_message,
 )
+from labeltools.common.signals import on_signals
 from labeltools.common.text import NOTHING, Text, translated
 
 STANDARD_ERROR = 2
@@ -32,8 +32,6 @@ BLOCK = 1 << 22  # bytes that are read at once
 WRITER = 10.0  # seconds in which a FIFO has a writer, if it gets one
 QUIET, BETWEEN = 1.0, 0.3  # seconds before progress is shown, and until it is shown again
 DRAWING = ("python3-gi-cairo", "gir1.2-pango-1.0")  # the packages that draw labels
-ENDING = (signal.SIGHUP, signal.SIGINT, signal.SIGTERM)
-HELD: list[list[int]] = []  # the signals that came while they are held back, where they are
 
 
 class CommandTalk(Talk):
@@ -75,7 +73,7 @@ def read_input(path: str | None, kind: Kind = LINES) -> tuple[str, bytes]:
     is_standard = path is None or path == "-"
     if is_standard and sys.stdin is None:
         raise ToolError(Text("standard input is closed"))
-    name = Text("standard input") if is_standard else str(path)
+    name = translated(Text("standard input")) if is_standard else str(path)
     if is_standard:
         data = read_all(sys.stdin.buffer, name, kind)
     else:
@@ -134,12 +132,19 @@ def start(tool: str, module: str, *packages: str) -> NoReturn:
         try:
             command = import_module(module)
         except (ImportError, ValueError) as missing:
+            if isinstance(missing, ImportError) and is_own(missing.name or ""):
+                raise  # no package has it: it is a fault of the tool
             names = " ".join((*packages, *DRAWING))
             raise ToolError(Text("{}", missing), Text("apt-get install {}", names)) from missing
         status: int | None = command.run()
         return status
 
     main_of(tool, run)
+
+
+def is_own(module: str) -> bool:
+    """Returns whether a module is one of the tools'."""
+    return module.partition(".")[0] == __name__.partition(".")[0]
 
 
 def main_of(tool: str, function: Callable[[], int | None]) -> NoReturn:
@@ -231,35 +236,3 @@ def flush_or_forget(stream: Any) -> None:
             stream.flush()
     except OSError:
         os.dup2(os.open(os.devnull, os.O_WRONLY), stream.fileno())
-
-
-def on_signals(action: Any = signal.SIG_DFL) -> None:
-    """Sets what the signals do that end a tool, but for those that it was started to ignore."""
-    for number in ENDING:
-        if signal.getsignal(number) != signal.SIG_IGN:
-            signal.signal(number, action)
-
-
-@contextmanager
-def hold_signals() -> Iterator[list[int]]:
-    """Holds a signal back while something goes out that has to be whole, and gives a list in which
-    it then is; a second one ends the tool at once. Within another such time it does nothing.
-    """
-    if HELD:
-        yield HELD[0]
-        return
-    taken: list[int] = []
-    HELD.append(taken)
-
-    def take(number: int, _: object) -> None:
-        taken.append(number)
-        on_signals()
-
-    on_signals(take)
-    try:
-        yield taken
-    finally:
-        HELD.clear()
-        on_signals()
-        for number in taken:
-            os.kill(os.getpid(), number)

@@ -28,10 +28,10 @@ def report(left_out: Sequence[LeftOut], tables: Iterable[str]) -> Iterator[Text]
     """
     has_tables = len(set(tables)) > 1
     places: dict[Text, list[Origin]] = {}
-    for one in left_out:
-        named = places.setdefault(sentence(one.reason, one.hint), [])
-        if one.origin is not None:
-            named.append(one.origin)
+    for label in left_out:
+        named = places.setdefault(sentence(label.reason, label.hint), [])
+        if label.origin is not None:
+            named.append(label.origin)
     reasons = sorted(places, key=lambda reason: -len(places[reason]))
     for reason in reasons[:MOST_REASONS]:
         named = places[reason]
@@ -65,13 +65,17 @@ def ranges_text(ranges: Ranges, unit: str = "row") -> Text:
     rows all have.
     """
     count = sum(last - first + 1 for first, last in ranges)
-    words = (f"{first}" if first == last else f"{first}-{last}" for first, last in ranges)
-    named = ", ".join(islice(words, MOST_RANGES))
+    named = ", ".join(islice(range_words(ranges), MOST_RANGES))
     if unit == "row":
         text = Text("row {}", named) if count == 1 else Text("rows {}", named)
     else:
         text = Text("line {}", named) if count == 1 else Text("lines {}", named)
     return Text("{} .. ({} in all)", text, count) if len(ranges) > MOST_RANGES else text
+
+
+def range_words(ranges: Ranges) -> Iterator[str]:
+    """Yields ranges as they are typed, such as `2` and `5-9`."""
+    return (f"{first}" if first == last else f"{first}-{last}" for first, last in ranges)
 
 
 def few(names: Sequence[str]) -> Text:

@@ -16,54 +16,65 @@ UNSEEN = ("Cc", "Cf", "Cs", "Zl", "Zp")
 IN_DOUBLE_QUOTES = re.compile('[$`"!\\\\]')  # what a shell reads there
 
 
-class Text(str):
-    """A text in English that knows its template, and what it has in the place of each `{}`.
+@dataclass(frozen=True, init=False, repr=False)
+class Text:
+    """A text in English: its template, and what it has in the place of each `{}`. It never changes.
 
     A field that is a `Text` is translated too; any other one is a number, or the user's own words.
+    `many` is the template for other counts than 1, where there is one; `instead` is what a window
+    says in its place, beside buttons for its remedies.
 
     >>> Text("row {} has {}", 2, Text("no price"))
     'row 2 has no price'
     """
 
     template: str
-    many: str  # the template for other counts than 1, where there is one
     fields: tuple[object, ...]
-    instead: "Text | None" = (
-        None  # what a window says in its place, beside buttons for its remedies
-    )
+    many: str
+    instead: "Text | None"
 
-    def __new__(cls, template: str, *fields: object) -> "Text":
-        return cls.made(template.format(*fields) if fields else template, template, "", fields)
+    def __init__(
+        self, template: str, *fields: object, many: str = "", instead: "Text | None" = None
+    ) -> None:
+        self.__dict__.update(template=template, fields=fields, many=many, instead=instead)
 
-    @classmethod
-    def made(cls, text: str, template: str, many: str, fields: tuple[object, ...]) -> "Text":
-        """Returns a text of its parts."""
-        new = super().__new__(cls, text)
-        new.template = template
-        new.many = many
-        new.fields = fields
-        return new
+    def __str__(self) -> str:
+        template = self.many if self.many and self.fields[0] != 1 else self.template
+        return template.format(*self.fields) if self.fields else template
+
+    def __repr__(self) -> str:
+        return repr(str(self))
+
+    def __bool__(self) -> bool:
+        return str(self) != ""
+
+    @property
+    def kind(self) -> tuple[object, ...]:
+        """What it has in common with texts that differ in numbers and the user's words alone."""
+        return self.template, *(field.kind for field in self.fields if isinstance(field, Text))
+
+    def with_fields(self, *fields: object) -> "Text":
+        """Returns the text with other fields."""
+        return Text(self.template, *fields, many=self.many, instead=self.instead)
 
     def in_window(self, instead: "Text") -> "Text":
         """Returns the text, with what a window says in its place: that may be nothing, since the
         remedies in it are buttons there.
         """
-        self.instead = instead
-        return self
+        return Text(self.template, *self.fields, many=self.many, instead=instead)
 
 
 NOTHING = Text("")
 SIGNS = Text("1,000.5")  # a number, by which a translation shows its signs
 
 
-def counted(one: str, many: str, count: int, *fields: object) -> Text:
+def counted(single: str, many: str, count: int, *fields: object) -> Text:
     """Returns a text with a count in its first place, which the words agree with.
 
     >>> counted("{} row", "{} rows", 1), counted("{} row", "{} rows", 2)
     ('1 row', '2 rows')
     """
-    template = one if count == 1 else many
-    return Text.made(template.format(count, *fields), one, many, (count, *fields))
+    return Text(single, count, *fields, many=many)
 
 
 def joined(sign: str, parts: Iterable[object]) -> Text:
@@ -144,10 +155,10 @@ def either(remedies: Iterable[Remedy]) -> Text:
     """
     before, *rest = remedies
     text = Text("{}", before)
-    for one in rest:
-        is_same = one.option == before.option and one.value
-        text = Text("{} or {:value}", text, one) if is_same else Text("{} or {}", text, one)
-        before = one
+    for remedy in rest:
+        is_same = remedy.option == before.option and remedy.value
+        text = Text("{} or {:value}", text, remedy) if is_same else Text("{} or {}", text, remedy)
+        before = remedy
     return text
 
 
@@ -175,16 +186,17 @@ def windowed(text: Text) -> Text:
     """
     if text.instead is not None:
         return windowed(text.instead)
-    fields = [windowed(one) if isinstance(one, Text) else one for one in text.fields]
-    if fields == [*text.fields] and not any(isinstance(one, Remedy) for one in fields):
+    shown = tuple(windowed(field) if isinstance(field, Text) else field for field in text.fields)
+    has_remedy = any(isinstance(field, Remedy) for field in shown)
+    if shown == text.fields and not has_remedy:
         return text
     between = text.template.split("{}")
-    if len(fields) > 1 and not any(map(str.isalnum, "".join(between))):
-        return joined(between[1], (one for one in fields if one != ""))
-    if any(isinstance(one, Remedy) or new == "" != one for one, new in zip(text.fields, fields)):
+    if len(shown) > 1 and not any(map(str.isalnum, "".join(between))):
+        return joined(between[1], (field for field in shown if str(field) != ""))
+    is_emptied = any(str(new) == "" != str(old) for old, new in zip(text.fields, shown))
+    if has_remedy or is_emptied:
         return NOTHING
-    template = text.many if text.many and fields[0] != 1 else text.template
-    return Text.made(template.format(*fields), text.template, text.many, tuple(fields))
+    return text.with_fields(*shown)
 
 
 @dataclass(frozen=True)
@@ -194,7 +206,7 @@ class Figure:
     value: float
 
     def __format__(self, form: str) -> str:
-        signs = one_text(SIGNS)
+        signs = translated(SIGNS)
         return format(self.value, form).translate({ord(","): signs[1], ord("."): signs[-2]})
 
 

@@ -8,8 +8,8 @@ Lists = dict[str, list[str]]
 def lists_of(path: Path) -> Lists:
     """Returns the lists of a file by their names, those of all sections together."""
     found: Lists = {}
-    for one in lists_by_section(path).values():
-        for name, words in one.items():
+    for section in lists_by_section(path).values():
+        for name, words in section.items():
             found.setdefault(name, []).extend(words)
     return found
 

@@ -6,10 +6,11 @@ from labeltools.common.messages import Talk
 from labeltools.designs.places import Place
 from labeltools.layout.area import Area
 from labeltools.layout.fitting import Fitter, Placed, Style
-from labeltools.layout.layout import LaidOut, LaidOutFile, Page, PrintLabel
+from labeltools.layout.layout import LaidOut, LaidOutFile, Page
 from labeltools.layout.letters import Letters
 from labeltools.layout.medium import Medium
 from labeltools.lines.engine import Modules
+from labeltools.lines.file import Record
 from labeltools.lines.symbologies import Symbology
 from labeltools.paper.box import Box
 
@@ -56,12 +57,12 @@ class Below:
 class Design(Protocol):
     """How labels look."""
 
-    def lay_out(self, labels: Sequence[PrintLabel], on: Setting, talk: Talk) -> LaidOutFile:
+    def lay_out(self, labels: Sequence[Record], on: Setting, talk: Talk) -> LaidOutFile:
         """Returns labels with their layouts, why others are left out, and what is said of all;
         raises what `talk.go_on` does.
         """
 
-    def printed(self, labels: Sequence[PrintLabel], on: Setting) -> Mapping[int, Sequence[str]]:
+    def printed(self, labels: Sequence[Record], on: Setting) -> Mapping[int, Sequence[str]]:
         """Returns the texts of labels that are printed in letters, by the numbers of their
         lines.
         """

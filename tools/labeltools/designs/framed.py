@@ -1,27 +1,27 @@
 """The built-in designs: one frame for all labels of a file."""
 
 import math
-from functools import cache, lru_cache
-from typing import Iterator, Mapping, NamedTuple, Sequence
+from typing import Iterator, Mapping, Sequence
 
 from labeltools.common.messages import Talk
 from labeltools.designs.design import Below, CODE, NO_BOX, PlacedSymbol, Setting
-from labeltools.layout.fitting import Fitted, Fitter, LEFT, MIDDLE, Placed, RIGHT, Style
-from labeltools.layout.frame import HINTING, LINE, styles_from
+from labeltools.designs.styles import price_line, price_places, style_of
+from labeltools.layout.fitting import Fitted, Fitter, LEFT, Placed, SIDE, Style
+from labeltools.layout.frame import Frame, HINTING, LINE
 from labeltools.layout.layout import (
     LaidOut,
     LaidOutFile,
     lay_out,
     Layout,
-    PrintLabel,
 )
+from labeltools.layout.left_edge import TITLE_INK
 from labeltools.layout.letters import Letters
 from labeltools.layout.medium import Medium
 from labeltools.layout.pango import UNIT
-from labeltools.layout.price import KEPT, letters_of, raised, ROUNDED_PRICE, shape_of
+from labeltools.layout.price import shape_of
+from labeltools.lines.file import Record
 from labeltools.paper.box import Box
 
-BESIDE_LAST = 0.05  # room at the left of the last part of a price, in sizes of its letters
 BETWEEN = "   "  # old price and unit price on one line
 LARGER_WAS = 1.3  # an old price beside the price, in letters of details
 MOST_WAS = 0.5  # the same in letters of the price
@@ -31,13 +31,13 @@ WITHOUT_END = 1 << 20  # dots: the height of a text of which all lines are wante
 class FramedDesign:
     """A built-in design: what its labels are for is a wish of their area."""
 
-    def lay_out(self, labels: Sequence[PrintLabel], on: Setting, talk: Talk) -> LaidOutFile:
+    def lay_out(self, labels: Sequence[Record], on: Setting, talk: Talk) -> LaidOutFile:
         """Returns labels with their layouts."""
         return lay_out(labels, on.area, on.letters, talk)
 
-    def printed(self, labels: Sequence[PrintLabel], on: Setting) -> Mapping[int, Sequence[str]]:
+    def printed(self, labels: Sequence[Record], on: Setting) -> Mapping[int, Sequence[str]]:
         """Returns all texts of labels."""
-        return {label.record.number: label.texts for label in labels}
+        return {label.number: label.texts for label in labels}
 
     def below(self, medium: Medium) -> Below:
         """Returns that nothing is below."""
@@ -45,13 +45,13 @@ class FramedDesign:
 
     def symbols(self, item: LaidOut, area: Box = NO_BOX) -> Sequence[PlacedSymbol]:
         """Returns the one symbol of a label, in its whole area."""
-        layout, label = item.layout, item.label
-        how = (label.record.data, label.modules, layout.symbology, layout.module, layout.boxes)
+        layout, record = item.layout, item.record
+        how = (record.data, record.modules, layout.symbology, layout.module, layout.boxes)
         return [PlacedSymbol(CODE, area, *how)]
 
     def texts(self, item: LaidOut, fitter: Fitter, below: Below) -> Iterator[Placed]:
         """Yields the texts of a label as they fit their boxes."""
-        label = item.label
+        label = item.record
         layout = item.layout
         boxes = layout.boxes
         if "title" in boxes:
@@ -65,27 +65,32 @@ class FramedDesign:
             yield from numbers
             if was:
                 yield was
-        if "details" in boxes and (label.record.label.unit or not was):
+        if "details" in boxes and (label.unit or not was):
             yield self.placed("details", label, layout, boxes["details"], fitter, bool(was))
 
-    def numbers(self, label: PrintLabel, layout: Layout, fitter: Fitter) -> Sequence[Placed]:
-        """Returns the parts of a price: raised cents and the currency by themselves."""
-        price = label.record.label.price
+    def numbers(self, label: Record, layout: Layout, fitter: Fitter) -> Sequence[Placed]:
+        """Returns a price, or in dots its parts, where cents are raised: the currency too is one by
+        itself.
+        """
+        price = label.price
         shape = shape_of(price, fitter.letters)
         frame = layout.frame
-        how = (frame.price_style, frame.kind, frame.sizes["price"], layout.boxes["price"])
+        how = (frame.price_style, frame.alignment, frame.sizes["price"], layout.boxes["price"])
+        line = None if fitter.is_dots else price_line(shape, *how, fitter.letters)
+        if line:
+            return [line.placed(price)]
         return [
             Placed(fitter.found(price[first:last], style, box.width, box.height), style, box)
             for first, last, style, box in price_places(shape, *how, fitter.letters)
         ]
 
     def old_price(
-        self, label: PrintLabel, layout: Layout, numbers: Sequence[Placed], fitter: Fitter
+        self, label: Record, layout: Layout, numbers: Sequence[Placed], fitter: Fitter
     ) -> Placed | None:
         """Returns an old price at the left of the price, on its base line; None where that has no
         room, or is not at the right.
         """
-        was = label.record.label.was
+        was = label.was
         frame = layout.frame
         if not was or frame.kind != "foot":
             return None
@@ -108,17 +113,17 @@ class FramedDesign:
         place = box._replace(width=room)
         return Placed(fitter.found(was, style, room, box.height), style, place)
 
-    def head(self, label: PrintLabel, layout: Layout, fitter: Fitter) -> Iterator[Placed]:
+    def head(self, label: Record, layout: Layout, fitter: Fitter) -> Iterator[Placed]:
         """Yields a title, and the text below it where that has no place of its own."""
         frame = layout.frame
         left, top, width, height = layout.boxes["title"]
-        has_text = bool(label.text) and "text" not in layout.boxes
+        has_text = bool(label.body) and "text" not in layout.boxes
         room = height
         if has_text:
-            room -= math.ceil((label.text.count("\n") + 1) * LINE * frame.sizes["text"])
+            room -= math.ceil((label.body.count("\n") + 1) * LINE * frame.sizes["text"])
         used = 0
         title = None
-        if label.title:
+        if label.head:
             most = min(math.ceil(frame.lines * LINE * frame.sizes["title"]), room)
             title = self.placed("title", label, layout, Box(left, top, width, most), fitter)
             used = min(title.text.height, room)
@@ -130,12 +135,14 @@ class FramedDesign:
             yield title if start == top else title._replace(box=moved)
         if has_text:
             rest = Box(left, start + used, width, top + height - start - used)
+            if title is not None and frame.kind != "below":
+                rest = below_ink(rest, frame, fitter.letters.of(label.body), label.body)
             yield self.placed("text", label, layout, rest, fitter)
 
     def placed(
         self,
         kind: str,
-        label: PrintLabel,
+        label: Record,
         layout: Layout,
         box: Box,
         fitter: Fitter,
@@ -148,56 +155,22 @@ class FramedDesign:
     def cut_texts(self, item: LaidOut, fitter: Fitter) -> Iterator[tuple[str, Style, int, int]]:
         """Yields the texts of a label that may be cut, with the room of their lines."""
         boxes = item.layout.boxes
-        label = item.label
-        for kind, whole in (("title", label.title), ("text", label.text)):
+        label = item.record
+        for kind, whole in (("title", label.head), ("text", label.body)):
             if whole:
                 text, style = styled_text(kind, label, item.layout, fitter.letters)
                 yield text, style, (boxes.get(kind) or boxes["title"]).width, WITHOUT_END
 
 
-class PricePlace(NamedTuple):
-    """Where a part of a price is in the price, how it is written, and its box."""
-
-    first: int
-    last: int
-    style: Style
-    box: Box
-
-
-@lru_cache(KEPT)
-def price_places(
-    shape: str, wanted: str, arrangement: str, size: int, box: Box, letters: Letters
-) -> Sequence[PricePlace]:
-    """Returns where the parts of prices of a shape are in a box: in the first of their styles that
-    has room.
+def below_ink(box: Box, frame: Frame, letters: Letters, text: str) -> Box:
+    """Returns the box of a text below a title, as far to the right as the ink of titles begins, if
+    the text has room there.
     """
-    for name in styles_from(wanted):
-        own = letters_of(name, shape, letters)
-        found = raised(shape, own) if name.endswith("raised") else None
-        wide = found.width if found else own.width(shape, True)
-        if HINTING * wide * size <= box.width + size / ROUNDED_PRICE:
-            break
-    style = style_of(own.family, "price", arrangement, size, 0)
-    if found is None:
-        return [PricePlace(0, len(shape), style, box)]
-    size = min(size, math.floor(box.width / wide / HINTING))
-    right = math.ceil(wide * size)
-    start = box.left + (box.width - right) * (style.across + 1) // 2
-    places = []
-    for part in found.parts:
-        is_last = part.left + part.width >= wide
-        how = style._replace(
-            size=round(part.size * size),
-            across=RIGHT if is_last else LEFT,
-            base=round(part.base * size),
-        )
-        left = start + math.floor(part.left * size)
-        width = math.ceil(HINTING * part.width * size) + 1
-        if is_last:  # its digits may be wider than those of the shape
-            left -= math.floor(BESIDE_LAST * size)
-            width = min(start + right, box.right) - left
-        places.append(PricePlace(part.first, part.last, how, box._replace(left=left, width=width)))
-    return places
+    size = frame.sizes["text"]
+    wide = max(letters.width(line, False) for line in text.split("\n"))
+    spare = box.width - math.ceil(HINTING * wide * size) - 2 * (size // SIDE)
+    by = max(0, min(spare, round(TITLE_INK * (frame.sizes["title"] - size))))
+    return box._replace(left=box.left + by, width=box.width - by)
 
 
 def base_of(text: Fitted) -> float:
@@ -206,38 +179,23 @@ def base_of(text: Fitted) -> float:
 
 
 def styled_text(
-    kind: str, label: PrintLabel, layout: Layout, letters: Letters, is_without_was: bool = False
+    kind: str, label: Record, layout: Layout, letters: Letters, is_without_was: bool = False
 ) -> tuple[str, Style]:
     """Returns title, text or details of a label and how that is written."""
     frame = layout.frame
     size = frame.sizes[kind]
     if kind == "title":
-        text = label.title
+        text = label.head
         lines = frame.lines - text.count("\n")
         if lines < 1:
             text, lines = text.replace("\n", " "), max(1, frame.lines)
         return text, style_of(letters.of(text).family, kind, frame.kind, size, lines)
     if kind == "text":
-        style = style_of(letters.of(label.text).family, kind, frame.kind, size, 1)
+        style = style_of(letters.of(label.body).family, kind, frame.kind, size, 1)
         is_below_title = frame.kind == "foot" and "text" not in frame.boxes
-        return label.text, style._replace(across=LEFT, down=0.0) if is_below_title else style
-    whole = label.record.label
+        return label.body, style._replace(across=LEFT, down=0.0) if is_below_title else style
     between = BETWEEN if frame.details_lines == 1 else "\n"
-    was = "" if is_without_was else whole.was
-    text = between.join(filter(None, (was, whole.unit)))
+    was = "" if is_without_was else label.was
+    text = between.join(filter(None, (was, label.unit)))
     style = style_of(letters.of(text).family, kind, frame.kind, size, 0)
     return text, style._replace(struck=len(was.encode()))
-
-
-@cache
-def style_of(family: str, kind: str, arrangement: str, size: int, lines: int) -> Style:
-    """Returns how a part of a label is written; `lines` are those of each line of a title."""
-    words, numbers = (MIDDLE, MIDDLE) if arrangement == "below" else (LEFT, RIGHT)
-    across, down = {
-        "title": (words, 0.0),
-        "text": (RIGHT, 1.0) if arrangement == "foot" else (words, 0.0),
-        "price": (numbers, 0.5),
-        "details": (numbers, 1.0 if arrangement == "below" else 0.0),
-    }[kind]
-    is_bold = kind in ("title", "price")
-    return Style(family, is_bold, size, lines, across, down, 0)

@@ -9,8 +9,9 @@ from labeltools.designs.design import Below, NO_BOX, PlacedSymbol, Setting
 from labeltools.designs.svg_design import BLACK, SvgDesign
 from labeltools.designs.svg_layout import svg_layout, SvgLayouts
 from labeltools.layout.fitting import Colour, Fitter, Placed, Style
-from labeltools.layout.layout import LaidOut, LaidOutFile, PrintLabel
+from labeltools.layout.layout import LaidOut, LaidOutFile
 from labeltools.layout.medium import Medium
+from labeltools.lines.file import Record
 from labeltools.paper.box import Box
 
 LIGHTEST = 0.999  # a part of a colour that is white in 255 steps
@@ -28,11 +29,11 @@ class SvgLabels:
         area = on.area.turned() if self.design.is_turned else on.area
         return SvgLayouts(self.design, area, on.letters, on.note, on.empty)
 
-    def lay_out(self, labels: Sequence[PrintLabel], on: Setting, talk: Talk) -> LaidOutFile:
+    def lay_out(self, labels: Sequence[Record], on: Setting, talk: Talk) -> LaidOutFile:
         """Returns labels with their layouts, why others are left out, and what is said of all."""
         return self.layouts(on).lay_out(labels, talk)
 
-    def printed(self, labels: Sequence[PrintLabel], on: Setting) -> Mapping[int, Sequence[str]]:
+    def printed(self, labels: Sequence[Record], on: Setting) -> Mapping[int, Sequence[str]]:
         """Returns the texts of labels in places of letters."""
         return self.layouts(on).texts_in_places(labels)
 

@@ -17,11 +17,11 @@ from labeltools.designs.places import key_of, PARTS, Place
 from labeltools.designs.svg_design import mixed_text, NEAR, SvgDesign, UNREAD
 from labeltools.layout.area import Area, LARGEST_MODULE
 from labeltools.layout.frame import DIGITS_ROOM, Frame, LOWEST
-from labeltools.layout.layout import ASKED, LaidOut, LaidOutFile, Layout, PrintLabel, short
+from labeltools.layout.layout import ASKED, LaidOut, LaidOutFile, Layout, short
 from labeltools.layout.letters import Letters
 from labeltools.lines.engine import drawn, Modules
-from labeltools.lines.file import symbology_and_data
-from labeltools.lines.reasons import hint_of
+from labeltools.lines.file import Record, symbology_and_data
+from labeltools.lines.reasons import Refused
 from labeltools.lines.symbologies import SYMBOLOGIES, Symbology
 from labeltools.paper.box import Box
 from labeltools.paper.plan import TINY
@@ -51,19 +51,18 @@ class Values(NamedTuple):
 
 
 # symbols by their places and texts: their modules and data, or why they are refused
-SecondSymbols = dict[tuple[Place, str], tuple[Modules, bytes] | Text]
+SecondSymbols = dict[tuple[Place, str], tuple[Modules, bytes] | Refused]
 
 
-def values_of(label: PrintLabel, note: str, own: frozenset[str]) -> Values:
+def values_of(label: Record, note: str, own: frozenset[str]) -> Values:
     """Returns the texts of a label: those with a place or a group of their own by their names, the
     others together as its text.
     """
-    whole = label.record.label
-    keys, names = keys_of_columns(whole.names or ("",) * len(whole.text), bool(note), own)
-    code = label.record.data.decode("utf-8", "surrogateescape")
-    texts = dict(zip(FIELDS, (whole.title, whole.price, whole.unit, whole.was, code)))
+    keys, names = keys_of_columns(label.names or ("",) * len(label.text), bool(note), own)
+    code = label.data.decode("utf-8", "surrogateescape")
+    texts = dict(zip(FIELDS, (label.title, label.price, label.unit, label.was, code)))
     rest = []
-    for key, text in zip(keys, (*whole.text, note)):
+    for key, text in zip(keys, (*label.text, note)):
         if key == "text":
             rest.append(text)
         else:
@@ -125,7 +124,7 @@ class SvgLayouts:
         wide, high = min(right, self.area.width) - left, min(bottom, self.area.height) - top
         return Box(left, top, max(1, wide), max(1, high))
 
-    def lay_out(self, labels: Sequence[PrintLabel], talk: Talk) -> LaidOutFile:
+    def lay_out(self, labels: Sequence[Record], talk: Talk) -> LaidOutFile:
         """Returns labels with their layouts, why others are left out, and what is said of all."""
         values = [values_of(label, self.note, self.known) for label in labels]
         rows = self.rows_of(values)
@@ -144,18 +143,18 @@ class SvgLayouts:
             try:
                 layout = self.layout(label, rows[number], absent, rooms, symbols)
             except NoRoom as problem:
-                self.left_out[label.record.number] = sentence(problem.what, problem.hint)
+                self.left_out[label.number] = sentence(problem.what, problem.hint)
             else:
                 placed.append(LaidOut(label, layout))
-        said = ((labels[0].record.origin, one) for one in self.said(labels, values, rows, rooms))
+        said = ((labels[0].origin, one) for one in self.said(labels, values, rows, rooms))
         return LaidOutFile(tuple(placed), self.area, self.left_out, tuple(said if labels else ()))
 
-    def texts_in_places(self, labels: Sequence[PrintLabel]) -> Mapping[int, Sequence[str]]:
+    def texts_in_places(self, labels: Sequence[Record]) -> Mapping[int, Sequence[str]]:
         """Returns the texts of labels in places of letters, by the numbers of their lines."""
         rows = self.rows_of([values_of(label, self.note, self.known) for label in labels])
         are_texts = [not place.is_symbol for place in self.places]
         texts = (map(short, compress(row, are_texts)) for row in rows)
-        return {label.record.number: [*several] for label, several in zip(labels, texts)}
+        return {label.number: [*several] for label, several in zip(labels, texts)}
 
     def rows_of(self, values: Sequence[Values]) -> list[tuple[str, ...]]:
         """Returns the texts of labels in all places: Line-2 is a column where any label has one of
@@ -186,12 +185,12 @@ class SvgLayouts:
         found: SecondSymbols = {}
         for key, line, one in zip(wanted, lines, drawn(lines, True, talk)):
             _, data = symbology_and_data(line, True)
-            found[key] = one if isinstance(one, Text) else (one, data)
+            found[key] = one if isinstance(one, Refused) else (one, data)
         return found
 
     def layout(
         self,
-        label: PrintLabel,
+        label: Record,
         row: Sequence[str],
         absent: frozenset[str],
         rooms: Mapping[Place, Room],
@@ -209,11 +208,11 @@ class SvgLayouts:
             if place in rooms:
                 texts.append(rooms[place].text(short(text)))
                 continue
-            symbology, modules, data = label.symbology, label.modules, label.record.data
+            symbology, modules, data = label.kind, label.modules, label.data
             if place.symbology:
                 second = made[place, text]
-                if isinstance(second, Text):
-                    raise NoRoom(Text("place {}: {}", place.title, second), hint_of(second))
+                if isinstance(second, Refused):
+                    raise NoRoom(Text("place {}: {}", place.title, second.what), second.hint)
                 symbology, (modules, data) = SYMBOLOGIES[place.symbology], second
             module, boxes = self.boxes_of(place, symbology.name, modules.width, modules.height)
             how = (data, modules, symbology, module, boxes)
@@ -277,7 +276,7 @@ class SvgLayouts:
 
     def said(
         self,
-        labels: Sequence[PrintLabel],
+        labels: Sequence[Record],
         values: Sequence[Values],
         rows: Sequence[Sequence[str]],
         rooms: Mapping[Place, Room],
@@ -295,7 +294,7 @@ class SvgLayouts:
                 what = Text("{}: the places {} and {} overlap", file, *titles)
                 yield Text("{}: {}", what, Text("a label has a text for each: move them apart"))
         names = {key: value.names[key] for value in values for key in value.texts}
-        columns = {key_of(name) for label in labels for name in label.record.label.names}
+        columns = {key_of(name) for label in labels for name in label.names}
         for key in sorted(self.design.shapes.keys() & columns.union(PARTS)):
             what = Text("{}: {} is not a rectangle ({})", file, key, self.design.shapes[key])
             raise ToolError(what, Text("draw a rectangle for its place"))

@@ -3,7 +3,7 @@
 import re
 from collections import defaultdict
 from functools import cache, lru_cache
-from itertools import accumulate, repeat
+from itertools import accumulate, islice, repeat
 from typing import Any, Iterable, Iterator, Sequence
 
 import cairo
@@ -15,11 +15,11 @@ from labeltools.designs.svg_design import is_light
 from labeltools.layout.fitting import Fitted, Fitter, MIDDLE, Placed, Style
 from labeltools.layout.glyphs import LINE_END
 from labeltools.layout.layout import LaidOut, Page
-from labeltools.layout.letters import DATA_FONT, Letters, usual_digits_font
+from labeltools.layout.letters import DATA_FONT, digits_face, Letters
 from labeltools.layout.medium import Medium
 from labeltools.layout.pango import asked_size, font_options, PangoCairo
 from labeltools.lines.engine import bytes_a_row, LABELS_FAILED, Modules
-from labeltools.lines.symbologies import Span, SYMBOLOGIES, Symbology
+from labeltools.lines.symbologies import Digits, Span, SYMBOLOGIES, Symbology
 from labeltools.paper.box import Box
 from labeltools.paper.plan import Dots
 
@@ -38,7 +38,7 @@ LARGE = 1000  # dots: the size in which digits are measured
 DIGITS = "0123456789"
 EDGE = 4.0  # dots: white around letters on a tint, of which letters cover half
 KNOWN = 1024  # boxes that are kept
-Codes = Sequence[tuple[PlacedSymbol, Dots]]  # symbols, with those of the areas of their labels
+Symbols = Sequence[tuple[LaidOut, Dots, Sequence[PlacedSymbol]]]  # of labels at their places
 Whites = Sequence[tuple[Sequence[Box], Dots]]  # boxes of labels, with those of their areas
 
 
@@ -57,10 +57,7 @@ class Pen:
         self.below = design.below(medium)
         self.options = font_options(medium.is_dots)
         self.fitter = Fitter(letters, medium.is_dots)
-        # Cairo keeps a face as it was first used: a name of its own for each medium
-        self.digits_face = cairo.ToyFontFace(
-            usual_digits_font(medium.is_dots) + " " * medium.is_dots
-        )
+        self.digits_face = digits_face(medium.is_dots)
         large = self.digits_font(font_options(False), LARGE)
         extents = large.text_extents("0")
         self.digit_width = extents.x_advance / LARGE
@@ -89,18 +86,13 @@ class Pen:
         for symbol, place in codes:
             if "digits" in symbol.boxes:
                 self.draw_digits(canvas, symbol, place, runs)
-        for item, place, symbols in labels:
-            taken = [box for symbol in symbols for box in white_boxes(symbol)]
-            for text in self.texts(item):
-                if is_over(text.box, taken):
-                    what = Text("{}: a text is over its code", item.label.record.origin.text)
-                    raise ToolError(what, FAULT, LABELS_FAILED)
-                self.draw_text(canvas, text, place, runs)
+        whites: Whites = [(white_boxes(symbol), place) for symbol, place in codes]
+        self.draw_texts(canvas, labels, whites, runs)
         self.show_runs(canvas, runs)
         turned = canvas.get_matrix()
         if codes and not self.medium.is_dots:
             canvas.set_matrix(whole)
-            self.draw_white(canvas, codes, turn)
+            self.draw_white(canvas, whites, turn)
             canvas.set_matrix(turned)
         for symbol, place in codes:
             corner = turn_to(canvas, symbol.box, symbol.place.quarters, place)
@@ -109,6 +101,19 @@ class Pen:
                 canvas.set_matrix(turned)
         canvas.set_matrix(whole)
 
+    def draw_texts(self, canvas: Any, labels: Symbols, whites: Whites, runs: GlyphRuns) -> None:
+        """Draws the texts of labels, with the boxes of all their symbols, one behind another;
+        raises as `draw`.
+        """
+        rest = iter(whites)
+        for item, place, symbols in labels:
+            taken = [box for boxes, _ in islice(rest, len(symbols)) for box in boxes]
+            for text in self.texts(item):
+                if is_over(text.box, taken):
+                    what = Text("{}: a text is over its code", item.record.origin.text)
+                    raise ToolError(what, FAULT, LABELS_FAILED)
+                self.draw_text(canvas, text, place, runs)
+
     def texts(self, item: LaidOut) -> Iterator[Placed]:
         """Yields the texts of a label as they fit their boxes."""
         return self.design.texts(item, self.fitter, self.below)
@@ -116,7 +121,7 @@ class Pen:
     def is_shortened(self, item: LaidOut) -> bool:
         """Returns whether a text of a label ends in an ellipsis."""
         texts = self.design.cut_texts(item, self.fitter)
-        return item.label.is_cut or any(self.fitter.shown(*text) != text[0] for text in texts)
+        return item.record.is_cut or any(self.fitter.shown(*text) != text[0] for text in texts)
 
     def shown_texts(self, item: LaidOut) -> tuple[str, ...]:
         """Returns the texts of a label that may be cut as they are seen: up to the ellipsis, where
@@ -138,11 +143,10 @@ class Pen:
             self.show_runs(canvas, own)
             canvas.set_matrix(whole)
 
-    def draw_white(self, canvas: Any, codes: Codes, turn: int) -> None:
+    def draw_white(self, canvas: Any, whites: Whites, turn: int) -> None:
         """Draws what is white below the codes of a page, so that nothing is over them, and makes
         black the colour. A PDF has it once for all pages that have their codes in the same places.
         """
-        whites: Whites = [(white_boxes(symbol), place) for symbol, place in codes]
         if self.medium.is_pdf:
             canvas.set_source_surface(self.recorded_white(tuple(whites), turn))
             canvas.paint()
@@ -217,9 +221,10 @@ class Pen:
         """Shows glyphs, as shapes if their font needs that."""
         canvas.set_font_options(self.options)
         for (face, size), glyphs in runs.items():
+            family = face.get_family() if isinstance(face, cairo.ToyFontFace) else ""
             canvas.set_font_face(face)
-            canvas.set_font_size(asked_size(face.get_family(), size))
-            if face.get_family().strip() in self.medium.outlines:
+            canvas.set_font_size(asked_size(family, size))
+            if family.strip() in self.medium.outlines:
                 canvas.glyph_path(glyphs)
                 canvas.fill()
             else:
@@ -280,14 +285,23 @@ class Pen:
         """Returns which digits are below the bars, from the first one on, how large they are, and
         where they begin.
         """
+        most = DIGITS_HIGH / self.digit_height
+        groups = SYMBOLOGIES[symbology].places
+        if not self.medium.is_dots:  # a digit beside the bars is as large: one line of glyphs
+            longest = max(groups, key=lambda group: group.last - group.first)
+            most = min(most, self.largest_digits(longest))
         places = []
-        for first, last, left, right in SYMBOLOGIES[symbology].places:
-            width = (last - first) * self.digit_width
-            most = DIGITS_HIGH / self.digit_height
-            size = round(min(most, (right - left - 0.5) / width) * module)
-            start = round((left + right) * module - width * size) // 2
+        for group in groups:
+            first, last, left, right = group
+            size = round(min(most, self.largest_digits(group)) * module)
+            start = round((left + right) * module - (last - first) * self.digit_width * size) // 2
             places.append((first, last, size, start))
         return places
+
+    def largest_digits(self, group: Digits) -> float:
+        """Returns the largest size in which a group of digits has room, in modules."""
+        width: float = (group.last - group.first) * self.digit_width
+        return (group.right - group.left - 0.5) / width
 
 
 show_layout = PangoCairo.show_layout

@@ -43,7 +43,8 @@ class Attempt(NamedTuple):
         if self.kind == "foot":
             low = max(low, details.height + head.text_height * head.is_foot_text)
         price = self.price(rooms, head, details, low)
-        if price is None or details.size < self.demand.area.dots(LEAST_TEXT):
+        least_details = max(self.demand.area.dots(LEAST_TEXT), self.demand.least_details)
+        if price is None or details.size < least_details:
             return None
         details = self.larger_details(rooms, head, details, price, low)
         made = Arrangement(self.kind, self.demand, rooms, head, details, price, low)
@@ -86,7 +87,7 @@ class Attempt(NamedTuple):
     def details(self, rooms: Rooms) -> PartSize:
         """Returns old price and unit price, on a line or on two."""
         was, unit = self.demand.details
-        size = round(DETAILS_PART * self.demand.text_size)
+        size = max(round(DETAILS_PART * self.demand.text_size), self.demand.least_details)
         if not was and not unit:
             return PartSize(size, 0, 0)
         wide = was + unit + (2 if was and unit else 0)

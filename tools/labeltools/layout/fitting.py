@@ -8,7 +8,7 @@ from typing import Any, Iterator, NamedTuple, Sequence
 import cairo
 
 from labeltools.layout.frame import LINE
-from labeltools.layout.glyphs import BY_PAIRS, GlyphRow, Glyphs, LINE_END
+from labeltools.layout.glyphs import BY_PAIRS, GlyphRow, Glyphs, LINE_END, LineFont
 from labeltools.layout.letters import Letters, MEASURED
 from labeltools.layout.pango import asked_size, font_options, new_layout, Pango, pango_context, UNIT
 from labeltools.paper.box import Box
@@ -60,7 +60,7 @@ class Fitted(NamedTuple):
     y: int
     height: int
     layout: Any
-    glyphs: Glyphs | None = None
+    glyphs: Glyphs | LineFont | None = None
     rows: Sequence[GlyphRow] = ()
     room: int = 0
     part: float = 0.0

@@ -12,6 +12,7 @@ from labeltools.paper.box import Box
 LINE = 1.2  # the distance of two base lines in sizes of letters
 LEAST_TEXT = 1.8  # millimetres: the smallest letters of texts
 DIGITS_ROOM = 10  # modules: the room of digits below bars
+DIGIT_WIDE = 7.0  # modules: the room of a digit below bars
 LOWEST = 5.0  # millimetres: the lowest bars
 HINTING = 1.03  # by how much letters in dots may be larger than they are measured
 # sizes are equal for all if so many take part, or at the cost of no more than this
@@ -104,6 +105,16 @@ class Frame:
     title_line: float
     price_style: str
     score: float
+
+    @property
+    def is_flush_left(self) -> bool:
+        """Whether a price above the code is at the left, since nothing is beside the code."""
+        return self.kind == "foot" and not self.details_lines and "text" not in self.boxes
+
+    @property
+    def alignment(self) -> str:
+        """How texts are aligned: the arrangement, or `left`."""
+        return "left" if self.is_flush_left else self.kind
 
 
 def styles_from(style: str) -> list[str]:

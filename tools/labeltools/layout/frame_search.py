@@ -7,6 +7,7 @@ that has a frame counts. Lengths are in dots, those of texts in sizes of their l
 """
 
 from collections import Counter
+from dataclasses import replace
 from itertools import product
 from typing import Sequence
 
@@ -16,11 +17,14 @@ from labeltools.layout.attempt import Attempt
 from labeltools.layout.code_boxes import Least
 from labeltools.layout.frame import Frame, Need, Needs, PRICE_STYLES
 from labeltools.layout.joint_needs import JointNeeds, Level, LOWEST_PART, module_in
+from labeltools.layout.left_edge import with_left_edge
 
 # letters of titles as parts of those of texts, the largest first: without a price and with one
 TITLES_ALONE = (2.4, 2.0, 1.7, 1.4, 1.2, 1.0)
 TITLES_WITH_PRICE = (2.4, 2.0, 1.7, 1.4, 1.2, 1.1, 1.0)
 LEAST_TITLE = 2.1  # millimetres: the smallest letters of titles
+UNIT_PRICE = 2.75  # millimetres: letters of unit prices that are read with ease, 2 mm high
+UNIT_WORTH = 0.88  # of a price: how large one is at least beside such a unit price
 FEW = range(6, 10)  # labels of which one long title may be cut, so that the others are larger
 LEVELS = (
     Level(1.0, 0.5, 2.0, 2, 4),
@@ -40,12 +44,34 @@ def frame_of(area: Area, needs: Needs) -> Frame | None:
     wide: Counter[Need] = Counter()
     for alike in needs.values():
         wide.update(alike)
-    found = searched(JointNeeds(area, wide, ("price",)))
-    if found is None or needs.keys() == wide.keys():
-        return found
-    styles = [name for name in PRICE_STYLES if is_allowed(name, area)]
-    own = JointNeeds(area, {need: sum(alike.values()) for need, alike in needs.items()}, styles)
-    return searched(own, Least(found, needs, own.deciding)) or found
+    demand = JointNeeds(area, wide, ("price",))
+    found = searched(demand)
+    if found is None:
+        return None
+    if needs.keys() != wide.keys():
+        styles = [name for name in PRICE_STYLES if is_allowed(name, area)]
+        counts = {need: sum(alike.values()) for need, alike in needs.items()}
+        demand = JointNeeds(area, counts, styles)
+        least = Least(found, needs, demand.deciding)
+        found = with_unit_price(searched(demand, least) or found, demand, least)
+    return with_left_edge(found, demand)
+
+
+def with_unit_price(frame: Frame, demand: JointNeeds, least: Least) -> Frame:
+    """Returns a frame in which unit prices are high enough to be read, where there is one that
+    costs the price no more than that is worth.
+    """
+    wished = demand.area.dots(UNIT_PRICE)
+    _, unit = demand.details
+    if not unit or frame.sizes["details"] >= wished:
+        return frame
+    found = searched(replace(demand, least_details=wished), least)
+    return found if found and price_worth(found) >= UNIT_WORTH * price_worth(frame) else frame
+
+
+def price_worth(frame: Frame) -> float:
+    """Returns what a price is worth in a frame: the size of its letters by its style."""
+    return frame.sizes["price"] * PRICE_STYLES[frame.price_style]
 
 
 def is_allowed(style: str, area: Area) -> bool:

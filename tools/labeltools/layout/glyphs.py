@@ -54,6 +54,14 @@ class GlyphRow(NamedTuple):
         return zip(self.numbers, accumulate(self.steps, initial=x), repeat(y))
 
 
+class LineFont(NamedTuple):
+    """A face, where the base line of its lines is below their top, and how high these are."""
+
+    face: cairo.FontFace
+    base: float
+    high: float
+
+
 class Glyphs:
     """The glyphs of a font in a size. `base` is where the base line of a line is below its top, and
     `high` is how high a line is.

@@ -66,13 +66,14 @@ class Rooms(NamedTuple):
 
 @dataclass
 class JointNeeds:
-    """What some labels need together; each need is given with how many labels have it, and how
-    their prices may be written.
+    """What some labels need together; each need is given with how many labels have it, how their
+    prices may be written, and how large old price and unit price are at least, in dots.
     """
 
     area: Area
     needs: Mapping[Need, int]
     styles: Sequence[str] = tuple(PRICE_STYLES)
+    least_details: int = 0
     lines_found: dict[tuple[int, int], Counter[float]] = field(default_factory=dict)
 
     def __post_init__(self) -> None:

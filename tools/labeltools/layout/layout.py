@@ -5,7 +5,7 @@ symbology, or for one label. Lengths are in dots.
 import math
 import re
 from bisect import bisect_left
-from collections import defaultdict
+from collections import Counter, defaultdict
 from dataclasses import dataclass, replace
 from functools import cache
 from typing import Iterator, Mapping, Sequence
@@ -18,9 +18,8 @@ from labeltools.layout.frame import Frame, HINTING, Need, Needs, styles_from
 from labeltools.layout.frame_search import frame_of
 from labeltools.layout.letters import Letters
 from labeltools.layout.price import price_extent
-from labeltools.lines.engine import Modules
-from labeltools.lines.file import LineRecord
-from labeltools.lines.symbologies import SYMBOLOGIES, Symbology
+from labeltools.lines.file import Record
+from labeltools.lines.symbologies import Symbology
 from labeltools.paper.box import Box
 from labeltools.paper.plan import Dots, PAD
 from labeltools.paper.stock import Size, size_text
@@ -35,42 +34,6 @@ ROUNDED = 8
 MOST_HEIGHT = 150  # millimetres: the highest label that a message proposes
 ASKED = 256  # labels between two calls of `go_on`
 NUMBERS = [name for name in Need._fields if name not in ("symbology", "title")]
-
-
-@dataclass(frozen=True, slots=True)
-class PrintLabel:
-    """A label to print: its line, which is drawn, its title, and its text, which may have a line
-    that is the same on all labels.
-    """
-
-    record: LineRecord
-    title: str
-    text: str
-
-    @property
-    def modules(self) -> Modules:
-        """The modules of its code."""
-        assert self.record.modules is not None
-        return self.record.modules
-
-    @property
-    def is_cut(self) -> bool:
-        """Whether a part of its title or text is left away, whatever the paper."""
-        whole = self.record.label
-        if len(self.title) < len(whole.title):
-            return True
-        return bool(whole.text) and len(self.text) < len("\n".join(whole.text))
-
-    @property
-    def symbology(self) -> Symbology:
-        """The symbology of its code."""
-        return SYMBOLOGIES[self.record.symbology]
-
-    @property
-    def texts(self) -> tuple[str, ...]:
-        """Its texts."""
-        whole = self.record.label
-        return self.title, self.text, whole.price, whole.was, whole.unit
 
 
 @dataclass(frozen=True, slots=True)
@@ -96,7 +59,7 @@ class Layout:
 class LaidOut:
     """A label with its layout."""
 
-    label: PrintLabel
+    record: Record
     layout: Layout
 
 
@@ -116,12 +79,12 @@ class LaidOutFile:
     said: tuple[tuple[Origin, Text], ...] = ()
 
 
-def print_label(record: LineRecord, note: str) -> PrintLabel:
-    """Returns the label of a line that is drawn; `note` is one more line of its text."""
-    texts = record.label.text
-    if note:
-        texts = (*texts, note)
-    return PrintLabel(record, short(record.label.title), short("\n".join(texts)))
+def as_printed(record: Record, note: str) -> Record:
+    """Returns a label with its title and text as they are printed; `note` is one more line of the
+    text.
+    """
+    texts = (*record.text, note) if note else record.text
+    return record._replace(head=short(record.title), body=short("\n".join(texts)))
 
 
 def short(text: str) -> str:
@@ -136,20 +99,21 @@ def short(text: str) -> str:
     return "\n".join(line[:MOST_LETTERS] for line in text.split("\n"))
 
 
-def lay_out(labels: Sequence[PrintLabel], area: Area, letters: Letters, talk: Talk) -> LaidOutFile:
+def lay_out(labels: Sequence[Record], area: Area, letters: Letters, talk: Talk) -> LaidOutFile:
     """Returns labels with their layouts, turned to the right where that is wished, or where no wish
     is there and more of them fit so.
     """
     needs = []
-    counted: dict[Need, dict[Need, int]] = {}
+    wides: dict[Need, list[Need]] = {}
+    others = letters.others
     for done, label in enumerate(labels):
         if done % ASKED == 0:
             talk.go_on(done, 0)
         need = need_of(label, letters)
-        wide = need_of(label, letters.others) if letters.has_others else need
-        alike = counted.setdefault(need, {})
-        alike[wide] = alike.get(wide, 0) + 1
+        wide = need_of(label, others) if letters.has_others else need
+        wides.setdefault(need, []).append(wide)
         needs.append(need)
+    counted = {need: Counter(alike) for need, alike in wides.items()}
     found = laid_out_needs(counted, area)
     if area.wishes.turn is not False:
         is_forced = area.wishes.turn is True
@@ -160,27 +124,36 @@ def lay_out(labels: Sequence[PrintLabel], area: Area, letters: Letters, talk: Ta
     return found.of_labels(labels, needs)
 
 
-def need_of(label: PrintLabel, letters: Letters) -> Need:
+def need_of(label: Record, letters: Letters) -> Need:
     """Returns what a label needs."""
-    whole = label.record.label
-    of_title, of_text = letters.of(label.title), letters.of(label.text)
-    of_details = letters.of(whole.was + whole.unit)
-    lines = label.text.split("\n") if label.text else []
-    height, widths = price_extent(whole.price, letters)
+    lines = label.body.split("\n") if label.body else []
+    title: tuple[float, ...] = ()
+    text = was = unit = 0.0
+    if label.head:
+        title = title_widths(label.head, letters.of(label.head))
+    if lines:
+        of_text = letters.of(label.body)
+        text = rounded(max([of_text.width(line, False) for line in lines]))
+    if label.was or label.unit:
+        of_details = letters.of(label.was + label.unit)
+        was = rounded(of_details.width(label.was, False))
+        unit = rounded(of_details.width(label.unit, False))
+    height, (price, raised, narrow, narrow_raised) = price_extent(label.price, letters)
+    modules = label.modules
     return Need(
-        label.record.symbology,
-        label.modules.width,
-        label.modules.height,
-        title_widths(label.title, of_title),
+        label.symbology,
+        modules.width,
+        modules.height,
+        title,
         len(lines),
-        rounded(max((of_text.width(line, False) for line in lines), default=0.0)),
-        widths[0],
+        text,
+        price,
         height,
-        widths[1],
-        widths[2],
-        widths[3],
-        rounded(of_details.width(whole.was, False)),
-        rounded(of_details.width(whole.unit, False)),
+        raised,
+        narrow,
+        narrow_raised,
+        was,
+        unit,
     )
 
 
@@ -206,7 +179,7 @@ class LaidOutNeeds:
         """Returns how many labels have a layout."""
         return sum(sum(counted[need].values()) for need in self.layouts)
 
-    def of_labels(self, labels: Sequence[PrintLabel], needs: Sequence[Need]) -> LaidOutFile:
+    def of_labels(self, labels: Sequence[Record], needs: Sequence[Need]) -> LaidOutFile:
         """Returns the layouts of labels."""
         reasons = {}
         for symbology in {need.symbology for need in self.left_out}:
@@ -217,7 +190,7 @@ class LaidOutNeeds:
         for label, need in zip(labels, needs):
             layout = self.layouts.get(need)
             if layout is None:
-                left_out[label.record.number] = reasons[need.symbology]
+                left_out[label.number] = reasons[need.symbology]
             else:
                 placed.append(LaidOut(label, layout))
         return LaidOutFile(tuple(placed), self.area, left_out)

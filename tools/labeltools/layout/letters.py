@@ -6,8 +6,11 @@ from functools import cache, cached_property, lru_cache, partial
 from itertools import repeat
 from typing import Any, Iterable, Mapping, NamedTuple, Sequence
 
+import cairo
+
 from labeltools.common.messages import ToolError
 from labeltools.common.text import Text
+from labeltools.layout.digits_font import digits_font
 from labeltools.layout.frame import Extent
 from labeltools.layout.glyphs import Memo, OTHER_SCRIPTS, OTHERS
 from labeltools.layout.pango import new_layout, Pango, pango_context, PangoCairo, UNIT
@@ -78,9 +81,11 @@ def is_there(family: str) -> bool:
     return font_for(family).lower() == family.lower()
 
 
-def usual_digits_font(is_dots: bool) -> str:
+def digits_face(is_dots: bool) -> cairo.FontFace:
     """Returns the font of digits below bars, in dots or in a drawing."""
-    return DIGITS_FONT if is_dots and is_there(DIGITS_FONT) else DATA_FONT
+    if is_dots and is_there(DIGITS_FONT):
+        return cairo.ToyFontFace(DIGITS_FONT + " ")  # Cairo keeps a face as it was first used
+    return digits_font() or cairo.ToyFontFace(DATA_FONT + " " * is_dots)
 
 
 def fonts_of(family: str) -> tuple[str, str, str]:

@@ -4,9 +4,8 @@ from dataclasses import dataclass
 from typing import Any, Callable, Iterable, Iterator
 
 from labeltools.common.messages import Talk
-from labeltools.common.text import Text
 from labeltools.lines.library import labels_library
-from labeltools.lines.reasons import reason_of
+from labeltools.lines.reasons import Refused, refused_line
 
 LABELS_FAILED = 3  # the status of a tool that is not in order
 ASKED = 256  # lines between two calls of `go_on`
@@ -36,10 +35,6 @@ class Modules:
         return [self.packed[start : start + size] for start in range(0, len(self.packed), size)]
 
 
-class Refused(Exception):
-    """Why a line has no code."""
-
-
 def bytes_a_row(width: int) -> int:
     """Returns the bytes of a row of `width` dots or modules."""
     return (width + 7) // 8
@@ -55,21 +50,25 @@ class Engine:
         self.line: Callable[..., Any] = self.module.line
 
     def symbol(self, line: bytes) -> Any:
-        """Returns the symbol of a line that has data, as the library gives it; raises `Refused`."""
+        """Returns the symbol of a line that has data, as the library gives it, or why the line is
+        `Refused`.
+        """
         try:
             return self.line(line, height=1, escapes=self.is_escaped)
         except self.module.Refused as refused:
-            raise Refused(str(refused)) from refused
+            return refused_line(refused.code, str(refused))
 
-    def draw(self, line: bytes) -> Modules:
-        """Returns the modules of a line that has data; raises `Refused`."""
+    def draw(self, line: bytes) -> Modules | Refused:
+        """Returns the modules of a line that has data, or why it is refused."""
         symbol = self.symbol(line)
+        if isinstance(symbol, Refused):
+            return symbol
         left, right, top, bottom = symbol.quiet_zones
         high = symbol.height if symbol.rows == 1 else top + symbol.rows + bottom
         return Modules(left + symbol.width + right, high, symbol.packed(quiet_zones=True))
 
 
-def drawn(lines: Iterable[bytes], is_escaped: bool, talk: Talk) -> Iterator[Modules | Text]:
+def drawn(lines: Iterable[bytes], is_escaped: bool, talk: Talk) -> Iterator[Modules | Refused]:
     """Yields the modules of each line, all of which have data, or why it is refused; `is_escaped`
     is --escapes of labels(1).
 
@@ -79,7 +78,4 @@ def drawn(lines: Iterable[bytes], is_escaped: bool, talk: Talk) -> Iterator[Modu
     for done, line in enumerate(lines):
         if done % ASKED == 0:
             talk.go_on(0, 0)
-        try:
-            yield engine.draw(line)
-        except Refused as error:
-            yield reason_of(str(error))
+        yield engine.draw(line)

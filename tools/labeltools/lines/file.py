@@ -25,7 +25,8 @@ from labeltools.common.messages import Origin, quoted, Talk, ToolError
 from labeltools.common.text import NOTHING, Text
 from labeltools.lines.engine import drawn, Modules
 from labeltools.lines.escapes import escaped, unescaped
-from labeltools.lines.symbologies import check_digit, SYMBOLOGIES
+from labeltools.lines.reasons import Refused
+from labeltools.lines.symbologies import check_digit, SYMBOLOGIES, Symbology
 
 MOST_COPIES = 9999
 MOST_LEFT_OUT = 20  # rows that the last remark names
@@ -65,13 +66,18 @@ encode = json.JSONEncoder(ensure_ascii=False, separators=(",", ":")).encode
 decode = json.JSONDecoder().decode
 
 
-class Label(NamedTuple):
-    """What belongs to a line of labels(1). Texts may have several lines; what is not there is
+class Record(NamedTuple):
+    """A label, from the table to the paper. Texts may have several lines; what is not there is
     empty.
 
     `row` is that of the table, 0 where it is not known; `price` is printed as it stands, `unit` is
     the unit price that belongs to it, and `was` the old price; `copies` is 1 where the table has no
     such column. `names` are the columns of the texts, one for each, or none at all.
+
+    `number` is that of its line in the file, from 1, and `line` the line of labels(1) as it stands;
+    `data` has the check digit, and no escapes any more; `table` is the name of its table, where
+    that is known. `drawn` are the modules of its code, or why that is refused; `head` and `body`
+    are the title and the text as they are printed.
     """
 
     row: int = 0
@@ -82,29 +88,51 @@ class Label(NamedTuple):
     was: str = ""
     copies: int = 1
     names: tuple[str, ...] = ()
+    number: int = 0
+    line: bytes = b""
+    symbology: str = ""
+    data: bytes = b""
+    table: str = ""
+    drawn: Modules | Refused | None = None
+    head: str = ""
+    body: str = ""
+
+    def with_prices(self, price: str, unit: str, was: str) -> "Record":
+        """Returns the record of a row, which is on no line yet, with its prices."""
+        return Record(self.row, self.title, self.text, price, unit, was, self.copies, self.names)
 
     @property
     def shown(self) -> tuple[str, tuple[str, ...], str, str, str]:
         """What is printed beside the code: its title, its text and its prices."""
         return self.title, self.text, self.price, self.unit, self.was
 
+    @property
+    def texts(self) -> tuple[str, ...]:
+        """The texts that are printed."""
+        return self.head, self.body, self.price, self.was, self.unit
 
-class LineRecord(NamedTuple):
-    """A line of labels(1) with its label.
+    @property
+    def is_cut(self) -> bool:
+        """Whether a part of its title or text is left away, whatever the paper."""
+        if len(self.head) < len(self.title):
+            return True
+        return bool(self.text) and len(self.body) < len("\n".join(self.text))
 
-    `number` is that of the line in its file, from 1; `data` has the check digit, and no escapes any
-    more; `table` is the name of its table, where that is known; `line` is the line as it stands.
-    Once it is drawn it has the modules of its code, or why it is refused.
-    """
+    @property
+    def modules(self) -> Modules:
+        """The modules of its code, which is drawn."""
+        assert isinstance(self.drawn, Modules)
+        return self.drawn
 
-    number: int
-    symbology: str
-    data: bytes
-    table: str
-    label: Label
-    line: bytes
-    modules: Modules | None = None
-    refused: Text = NOTHING
+    @property
+    def refused(self) -> Refused | None:
+        """Why it has no code, where it is so."""
+        return self.drawn if isinstance(self.drawn, Refused) else None
+
+    @property
+    def kind(self) -> Symbology:
+        """The symbology of its code, which is drawn."""
+        return SYMBOLOGIES[self.symbology]
 
     @property
     def key(self) -> tuple[str, bytes]:
@@ -124,8 +152,8 @@ class LineRecord(NamedTuple):
     @property
     def origin(self) -> Origin:
         """What messages name: the row of the table, or else the line."""
-        if self.label.row:
-            return Origin(self.table, "row", self.label.row)
+        if self.row:
+            return Origin(self.table, "row", self.row)
         return Origin("", "line", self.number)
 
 
@@ -135,7 +163,7 @@ class LinesFile:
     the columns of texts that are empty in a whole table.
     """
 
-    records: tuple[LineRecord, ...]
+    records: tuple[Record, ...]
     left_out: tuple[Origin, ...]
     left_out_count: int
     empty: frozenset[str] = frozenset()
@@ -147,20 +175,20 @@ def first_remark(table: str) -> str:
     return f"#{encode({'labels': VERSION, **named})}\n"
 
 
-def label_lines(label: Label, line: str, has_copies: bool) -> str:
+def record_lines(record: Record, line: str, has_copies: bool) -> str:
     """Returns the lines of a label: its remark, and the line of labels(1)."""
-    found = [f'#{{"row":{label.row}']  # put together by hand, which takes a fifth of the time
-    if label.title:
-        found.append(f'"title":{encode(label.title)}')
-    if label.names:
-        found.append(f'"text":{encode(dict(zip(label.names, label.text)))}')
-    elif label.text:
-        found.append(f'"text":[{",".join(map(encode, label.text))}]')
+    found = [f'#{{"row":{record.row}']  # put together by hand, which takes a fifth of the time
+    if record.title:
+        found.append(f'"title":{encode(record.title)}')
+    if record.names:
+        found.append(f'"text":{encode(dict(zip(record.names, record.text)))}')
+    elif record.text:
+        found.append(f'"text":[{",".join(map(encode, record.text))}]')
     for name in ONE_LINE:
-        if text := getattr(label, name):
+        if text := getattr(record, name):
             found.append(f'"{name}":{encode(text)}')
     if has_copies:
-        found.append(f'"copies":{label.copies}')
+        found.append(f'"copies":{record.copies}')
     return f"{','.join(found)}}}\n{line}\n"
 
 
@@ -215,10 +243,7 @@ def drawn_lines(
     """
     lines = read_lines(data, name, has_escapes, numbers)
     found = drawn((record.line for record in lines.records), has_escapes, talk)
-    records = (
-        record._replace(refused=one) if isinstance(one, Text) else record._replace(modules=one)
-        for record, one in zip(lines.records, found)
-    )
+    records = (record._replace(drawn=made) for record, made in zip(lines.records, found))
     return replace(lines, records=tuple(records))
 
 
@@ -234,7 +259,7 @@ class _Reader:
     first: int = -1
     waiting: dict[str, Any] = field(default_factory=dict)
     torn: Text = NOTHING
-    records: list[LineRecord] = field(default_factory=list)
+    records: list[Record] = field(default_factory=list)
     left_out: list[Origin] = field(default_factory=list)
     left_out_count: int = 0
     empty: set[str] = field(default_factory=set)
@@ -260,9 +285,17 @@ class _Reader:
 
     def take_line(self, number: int, line: bytes) -> None:
         """Takes a line of labels(1), to which the object before it belongs."""
-        label = label_of(self.waiting)
         symbology, data = symbology_and_data(line, self.has_escapes)
-        self.records.append(LineRecord(number, symbology, data, self.table, label, line))
+        self.records.append(
+            Record(
+                number=number,
+                line=line,
+                symbology=symbology,
+                data=data,
+                table=self.table,
+                **texts_of_object(self.waiting),
+            )
+        )
         self.waiting = {}
 
     def whole(self, is_cut: bool) -> LinesFile:
@@ -315,7 +348,7 @@ def is_of(value: object, kind: Any) -> bool:
         texts = value if isinstance(value, list) else named_texts(value)
         return is_of(texts, [str])
     if isinstance(kind, list):
-        return isinstance(value, list) and all(is_of(one, kind[0]) for one in value)
+        return isinstance(value, list) and all(is_of(part, kind[0]) for part in value)
     if isinstance(value, int):
         return type(value) is kind and 0 <= value <= MOST_NUMBER
     return type(value) is kind and not UNPRINTABLE.search(str(value))
@@ -326,24 +359,23 @@ def named_texts(value: object) -> object:
     return [*value, *value.values()] if isinstance(value, dict) else value
 
 
-def label_of(found: dict[str, Any]) -> Label:
-    """Returns the label of an object that is understood."""
+def texts_of_object(found: dict[str, Any]) -> dict[str, Any]:
+    """Returns the fields of a record that an object says, which is understood."""
     if not found:
-        return Label()
+        return {}
     texts = found.get("text", ())
     named = texts if isinstance(texts, dict) else {}
-    filled = [(name, text.strip()) for name, text in named.items() if text.strip()]
     values = named.values() if named else texts
-    return Label(
-        row=found.get("row", 0),
-        title=found.get("title", "").strip(),
-        text=tuple(text.strip() for text in values if text.strip()),
-        price=sys.intern(found.get("price", "").strip()),  # many labels have the same price
-        unit=sys.intern(found.get("unit", "").strip()),
-        was=sys.intern(found.get("was", "").strip()),
-        copies=found.get("copies", 1),
-        names=tuple(sys.intern(name) for name, _ in filled),
-    )
+    return {
+        "row": found.get("row", 0),
+        "title": found.get("title", "").strip(),
+        "text": tuple(text.strip() for text in values if text.strip()),
+        "price": sys.intern(found.get("price", "").strip()),  # many labels have the same price
+        "unit": sys.intern(found.get("unit", "").strip()),
+        "was": sys.intern(found.get("was", "").strip()),
+        "copies": found.get("copies", 1),
+        "names": tuple(sys.intern(name) for name, text in named.items() if text.strip()),
+    }
 
 
 def symbology_and_data(line: bytes, has_escapes: bool) -> tuple[str, bytes]:

@@ -75,8 +75,10 @@ EAN8 = Symbology("ean8", "EAN-8", 8, 0.264, 18.23, (7, 7), HEIGHT)
 UPCA = Symbology("upca", "UPC-A", 12, 0.264, 22.85, (9, 9), HEIGHT)
 CODE128 = Symbology("code128", "Code 128", 0, 0.25, 15.0, (10, 10), HEIGHT)
 QR = Symbology("qr", "QR Code", 0, 0.25, 0.0, (4, 4), QR_SETTINGS)
-SYMBOLOGIES = {one.name: one for one in (EAN13, EAN8, UPCA, CODE128, QR)}
-NUMBERS = {one.digits: one for one in (EAN8, UPCA, EAN13)}  # by their digits with the check digit
+SYMBOLOGIES = {kind.name: kind for kind in (EAN13, EAN8, UPCA, CODE128, QR)}
+NUMBERS = {
+    kind.digits: kind for kind in (EAN8, UPCA, EAN13)
+}  # by their digits with the check digit
 
 
 def check_digit(digits: str) -> str:

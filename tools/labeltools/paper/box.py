@@ -20,3 +20,11 @@ class Box(NamedTuple):
     def bottom(self) -> int:
         """The row below it."""
         return self.top + self.height
+
+    def turned(self, height: int) -> "Box":
+        """Returns where it is in an area of a height that is turned to the right.
+
+        >>> Box(1, 2, 30, 4).turned(10)
+        Box(left=4, top=1, width=4, height=30)
+        """
+        return Box(height - self.bottom, self.left, self.height, self.width)

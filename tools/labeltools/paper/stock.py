@@ -142,7 +142,7 @@ def list_stock(words: str) -> Iterator[str]:
         with suppress(ToolError):
             sheet = glabels_sheet(key)
             line = f"{' '.join(key)}: {sheet}"
-            is_maker = not makers or any(has_word(key, sheet, line, one) for one in makers)
+            is_maker = not makers or any(has_word(key, sheet, line, maker) for maker in makers)
             if is_maker and all(has_word(key, sheet, line, word) for word in others):
                 yield line
 
@@ -194,7 +194,7 @@ def brands() -> frozenset[str]:
 def papers() -> dict[str, Size]:
     """Returns the sizes of paper that the parts name."""
     sizes = parse(TEMPLATES / "paper-sizes.xml").iterfind("{*}Paper-size")
-    return {one.get("id", ""): lengths_of(one) for one in sizes}
+    return {size.get("id", ""): lengths_of(size) for size in sizes}
 
 
 def lengths_of(element: Element, first: str = "width", second: str = "height") -> Size:
@@ -225,7 +225,7 @@ def glabels_sheet(key: PartName) -> Sheet:
         kind = cell.tag.rpartition("Label-")[2]
         what = Text("{}: its labels are not rectangles ({})", head, kind)
         raise ToolError(what, ANOTHER_SHEET, BAD_ARGUMENTS)
-    places = sorted(places_of(cell), key=lambda at: at[::-1])
+    places = sorted(places_of(cell), key=lambda corner: corner[::-1])
     page = papers().get(part.get("size", "")) or lengths_of(part)
     sheet = Sheet(page, lengths_of(cell), tuple(places))
     if not places or not min(sheet.cell) or sheet.beyond() > MOST_BEYOND:

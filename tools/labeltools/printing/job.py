@@ -2,7 +2,7 @@
 
     options = PrintOptions(paper=(60.0, 40.0), dpi=203, to="zpl")
     labels = labels_of(planned(options), "articles.lines", data, talk)
-    Sender(StandardOutput(is_direct=True)).send_all(labels.press(talk), labels.prints)
+    Sender(StandardOutput(is_direct=True)).send_all(labels, talk)
 """
 
 from dataclasses import dataclass, replace
@@ -25,7 +25,8 @@ from labeltools.printing.selection import Selection
 
 NO_GAP = (0.0, 0.0)
 EDGE = 5.0  # millimetres at the edge of a page of several labels where most printers print nothing
-DRAWING_DPI = 600
+USUAL_DPI = (203, 300, 600)  # of label printers, and of others
+DRAWING_DPI = USUAL_DPI[-1]
 MOST_DPI = 2400
 RECEIPT_DOTS = 576  # across paper of 80 mm
 AS_GIVEN = Remedy("paper-as-given", says=Text("Print on this paper"))

@@ -18,11 +18,11 @@ from labeltools.drawing.forms import ESCPOS, PBM, PDF, PNG, SVG, ZPL
 from labeltools.drawing.pdf import drawn_file, Paper
 from labeltools.drawing.pen import Pen
 from labeltools.drawing.zpl import zpl
-from labeltools.layout.layout import LaidOut, LaidOutFile, Page, print_label, PrintLabel
+from labeltools.layout.layout import as_printed, LaidOut, LaidOutFile, Page
 from labeltools.layout.letters import DATA_FONT, Letters
 from labeltools.layout.medium import Medium
-from labeltools.lines.file import drawn_lines, LineRecord, LinesFile
-from labeltools.lines.reasons import hint_of
+from labeltools.lines.file import drawn_lines, LinesFile, Record
+from labeltools.lines.reasons import LineFault, Refused
 from labeltools.paper.picture import Picture
 from labeltools.printing.job import Job
 from labeltools.printing.remarks import remarks_on
@@ -31,8 +31,7 @@ from labeltools.printing.selection import Selection
 MOST_LABELS = 1_000_000  # of one run, with copies
 WORKBOOK = b"PK\x03\x04"  # what .xlsx and .ods begin with
 # what the dots of a label are made of
-DOTS_OF = attrgetter("label.record.data", "label.modules", "label.texts", "layout")
-UNKNOWN = "unknown symbology"  # what labels(1) says
+DOTS_OF = attrgetter("record.data", "record.modules", "record.texts", "layout")
 TABLE_FIRST = Text("a table goes through label-table first")
 CUT_OFF = Text("has no line end, so it may be cut off: end it with a line feed")
 
@@ -51,7 +50,7 @@ class Prepared:
     remarks: tuple[LeftOut, ...]
     tables: frozenset[str]
     pens: Sequence[Pen]
-    records: tuple[LineRecord, ...]
+    records: tuple[Record, ...]
 
     @property
     def labels(self) -> Sequence[LaidOut]:
@@ -75,9 +74,10 @@ def labels_of(job: Job, name: str, data: bytes, talk: Talk) -> Prepared:
     lines = drawn_lines(data, name, job.options.is_escaped, talk)
     *others, last = lines.records or (None,)
     if last is not None and not data.endswith(b"\n"):
-        last = last._replace(modules=None, refused=CUT_OFF)
+        last = last._replace(drawn=Refused(CUT_OFF))
         lines = replace(lines, records=(*others, last))
-    if lines.records and all(record.refused == UNKNOWN for record in lines.records):
+    faults = {record.refused.fault if record.refused else None for record in lines.records}
+    if faults == {LineFault.BAD_SYMBOLOGY}:
         raise ToolError(
             Text("{}: no line begins with a symbology, such as ean13", name), TABLE_FIRST
         )
@@ -98,21 +98,21 @@ def prepared(
     pens = pens or pens_of(job, Letters(options.font))
     letters = pens[0].letters
     labels = [
-        print_label(record, options.note)
+        as_printed(record, options.note)
         for record in lines.records
-        if record.modules is not None and record.label.copies
+        if not record.refused and record.copies
     ]
-    reasons = {record.number: record.refused for record in lines.records if record.refused}
+    reasons = {record.number: record.refused.what for record in lines.records if record.refused}
     on = Setting(job.area, letters, options.note, lines.empty)
     reasons.update(without_letters(labels, job.design, on))
     if options.is_each_once:
         reasons.update(doubles(lines, reasons))
     if reasons:
-        labels = [label for label in labels if label.record.number not in reasons]
+        labels = [label for label in labels if label.number not in reasons]
     laid_out = job.design.lay_out(labels, on, talk)
     reasons.update(laid_out.left_out)
     only = options.only
-    wanted = [item for item in laid_out.labels if only.has(item.label.record)]
+    wanted = [item for item in laid_out.labels if only.has(item.record)]
     left_out = (*without_line(lines, only), *refused_labels(lines, reasons, only))
     tables = frozenset(record.table for record in lines.records if record.table)
     remarks: Iterable[LeftOut] = ()
@@ -123,24 +123,22 @@ def prepared(
     return Prepared(job, found, prints, left_out, tuple(remarks), tables, pens, lines.records)
 
 
-def without_letters(
-    labels: Sequence[PrintLabel], design: Design, on: Setting
-) -> Mapping[int, Text]:
+def without_letters(labels: Sequence[Record], design: Design, on: Setting) -> Mapping[int, Text]:
     """Returns why labels are left out that have letters which no font has, where a design prints
     them.
     """
-    found = on.letters.missing({label.record.number: label.texts for label in labels})
+    found = on.letters.missing({label.number: label.texts for label in labels})
     return on.letters.missing(design.printed(labels, on)) if found else found
 
 
 def doubles(lines: LinesFile, refused: Mapping[int, Text]) -> Mapping[int, Text]:
     """Returns why lines are left out that have the code of an earlier one, or copies."""
-    first: dict[tuple[str, bytes], LineRecord] = {}
+    first: dict[tuple[str, bytes], Record] = {}
     found: dict[int, Text] = {}
     for record in lines.records:
-        if record.number in refused or not record.label.copies:
+        if record.number in refused or not record.copies:
             continue
-        if record.label.copies > 1:
+        if record.copies > 1:
             found[record.number] = Text("has copies, and each code is printed once")
             continue
         earlier = first.setdefault(record.key, record)
@@ -174,14 +172,15 @@ def refused_labels(
         reason = reasons.get(record.number)
         if reason is not None and only.has(record):
             data = record.data.decode("utf-8", "backslashreplace")
-            yield LeftOut(record.origin, data, reason, hint_of(reason))
+            hint = record.refused.hint if record.refused else NOTHING
+            yield LeftOut(record.origin, data, reason, hint)
 
 
 def repeated(items: Sequence[LaidOut], job: Job) -> Sequence[LaidOut]:
     """Returns labels as often as they are printed, once if each is a file, but for the first ones
     that are on paper already; raises `ToolError` if they are more than one run takes.
     """
-    copies = [1 if job.is_each else item.label.record.label.copies for item in items]
+    copies = [1 if job.is_each else item.record.copies for item in items]
     count = sum(copies)
     if count > MOST_LABELS:
         what = Text("{:,} labels with their copies: the maximum is {:,}", count, MOST_LABELS)
@@ -321,4 +320,4 @@ def pens_of(job: Job, letters: Letters) -> list[Pen]:
     )
     wanted = outlines if job.form == PDF else outlines[:1]
     media = (replace(medium, outlines=shapes) for shapes in wanted)
-    return [Pen(one, letters, job.design) for one in media]
+    return [Pen(medium, letters, job.design) for medium in media]

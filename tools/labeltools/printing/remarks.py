@@ -34,20 +34,20 @@ def remarks_on(
         yield LeftOut(place, "", said)
     for some, what in found_on(items, laid_out.area, pen):
         if some:
-            places = [item.label.record.origin for item in some]
+            places = [item.record.origin for item in some]
             text = Text("{}: {}", places_text(places, has_tables), what)
             yield LeftOut(places[0], "", text)
     accents = [item for item in items if is_of_accents(item)]
     if accents:
-        places = [item.label.record.origin for item in accents]
-        data = (item.label.record.data.decode("utf-8", "replace") for item in accents)
+        places = [item.record.origin for item in accents]
+        data = (item.record.data.decode("utf-8", "replace") for item in accents)
         text = said_of_accents(places_text(places, has_tables), data)
         yield LeftOut(places[0], "", text)
 
 
 def several(items: Sequence[LaidOut], only: Selection) -> Iterator[LeftOut]:
     """Yields that rows that are asked for are in several tables of the file."""
-    places = [item.label.record.origin for item in items]
+    places = [item.record.origin for item in items]
     counts = Counter(place.number for place in places if only.has_row(place))
     rows = sorted(number for number, count in counts.items() if count > 1)
     if rows:
@@ -84,7 +84,7 @@ def alike(items: Sequence[LaidOut], pen: Pen) -> Iterator[tuple[Sequence[LaidOut
     for item in items:
         found.setdefault(pen.shown_texts(item), []).append(item)
     for shown, same in found.items():
-        if len({(item.label.title, item.label.text) for item in same}) > 1:
+        if len({(item.record.head, item.record.body) for item in same}) > 1:
             text = quoted(" ".join(shown))
             yield same, Text("alike once shortened, {}: put what differs in front", text)
 
@@ -93,14 +93,14 @@ def is_of_accents(item: LaidOut) -> bool:
     """Returns whether some scanners may show a code wrongly; of one from a table label-table says
     it.
     """
-    record = item.label.record
-    return not record.label.row and has_accents(record.symbology, record.data)
+    record = item.record
+    return not record.row and has_accents(record.symbology, record.data)
 
 
 def has_low_bars(item: LaidOut) -> bool:
     """Returns whether a label is for a till and its bars are lower than half their width."""
     layout = item.layout
-    wide = (item.label.modules.width - sum(layout.symbology.quiet)) * layout.module
+    wide = (item.record.modules.width - sum(layout.symbology.quiet)) * layout.module
     return layout.symbology.is_number and layout.boxes["bars"].height < LOW_PART * wide * ALMOST
 
 

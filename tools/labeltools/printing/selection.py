@@ -11,7 +11,7 @@ from labeltools.common.messages import Origin, ToolError
 from labeltools.common.process import read_file
 from labeltools.common.report import few, LeftOut, Ranges, ranges_of, ranges_text
 from labeltools.common.text import Text
-from labeltools.lines.file import LineRecord
+from labeltools.lines.file import Record
 
 ENDLESS = sys.maxsize  # the last number of a range without an end
 RANGE = re.compile(r"(\d{1,7})(-(\d{1,7})?)?", re.ASCII)
@@ -33,13 +33,13 @@ class Selection:
         """Returns whether a row is asked for by its number."""
         return not self or any(first <= place.number <= last for first, last in self.rows)
 
-    def has(self, record: LineRecord) -> bool:
+    def has(self, record: Record) -> bool:
         """Returns whether the label of a line is asked for."""
         if self.codes and not self.codes.isdisjoint(names_of_code(record)):
             return True
         return self.has_row(record.origin)
 
-    def missing(self, records: Iterable[LineRecord], known: Iterable[Origin]) -> Iterator[LeftOut]:
+    def missing(self, records: Iterable[Record], known: Iterable[Origin]) -> Iterator[LeftOut]:
         """Yields what is asked for and not in the input; `known` are rows without a line."""
         rows = {place.number for place in known}
         codes: set[bytes] = set()
@@ -73,7 +73,7 @@ class Selection:
             done = max(done, last)
 
 
-def names_of_code(record: LineRecord) -> set[bytes]:
+def names_of_code(record: Record) -> set[bytes]:
     """Returns how the code of a line may be named: its data, of a number without its check digit
     too, of UPC-A as EAN-13 too; and as a journal has it, with its symbology.
     """

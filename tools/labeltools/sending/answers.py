@@ -101,10 +101,10 @@ def read_status(heard: bytes) -> Reply | None:
     lines = [line.split(b",") for line in found.groups()] if found else []
     if not found or any(len(line) < least for line, least in zip(lines, LEAST_FIELDS)):
         return None
-    if max(len(lines[line][at]) for line, at in LEFT) > MOST_DIGITS:
+    if max(len(lines[line][field]) for line, field in LEFT) > MOST_DIGITS:
         return None
-    troubles = [told for (line, at), told in FLAGS.items() if lines[line][at] == b"1"]
-    return Reply(troubles, sum(int(lines[line][at] or 0) for line, at in LEFT))
+    troubles = [told for (line, field), told in FLAGS.items() if lines[line][field] == b"1"]
+    return Reply(troubles, sum(int(lines[line][field] or 0) for line, field in LEFT))
 
 
 def read_errors(heard: bytes) -> Reply | None:
@@ -138,5 +138,5 @@ def read_causes(heard: bytes) -> Reply | None:
 MORE = Query(b"~HQES", read_errors)
 QUERIES: Mapping[str, Query] = {
     ZPL.name: Query(b"~HS", read_status),
-    ESCPOS.name: Query(b"".join(DLE_EOT + bytes([one]) for one in ASKED), read_causes),
+    ESCPOS.name: Query(b"".join(DLE_EOT + bytes([question]) for question in ASKED), read_causes),
 }

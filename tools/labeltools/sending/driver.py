@@ -18,6 +18,8 @@ COMMAND_DOTS = re.compile(r"-r(\d+)(?:x(\d+))?")  # of a program that a driver r
 UNKNOWN = 0, 0
 RESOLUTION = "Resolution"  # the options of drivers for it, and for paper
 PAPER = ("PageSize", "PageRegion")
+COPIES = "copies"  # how often each page is printed, in any case of letters
+ONE_COPY = "1"
 INSTALLED = "InstallableOptions"  # the group of what a printer is made of
 # What the keeper of a queue decides, and what is not on a page: its way through the printer, who
 # may print, how dark and fine it is, and its colours. Found in the name of an option or its text.
@@ -96,22 +98,35 @@ def neutral_options(driver: Any, set_dots: Container[str], is_office: bool) -> M
             found.update({option.keyword: choice["choice"] for choice in marked_of(option)})
     for option in page_options(driver, set_dots, is_office):
         neutral = neutral_of([choice["choice"] for choice in option.choices])
-        found.update({option.keyword: name for name in neutral})
+        if not is_for_copies(option):
+            found.update({option.keyword: name for name in neutral})
     return found
 
 
 def changing_options(driver: Any, set_dots: Container[str], is_office: bool) -> Mapping[str, str]:
-    """Returns the options of a driver that are set to change pages, and have no choice that does
-    nothing: what each is called, and the choice that is marked.
+    """Returns the options of a driver that are set to change pages, and for which no job can ask
+    for a choice that does nothing: what each is called, and the choice that is marked.
     """
     found = {}
     for option in page_options(driver, set_dots, is_office):
-        if neutral_of([choice["choice"] for choice in option.choices]):
-            continue
+        is_asked_for = neutral_of([choice["choice"] for choice in option.choices])
         for choice in marked_of(option):
-            if CHANGES.search(f"{spaced(choice['choice'])} {choice['text']}"):
+            if is_for_copies(option):
+                changes = choice["choice"] != ONE_COPY
+            else:
+                words = f"{spaced(choice['choice'])} {choice['text']}"
+                changes = not is_asked_for and bool(CHANGES.search(words))
+            if changes:
                 found[option.text] = choice["text"]
     return found
+
+
+def is_for_copies(option: Any) -> bool:
+    """Returns whether an option says how often each page is printed. CUPS has that number in a
+    place of its own, where filters take 1 for a job that does not say it, and then the choice of
+    the queue.
+    """
+    return str(option.keyword).lower() == COPIES
 
 
 def marked_of(option: Any) -> Sequence[Mapping[str, Any]]:

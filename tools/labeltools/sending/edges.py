@@ -4,7 +4,6 @@ import math
 from collections.abc import Iterator
 from itertools import cycle, islice
 
-from labeltools.checking.compare import turned
 from labeltools.common.messages import BAD_ARGUMENTS, ToolError
 from labeltools.common.text import counted, give, Remedy, Text
 from labeltools.designs.svg_layout import SvgLayout
@@ -31,7 +30,7 @@ def check_edges(printer: str, paper: PrinterPaper, found: Prepared) -> None:
     bottom = plan.page[1] - round((paper.white[3] - HIDDEN) / plan.dot)
 
     def is_cut(box: Box, place: Dots) -> bool:
-        on_page = turned(box, (area.width, area.height), 1) if area.is_turned else box
+        on_page = box.turned(area.height) if area.is_turned else box
         across, down = place[0] + on_page.left, place[1] + on_page.top
         is_in = left <= across and top <= down and across + on_page.width <= right
         return not (is_in and down + on_page.height <= bottom)

@@ -50,27 +50,27 @@ def groups_of(answer: bytes) -> Iterator[Mapping[bytes, bytes]]:
     """Yields the jobs of an answer, each by its names, with the first value of each; raises
     `struct.error` where it is cut off.
     """
-    at, group = HEAD, 0
+    place, group = HEAD, 0
     found: dict[bytes, bytes] = {}
-    while (tag := answer[at] if at < len(answer) else END) != END:
-        at += 1
+    while (tag := answer[place] if place < len(answer) else END) != END:
+        place += 1
         if tag < LEAST_VALUE:
             if group == JOB:
                 yield found
             group, found = tag, {}
             continue
-        name, at = sized(answer, at)
-        value, at = sized(answer, at)
+        name, place = sized(answer, place)
+        value, place = sized(answer, place)
         if name:
             found[name] = value
     if group == JOB:
         yield found
 
 
-def sized(answer: bytes, at: int) -> tuple[bytes, int]:
+def sized(answer: bytes, place: int) -> tuple[bytes, int]:
     """Returns what stands behind its length, and the place behind it."""
-    (size,) = struct.unpack_from(">H", answer, at)
-    return answer[at + 2 : at + 2 + size], at + 2 + size
+    (size,) = struct.unpack_from(">H", answer, place)
+    return answer[place + 2 : place + 2 + size], place + 2 + size
 
 
 def asked(device: str) -> bytes:

@@ -31,7 +31,7 @@ from typing import Iterator, Mapping, NamedTuple, Sequence
 from labeltools.common.messages import ToolError
 from labeltools.common.report import few
 from labeltools.common.text import Text
-from labeltools.lines.file import LineRecord
+from labeltools.lines.file import Record
 
 HEAD = b"#labels journal 1\n"
 FIELD_ENDS = str.maketrans("\t\n", "  ")  # what the name of a printer is written without
@@ -65,7 +65,7 @@ class Entry(NamedTuple):
 class Journal:
     """An open journal, whose lines are those of a printer."""
 
-    def __init__(self, path: str, printer: str, records: Sequence[LineRecord] = ()) -> None:
+    def __init__(self, path: str, printer: str, records: Sequence[Record] = ()) -> None:
         """Opens a journal, or makes it; `records` are the lines of the input. Raises `ToolError`
         where it is none, and `OSError`.
         """
@@ -92,7 +92,7 @@ class Journal:
         """Whether other users than its owner may read or write it."""
         return bool(os.fstat(self.file).st_mode & (READERS | WRITERS))
 
-    def claim(self, record: LineRecord, again: str | None = None) -> bool:
+    def claim(self, record: Record, again: str | None = None) -> bool:
         """Writes that the label of a line is sent, and returns whether it is for this lane: False
         where the journal has its code. A code that was last sent to the printer `again` before this
         lane began is sent again. Raises `ToolError` where it cannot be written.
@@ -112,7 +112,7 @@ class Journal:
             raise self.not_written(error) from error
         return True
 
-    def take(self, record: LineRecord) -> None:
+    def take(self, record: Record) -> None:
         """Writes that a label was taken by the printer; raises `ToolError`."""
         with self.locked():
             self.read()
@@ -126,7 +126,7 @@ class Journal:
             fcntl.lockf(self.file, fcntl.LOCK_UN, 1, FAR + self.lane)
             self.lane = self.free_lane()
 
-    def entry(self, record: LineRecord) -> Entry | None:
+    def entry(self, record: Record) -> Entry | None:
         """Returns the last that is known of the code of a line."""
         return self.entries.get(record.code)
 
@@ -238,8 +238,8 @@ class Journal:
 
     def is_cut(self, code: bytes, entry: Entry) -> bool:
         """Returns whether a code is only the start of the one that the input has in its place."""
-        here = (one.code for one in self.records if str(one.origin) == entry.place)
-        return any(one != code and one.startswith(code) for one in here)
+        here = (record.code for record in self.records if str(record.origin) == entry.place)
+        return any(whole != code and whole.startswith(code) for whole in here)
 
     def advice(self) -> Text:
         """Returns what to do where another program has taken its place: what the new file has not
@@ -273,7 +273,7 @@ class Journal:
         code, entry = found
         self.entries[code] = entry
 
-    def write(self, event: bytes, record: LineRecord) -> None:
+    def write(self, event: bytes, record: Record) -> None:
         """Writes a line."""
         now = time.strftime("%Y-%m-%dT%H:%M:%SZ", time.gmtime()).encode()
         code = record.code
@@ -341,7 +341,7 @@ def entry_in(line: bytes) -> tuple[bytes, Entry] | None:
     if found is None:
         return None
     event, lane, printer, place, code = found.groups()
-    if code.startswith(UPCA):  # as version 1.1.0 wrote it: see `LineRecord.key`
+    if code.startswith(UPCA):  # as version 1.1.0 wrote it: see `Record.key`
         code = b"ean13 0" + code.removeprefix(UPCA)
     texts = (text.decode("utf-8", "replace") for text in (printer, place))
     return code, Entry(event, int(lane), *texts)

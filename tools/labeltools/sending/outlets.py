@@ -17,7 +17,8 @@ from typing import Any, IO
 
 from labeltools.common.files import save, temporary, Unwritten, write_whole
 from labeltools.common.messages import Silence, ToolError
-from labeltools.common.process import hold_signals, standard_output
+from labeltools.common.process import standard_output
+from labeltools.common.signals import hold_signals
 from labeltools.common.text import NOTHING, Text
 from labeltools.sending.answers import Query, Reply
 
@@ -48,14 +49,16 @@ class Broken(ToolError):
 
 class Outlet:
     """Where labels go. `is_direct` is whether each is there for certain once it was sent, whatever
-    comes after it; `is_kept` is whether what was sent is in a file on a disk. `open` is called
-    before a label is written into the journal. `came` has something once somebody has stopped the
-    work, and `say` says that a printer is waited for.
+    comes after it; `is_kept` is whether what was sent is in a file on a disk, and `is_collected`
+    whether nothing of it goes out before all is there. `open` is called before a label is written
+    into the journal. `came` has something once somebody has stopped the work, and `say` says that a
+    printer is waited for.
     """
 
     name: str
     is_direct = False
     is_kept = False
+    is_collected = False
     came: Sized = ()
     say: Callable[[Text, Text], object] = Silence().say
 
@@ -245,6 +248,8 @@ class Collected(Outlet):
     is kept.
     """
 
+    is_collected = True
+
     def __init__(self, name: str, give: Callable[[IO[bytes]], Any]) -> None:
         """Raises `ToolError` if there is no room for temporary files."""
         self.name = name
@@ -294,8 +299,8 @@ def paths_of(name: str, data: Sequence[bytes], first: int) -> list[Path]:
     if folder == Path() or "%" in str(folder):
         raise ToolError(Text("--each"), Text("name a folder for the files, as in labels/%s.png"))
     paths: dict[str, Path] = {}
-    for number, one in enumerate(data, first):
-        path = Path(file_name(name, number, one))
+    for number, label in enumerate(data, first):
+        path = Path(file_name(name, number, label))
         if paths.setdefault(path.name.lower(), path) is not path:
             raise ToolError(
                 Text("--each: two labels would be the file {}", path), Text("put %d into the name")

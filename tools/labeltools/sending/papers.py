@@ -160,9 +160,9 @@ class Papers:
         return Unsaid(what, joined("; ", (given, SHEETS)), BAD_ARGUMENTS)
 
 
-def apart(one: Size, other: Size) -> float:
+def apart(size: Size, other: Size) -> float:
     """Returns by how much two sizes differ."""
-    return abs(one[0] - other[0]) + abs(one[1] - other[1])
+    return abs(size[0] - other[0]) + abs(size[1] - other[1])
 
 
 def papers_of_driver(text: str) -> Papers:
@@ -211,7 +211,7 @@ def papers_of_ipp(attributes: Mapping[str, object]) -> Papers:
     white = []
     for side in SIDES:
         found = ipp_values(attributes.get(f"media-{side}-margin-supported"))
-        numbers = (float(one) / HUNDREDTHS for one in found if isinstance(one, int) and one)
+        numbers = (float(edge) / HUNDREDTHS for edge in found if isinstance(edge, int) and edge)
         white.append(min(numbers, default=0.0))
     edges = white[0], white[1], white[2], white[3]
     known, least, most = [], (0.0, 0.0), (0.0, 0.0)

@@ -123,5 +123,5 @@ def choices_of(queue: str) -> Mapping[str, Mapping[str, str]]:
             option = driver.findOption(name)
             choices = option.choices if option else []
             if len(choices) > 1:
-                found[name] = {one["choice"]: one["text"] for one in choices}
+                found[name] = {choice["choice"]: choice["text"] for choice in choices}
     return found

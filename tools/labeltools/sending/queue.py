@@ -13,7 +13,7 @@ from labeltools.common.text import either, joined, NOTHING, Remedy, shell_line, 
 from labeltools.drawing.forms import PDF
 from labeltools.paper.sizes import is_near, NAMED
 from labeltools.paper.stock import Size
-from labeltools.printing.job import DRAWING_DPI, Job
+from labeltools.printing.job import DRAWING_DPI, Job, USUAL_DPI
 from labeltools.sending.cups import connection, cups_library, queues
 from labeltools.sending.driver import (
     changing_options,
@@ -30,7 +30,6 @@ from labeltools.sending.driver import (
 from labeltools.sending.papers import Papers, papers_of_driver, papers_of_ipp, PrinterPaper, Unsaid
 
 NEAR = 0.3  # millimetres by which a page may differ from a paper with a name
-USUAL_DPI = (203, 300, 600)  # of label printers and of others
 RAW = {"raw": "true"}
 NOTHING_CHOSEN: Mapping[str, str] = {}
 # what is said for each job, since a queue may have other defaults; of a job for the printer itself
@@ -90,7 +89,8 @@ class Queue:
         those of the queue: only who has set it up knows which printer is connected.
         """
         known = {self.dpi or self.common, *self.words} - {0}
-        if is_sheet and (not known or any(dots % DRAWING_DPI == 0 for dots in known)):
+        may_be_that_of_drawings = not known or any(dots % DRAWING_DPI == 0 for dots in known)
+        if is_sheet and may_be_that_of_drawings:
             return DRAWING_DPI
         return self.dpi or max(known, default=0)
 
@@ -187,7 +187,10 @@ class Queue:
             return ToolError(what, hint, BAD_ARGUMENTS)
         found = " or ".join(map(str, sorted(known)))
         what = Text("the queue {} prints at {} dpi, and the labels have {}", self.name, found, dpi)
-        ways = [Remedy("dpi", str(one), Text("{} dpi", one)) for one in sorted(known)]
+        ways = [
+            Remedy("dpi", str(resolution), Text("{} dpi", resolution))
+            for resolution in sorted(known)
+        ]
         hint = Text("leave out {}, or give {}", Remedy("dpi"), either(ways))
         return ToolError(what, hint, BAD_ARGUMENTS)
 

@@ -11,7 +11,7 @@ from labeltools.common.process import standard_output
 from labeltools.common.report import MOST_RANGES, places_text
 from labeltools.common.text import counted, joined, NOTHING, Remedy, shell_word, Text
 from labeltools.layout.layout import LaidOut
-from labeltools.lines.file import LineRecord
+from labeltools.lines.file import Record
 from labeltools.printing.press import Batch, Prepared, Press
 from labeltools.printing.selection import FILE
 from labeltools.sending.journal import Entry, Journal, SENDING
@@ -51,7 +51,7 @@ class Sender:
         outlet: Outlet,
         journal: Journal | None = None,
         again: str | None = None,
-        records: Sequence[LineRecord] = (),
+        records: Sequence[Record] = (),
     ) -> None:
         """Takes all lines of the input, too."""
         self.outlet = outlet
@@ -128,15 +128,14 @@ class Sender:
         """
         if not is_fault:
             return error
-        is_nothing = isinstance(self.outlet, Collected)
-        what = NOTHING_OUT if is_nothing else self.so_far()
+        what = NOTHING_OUT if self.outlet.is_collected else self.so_far()
         return ToolError(Text("{}: {}", error.what, what), error.hint, error.status)
 
     def send(self, press: Press, part: Batch, is_first: bool, is_last: bool = False) -> int:
         """Sends what goes out as a whole, and returns how many bytes it has; 0 if the journal has
         its label. The way out ends after the last one, which is taken if that ends well.
         """
-        record = part.items[0].label.record
+        record = part.items[0].record
         journal = self.journal
         if journal is not None and self.again is None and journal.entry(record) is not None:
             self.known.add(record.code)  # as it was when the journal was last read
@@ -159,7 +158,7 @@ class Sender:
             self.on_way.clear()
         return len(document)
 
-    def give(self, record: LineRecord, document: bytes, is_last: bool) -> None:
+    def give(self, record: Record, document: bytes, is_last: bool) -> None:
         """Gives a label to the printer, and writes that it was taken. Raises what the printer does;
         with a journal `Broken`, since the label is in doubt there, too.
         """
@@ -187,7 +186,7 @@ class Sender:
 
     def named(self, items: Iterable[LaidOut]) -> Text:
         """Returns what messages call labels, with their tables if there are several."""
-        return places_text([item.label.record.origin for item in items], self.has_tables)
+        return places_text([item.record.origin for item in items], self.has_tables)
 
     @property
     def is_lost(self) -> bool:
@@ -278,7 +277,7 @@ class Sender:
         """Whether a printer says that it does not print the labels that it has taken."""
         return self.watch is not None and self.watch.is_stuck
 
-    def doubt(self, record: LineRecord) -> Text:
+    def doubt(self, record: Record) -> Text:
         """Returns what to do about a label that was sent, but is not known to be taken; nothing if
         it is.
         """
@@ -290,7 +289,7 @@ class Sender:
             return sentence(what, Text("send the line again to see whether it was taken"))
         return NOTHING
 
-    def sent_to(self, record: LineRecord) -> str:
+    def sent_to(self, record: Record) -> str:
         """Returns the printer of a label that the journal has as sent and not as taken, or
         nothing.
         """
@@ -310,19 +309,20 @@ class Sender:
         places = {record.code: record.origin for record in records}
         for printer, codes in printers.items():
             there = sorted((places[code], code) for code in codes if code in places)
-            for some in slices_of(there, MOST_RANGES if self.is_clear else 1):
-                words = f"--only {some[0][0].number}" if self.is_clear else by_code(some[0][1])
-                words = "--only ROW" if len(some) > 1 else words
-                named = places_text([place for place, _ in some], self.has_tables)
+            for labels in slices_of(there, MOST_RANGES if self.is_clear else 1):
+                place, code = labels[0]
+                words = f"--only {place.number}" if self.is_clear else by_code(code)
+                words = "--only ROW" if len(labels) > 1 else words
+                named = places_text([place for place, _ in labels], self.has_tables)
                 yield Text("{}: {}", named, may_be_on_paper(printer, words))
             others = [code.decode() for code in codes if code not in places]
-            for some in slices_of(others, MOST_RANGES):
+            for unknown in slices_of(others, MOST_RANGES):
                 yield Text(
                     "{}: may be on paper, from {}, and not in the input: look for it; if it is "
                     "there, change sending to taken in its line of the journal; if not, print it "
                     "with --again from an input that has it, or delete that line if nobody wants "
                     "it",
-                    joined("; ", some),
+                    joined("; ", unknown),
                     printer,
                 )
 

@@ -34,12 +34,13 @@ from labeltools.common.messages import (
     visible,
     write_message,
 )
-from labeltools.common.process import ENDING, hold_signals, standard_output
+from labeltools.common.process import standard_output
 from labeltools.common.report import places_text
+from labeltools.common.signals import ENDING, hold_signals
 from labeltools.common.text import NOTHING, Text, translated
 from labeltools.layout.letters import Letters
 from labeltools.lines.engine import Engine, LABELS_FAILED
-from labeltools.lines.file import drawn_lines, LineRecord, OBJECT
+from labeltools.lines.file import drawn_lines, OBJECT, Record
 from labeltools.printing.job import Job
 from labeltools.printing.press import pens_of, Prepared, prepared, Press
 from labeltools.printing.remarks import SHORTENED
@@ -146,7 +147,7 @@ def source_of(path: str | None) -> tuple[str, Source]:
     if path is None or path == "-":
         if sys.stdin is None:
             raise ToolError(Text("standard input is closed"))
-        return Text("standard input"), sys.stdin.buffer
+        return translated(Text("standard input")), sys.stdin.buffer
     if stat.S_ISFIFO(os.stat(path).st_mode):
         return path, Ahead(Fifo(path))
     return path, open(path, "rb")
@@ -233,7 +234,7 @@ class Stream:
 
     def print(self, parts: Sequence[InputLine]) -> int:
         """Prints a label and returns how many bytes it has, 0 if its code was sent before; raises
-        `Refused`, `ToolError` where nothing went out, and `Broken`.
+        `NoLabel`, `ToolError` where nothing went out, and `Broken`.
         """
         self.require_reader()
         if not parts[-1][1].endswith(b"\n"):
@@ -278,10 +279,10 @@ class Stream:
             self.sender.is_at_end = True
             raise ToolError(Text("{}: {}", OUTPUT, os.strerror(errno.EPIPE)))
 
-    def laid_out(self, parts: Sequence[InputLine]) -> tuple[LineRecord, Prepared]:
-        """Returns a line with its label; raises `Refused`."""
+    def laid_out(self, parts: Sequence[InputLine]) -> tuple[Record, Prepared]:
+        """Returns a line with its label; raises `NoLabel`."""
         numbers, lines_read = zip(*parts)
-        budget = Budget(Text("line {}", numbers[-1]), LONGEST_LINE, SINGLE_LINE)
+        budget = Budget(translated(Text("line {}", numbers[-1])), LONGEST_LINE, SINGLE_LINE)
         try:
             for line in lines_read[:-1]:  # a long one of data is refused for that
                 budget.allow(LINE_OF_STREAM, len(line))

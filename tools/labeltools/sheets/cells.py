@@ -29,8 +29,11 @@ ERROR_WORDS = (
 )
 PROGRAM_ERROR = re.compile(rf"(?:{ERROR_WORDS})\.? ?: ?5[0-9]{{2}}", re.IGNORECASE)
 ODD_STARTS = "=#E \t\n\r\v\f"  # of cells that are looked at: formulas, and the names of errors
-# what a program writes where it has no text, maybe in brackets; `True` may be a title
-NO_TEXTS = frozenset(r"nan nat null none undefined na n/a #n/a \n".split())
+# what a program writes where it has no value: in place of a text or a number, where it may be in
+# brackets, and in place of a code; `True` may be a title
+NO_VALUES = frozenset("nan nat null none undefined na n/a".split())
+NO_TEXTS = NO_VALUES | {"#n/a", r"\n"}
+NO_CODES = NO_VALUES | {"nil", "true", "false", "<na>", "inf", "-inf"}
 NAMES = ("Na", "na")  # which may be words; `NA` is of R and pandas
 LONGEST_NO_TEXT = max(map(len, NO_TEXTS)) + 2
 BRACKETS = "()[]<>{}"
@@ -211,9 +214,11 @@ def text_of_runs(runs: Runs) -> str | Fault:
     marks = {form.mark for part, form in found if part.strip()}
     for mark in marks & {*NO_LETTERS}:
         return Fault(NO_LETTERS[mark], WITHOUT, text)
-    for (one, form), (other, after) in pairwise(found):
-        is_number = one[-1].isdecimal() and other[0].isdecimal()
-        if is_number and min(form.size, after.size) < SAME_SIZE * max(form.size, after.size):
+    for (before, form), (behind, form_behind) in pairwise(found):
+        is_number = before[-1].isdecimal() and behind[0].isdecimal()
+        sizes = form.size, form_behind.size
+        has_two_sizes = min(sizes) < SAME_SIZE * max(sizes)
+        if is_number and has_two_sizes:
             return Fault(SIZES, AS_TEXT, text)
     return text
 
@@ -281,7 +286,8 @@ def refuse_no_value(text: str) -> None:
     """Raises `RowError` for what a program writes in place of a text or a number."""
     bare = text.strip()
     length = len(bare)
-    if length > LONGEST_ERROR or length > LONGEST_NO_TEXT and ":" not in bare and "+" not in bare:
+    has_no_sign = length > LONGEST_NO_TEXT and ":" not in bare and "+" not in bare
+    if length > LONGEST_ERROR or has_no_sign:
         return  # all longer errors have one of these
     if "+" in bare and IS_ROUNDED_DATA.fullmatch(bare):
         raise RowError(Text("has {}: {}", quoted(text), ROUNDED), ROUNDED_HINT)

@@ -36,7 +36,7 @@ AFTER_QUOTE_HINT = Text('write a quote in a quoted cell twice ("")')
 ALL_BELOW = Text("this row and all below it are skipped")
 
 
-class Record(NamedTuple):
+class CsvRow(NamedTuple):
     """A row of CSV by its number; `problem` is why its cells cannot be read."""
 
     number: int
@@ -114,40 +114,37 @@ class CsvTable:
     options: CsvOptions
     budget: Budget
 
-    def records(self) -> Iterator[Record]:
-        """Yields the rows of the text, as far as the budget allows."""
-        for record in parsed(self.text, self.begin, self.delimiter):
-            if record.number % LOOKED_AFTER == 1:
-                self.budget.look()
-            yield record
+    def all_rows(self) -> Iterator[CsvRow]:
+        """Returns the rows of the text, as far as the budget allows."""
+        return parsed(self.text, self.begin, self.delimiter, self.budget)
 
     def rows(self) -> Iterator[Row]:
         """Yields the rows from the row of names on; one whose cells may have moved has a
         problem.
         """
         wanted = self.options.file.header_row
-        rows = (row for row in self.records() if row.number == wanted or not row.is_blank())
+        rows = (row for row in self.all_rows() if row.number == wanted or not row.is_blank())
         head = next((row for row in rows if row.number >= (wanted or 0)), None)
         if head is None or head.problem:
             yield from () if head is None else (Row(*head),)
             return
         shape = self.shape(head)
-        for row in self.records():
+        for row in self.all_rows():
             if row.number >= head.number:
                 is_read = row.number == head.number or row.problem or row.is_blank()
                 problem = row.problem if is_read else shape.problem(row.cells)
                 yield Row(row.number, row.cells, problem)
 
-    def shape(self, head: Record) -> Shape:
+    def shape(self, head: CsvRow) -> Shape:
         """Returns the shape of the table: some exports end each row but the names by a
         delimiter.
         """
-        named = max((at for at, name in enumerate(head.cells, 1) if name.strip()), default=0)
+        named = max((place for place, name in enumerate(head.cells, 1) if name.strip()), default=0)
         width = len(head.cells)
-        below = (row for row in self.records() if row.number > head.number and not row.is_blank())
+        below = (row for row in self.all_rows() if row.number > head.number and not row.is_blank())
         beside = [len(row.cells) - width for row in below if len(row.cells) >= named]
         rest = beside[0] if len(beside) > 1 and len(set(beside)) == 1 else 0
-        asked = {int(one) - 1 for one in self.options.asked if one.isdecimal()}
+        asked = {int(column) - 1 for column in self.options.asked if column.isdecimal()}
         has_names = self.options.file.has_header is not False
         return Shape(head.number, named, width, max(rest, 0), asked if has_names else range(width))
 
@@ -187,7 +184,7 @@ def delimiter_of(text: str, begin: int, given: str | None, options: CsvOptions) 
     if not is_cut and (later := delimiter_of_names(text, begin, options)):
         return later
     is_quoted = text[begin : begin + 100].lstrip("\r\n").startswith('"')
-    may_be_data = options.is_free and best != "\t" and set(options.asked) == {"1"}
+    may_be_data = options.may_have_delimiter and best != "\t"
     if is_cut and (is_quoted or not may_be_data):
         return best
     first = LINE.match(text, begin)
@@ -238,9 +235,9 @@ def fitness(text: str, begin: int, mark: str, options: CsvOptions) -> Fitness:
     return Fitness(width > 1, all(column in names for column in asked), widths[width])
 
 
-def parsed(text: str, begin: int, delimiter: str) -> Iterator[Record]:
-    """Yields the rows with the numbers that a spreadsheet shows; after a quote that does not match,
-    the last one.
+def parsed(text: str, begin: int, delimiter: str, budget: Budget | None = None) -> Iterator[CsvRow]:
+    """Yields the rows with the numbers that a spreadsheet shows, as far as a budget allows; after a
+    quote that does not match, the last one.
     """
     csv.field_size_limit(MEGABYTE)
     lines = (line[0] for line in LINE.finditer(text, begin))
@@ -249,12 +246,14 @@ def parsed(text: str, begin: int, delimiter: str) -> Iterator[Record]:
     passed = 0
     for number in count(1):
         first = reader.line_num
+        if budget is not None and number % LOOKED_AFTER == 1:
+            budget.look()
         try:
             cells = next(reader)
             if reader.line_num - first > 1 and is_of_rows(cells, delimiter):
-                yield Record(number, [], RowError(UNCLOSED))
+                yield CsvRow(number, [], RowError(UNCLOSED))
             else:
-                yield Record(number, cells)
+                yield CsvRow(number, cells)
         except StopIteration:
             return
         except csv.Error as error:
@@ -292,7 +291,7 @@ def is_of_rows(cells: Sequence[str], delimiter: str) -> bool:
     return False
 
 
-def faulty(number: int, lines: Sequence[str], error: str) -> tuple[Record, bool]:
+def faulty(number: int, lines: Sequence[str], error: str) -> tuple[CsvRow, bool]:
     """Returns the row of lines that are not right CSV, and whether what is below it cannot be
     read.
     """
@@ -306,4 +305,4 @@ def faulty(number: int, lines: Sequence[str], error: str) -> tuple[Record, bool]
         problem = RowError(AFTER_QUOTE, with_below(AFTER_QUOTE_HINT))
     else:
         problem = RowError(with_below(UNCLOSED))
-    return Record(number, [], problem), is_last
+    return CsvRow(number, [], problem), is_last

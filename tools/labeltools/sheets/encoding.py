@@ -22,6 +22,27 @@ CANDIDATES = (
     "cp932",
 )
 UTF_16 = UNICODE[3:]
+WESTERN, CENTRAL = Text("Western European"), Text("Central European")
+CYRILLIC, CHINESE = Text("Cyrillic"), Text("Chinese")
+# the letters that encodings are for, and some of them, by which people know them
+LETTERS_OF = {
+    **dict.fromkeys(("cp1252", "iso8859-15", "iso8859-1"), (WESTERN, "ä é €")),
+    **dict.fromkeys(("cp850", "cp437", "mac_roman"), (WESTERN, "ä é €")),
+    **dict.fromkeys(("cp1250", "iso8859-2", "cp852"), (CENTRAL, "ł ő")),
+    **dict.fromkeys(("cp1251", "cp866", "koi8-r"), (CYRILLIC, "Ж я")),
+    **dict.fromkeys(("gb18030", "big5"), (CHINESE, "中")),
+    "cp1254": (Text("Turkish"), "ğ ş"),
+    "cp1257": (Text("Baltic"), "ā š"),
+    "cp1253": (Text("Greek"), "Ω λ"),
+    "cp1255": (Text("Hebrew"), "א ש"),
+    "cp1256": (Text("Arabic"), "ع م"),
+    "cp874": (Text("Thai"), "ก ข"),
+    "cp932": (Text("Japanese"), "あ 漢"),
+    "cp949": (Text("Korean"), "가"),
+    **dict.fromkeys(UTF_16, (Text("of all languages"), "ä Ж あ")),
+}
+SAVE_AS_UTF_8 = Text("save it as UTF-8")
+CHOOSE = Text("choose what reads well, or save it as UTF-8")
 MOST_READINGS = 4
 MOST_LINES = 1000  # that are tried
 MOST_WORDS = 500
@@ -32,6 +53,7 @@ TOLERANCE = 0.25  # a reading with a larger part of odd words than the best one 
 OTHER_LINE = re.compile(rb"^[^\n\x80-\xff]*[\x80-\xff][^\n]*\n?", re.MULTILINE)
 OTHER_BYTES = re.compile(rb'(?<![^\s;,|"])[^\s;,|"\x80-\xff]*[\x80-\xff][^\s;,|"]*')
 OTHER_WORD = re.compile(r'(?<![^\s;,|"])[^\s;,|"\x80-\U0010ffff]*[^\x00-\x7f\s][^\s;,|"]*')
+ANY_WORD = re.compile(r'[^\s;,|"]+')
 CURRENCY = "€£¥₤₺"
 IN_WORDS = "’‘´`‐–・ー〜"  # signs that words have between letters
 SIGNS = f"{CURRENCY}{IN_WORDS}°²³½¼¾®™©§«»„“”‚—…·×µºª№¡¿¢"  # that tables have beside words
@@ -84,13 +106,11 @@ def is_old(data: bytes) -> bool:
 def refuse_other(known: str, codec: str, encoding: str | None, name: str) -> None:
     """Raises `ToolError` where another encoding was given than the one that is known."""
     if known and known not in codec and codec not in known:
-        says = Text("Read it as {}", known.upper())
+        says = Text("Read the letters as they are stored")
         remedy = Remedy("encoding", encoding or "", says, is_less=True)
-        raise ToolError(
-            Text("{} is {}", name, known.upper()),
-            Text("leave out {}", remedy),
-            BAD_ARGUMENTS,
-        )
+        what = Text("{} is {}", name, known.upper())
+        what = what.in_window(Text("the letters of {} are stored in another way", name))
+        raise ToolError(what, Text("leave out {}", remedy), BAD_ARGUMENTS)
 
 
 def unknown_encoding(encoding: str) -> ToolError:
@@ -104,21 +124,24 @@ def wrong_encoding(data: bytes, name: str, codec: str, start: int) -> ToolError:
     """Returns the error of a table in another encoding, with how others would read a word of it."""
     line = data.count(b"\n", 0, start) + 1
     what = Text("{} is not {}, as line {} shows", name, codec.upper(), line)
+    what = what.in_window(Text("it is not clear how the letters of {} are stored", name))
     if data.startswith(tuple(MARKS)):
         return ToolError(what, Text("it is cut off or damaged, save it again"))
     if b"\0" in data:
-        utf = [Remedy("encoding", one, Text("{}", one.upper())) for one in UTF_16]
-        hint = Text("save it as UTF-8, or {}", give(*utf)).in_window(Text("save it as UTF-8"))
+        read = {codec: first_word(data, codec) for codec in UTF_16}
+        utf = [Remedy("encoding", codec, Text("{}", word)) for codec, word in read.items()]
+        in_window = CHOOSE if any(read.values()) else SAVE_AS_UTF_8
+        hint = Text("save it as UTF-8, or {}", give(*utf)).in_window(in_window)
         return ToolError(what, hint)
     found = readings(data, codec)
     if not found:
-        return ToolError(what, Text("save it as UTF-8"))
-    ways = {word: Remedy("encoding", one, Text("{}", word)) for one, word in found.items()}
-    reads = [Text("{:value} reads {}", one, quoted(word)) for word, one in ways.items()]
+        return ToolError(what, SAVE_AS_UTF_8)
+    ways = {word: Remedy("encoding", name, Text("{}", word)) for name, word in found.items()}
+    reads = [Text("{:value} reads {}", way, quoted(word)) for word, way in ways.items()]
     word, best = next(iter(ways.items()))
     shown = joined(", ", [Text("{} reads {}", best, quoted(word)), *reads[1:]])
     hint = Text("save it as UTF-8, or give the right one of these: {}", shown)
-    return ToolError(what, hint.in_window(Text("choose what reads well, or save it as UTF-8")))
+    return ToolError(what, hint.in_window(CHOOSE))
 
 
 def readings(data: bytes, without: str) -> dict[str, str]:
@@ -138,11 +161,11 @@ def readings(data: bytes, without: str) -> dict[str, str]:
         found = OTHER_WORD.findall(text_by(sample, codec))[:MOST_WORDS]
         if codec != without and found and found not in words.values():
             words[codec] = found
-    odd = {codec: sum(is_odd(one) for one in own) / len(own) for codec, own in words.items()}
+    odd = {codec: sum(is_odd(word) for word in own) / len(own) for codec, own in words.items()}
     best = min(odd.values(), default=0.0) + TOLERANCE
     good = (codec for codec in sorted(odd, key=odd.__getitem__) if odd[codec] <= best)
     shown = list(islice((codec for codec in good if text_by(data, codec)), MOST_READINGS))
-    return {codec: word_of(words[codec], [words[one] for one in shown]) for codec in shown}
+    return {codec: word_of(words[codec], [words[other] for other in shown]) for codec in shown}
 
 
 def other_words(data: bytes, codecs: Iterable[str]) -> dict[tuple[str, ...], list[str]]:
@@ -174,6 +197,32 @@ def text_by(data: bytes, codec: str) -> str:
     return ""
 
 
+def first_word(data: bytes, codec: str) -> str:
+    """Returns the first word of a text, as an encoding reads it, that has other letters than ASCII,
+    or else its first word; empty if nobody could read it.
+
+    >>> first_word("EAN;Füller".encode("utf-16-le"), "utf-16-le")
+    'Füller'
+    >>> first_word("EAN;Füller".encode("cp1252"), "cp1252"), first_word(b"EAN;Tea", "cp1252")
+    ('Füller', 'EAN')
+    """
+    text = text_by(data, codec)
+    found = OTHER_WORD.search(text) or ANY_WORD.search(text)
+    return found[0][:LONGEST_WORD] if found else ""
+
+
+def letters_by(codec: str, word: str = "") -> Text:
+    """Returns which letters an encoding is for, with a word that it reads, or else some of them.
+
+    >>> letters_by("cp1252"), letters_by("cp1250", "Łódź"), letters_by("cp500")
+    ('Western European (ä é €)', 'Central European (Łódź)', 'cp500')
+    """
+    if codec not in LETTERS_OF:
+        return Text("{}", word or codec)
+    letters, some = LETTERS_OF[codec]
+    return Text("{} ({})", letters, word or some)
+
+
 def word_of(words: Sequence[str], others: Iterable[Sequence[str]]) -> str:
     """Returns the first word of a reading, and the first by which it is another one than a reading
     with the same first word.
@@ -183,7 +232,7 @@ def word_of(words: Sequence[str], others: Iterable[Sequence[str]]) -> str:
     """
     found = [words[0]]
     for other in others:
-        pairs = (one for one, their in zip(words, other) if one != their)
+        pairs = (own for own, their in zip(words, other) if own != their)
         if other[0] == words[0] and (word := next(pairs, words[0])) not in found:
             found.append(word)
     return " ".join(word[:LONGEST_WORD] for word in found)
@@ -193,7 +242,7 @@ def is_odd(word: str) -> bool:
     """Returns whether nobody writes a word: it has letters of two scripts, a capital behind a small
     letter, a sign between letters or one that is rare, or letters that are.
 
-    >>> [is_odd(one) for one in ("Käse", "2,99€", "F³ller", "KŠse", "¤", "Ñûð")]
+    >>> [is_odd(word) for word in ("Käse", "2,99€", "F³ller", "KŠse", "¤", "Ñûð")]
     [False, False, True, True, True, True]
     """
     letters = [sign for sign in word if sign.isalpha()]
@@ -209,7 +258,8 @@ def is_odd(word: str) -> bool:
     for before, sign, behind in zip(f" {word}", word, f"{word[1:]} "):
         if sign.isascii():
             continue
-        if sign.isupper() and before.isalpha() and (before.islower() or behind.islower()):
+        is_capital_inside = sign.isupper() and before.isalpha()
+        if is_capital_inside and (before.islower() or behind.islower()):
             return True
         is_between = before.isalpha() and behind.isalpha() and sign not in IN_WORDS
         if not sign.isalpha() and (is_between or sign not in SIGNS):

@@ -226,7 +226,9 @@ def section_of(text: str, number_format: str) -> Section:
             before, behind = literals_shown(found["before"]), literals_shown(found["behind"])
             return Section(before, found["pattern"], behind, around == "%", language)
     elif MOMENT.fullmatch(text):
-        parts = [one["date"] or f"'{literals_shown(one[0])}" for one in MOMENT_PART.finditer(text)]
+        parts = [
+            part["date"] or f"'{literals_shown(part[0])}" for part in MOMENT_PART.finditer(text)
+        ]
         moment = with_minutes(parts)
         if any(part[0] in "dmyhns" for part in moment):
             return Section(language=language, moment=moment)
@@ -269,7 +271,7 @@ def signs_of(language: str) -> Signs | None:
 
     >>> signs_of("de_DE"), signs_of("de_CH").decimal, signs_of("xx_YY")
     (Signs(decimal=',', thousands='.'), '.', None)
-    >>> "".join(signs_of(one).decimal for one in ("es_ES", "es_MX", "es_DO", "es_PR", "es_SV"))
+    >>> "".join(signs_of(name).decimal for name in ("es_ES", "es_MX", "es_DO", "es_PR", "es_SV"))
     ',....'
     """
     return SIGNS_OF.get(language) or SIGNS_OF.get(language.partition("_")[0])
@@ -282,11 +284,12 @@ def with_minutes(parts: Sequence[str]) -> tuple[str, ...]:
     >>> with_minutes(["h", "':", "MM"])
     ('h', "':", 'nn')
     """
-    found = [one if one[0] == "'" else one.lower() for one in parts]
+    found = [part if part[0] == "'" else part.lower() for part in parts]
     dates = [place for place, part in enumerate(found) if part[0] != "'" and part != "am/pm"]
     for before, place, behind in zip([-1, *dates], dates, [*dates[1:], -1]):
         is_behind = before >= 0 and found[before][0] == "h"
-        if found[place][0] == "m" and (is_behind or behind >= 0 and found[behind][0] == "s"):
+        is_before = behind >= 0 and found[behind][0] == "s"
+        if found[place][0] == "m" and (is_behind or is_before):
             found[place] = "n" * len(found[place])
     return tuple(found)
 
@@ -296,7 +299,7 @@ def is_date_format(number_format: str) -> bool:
     """Returns whether a format shows a date, of whatever kind; those that are not understood are
     looked at too.
 
-    >>> [is_date_format(one) for one in ("d. mmm yyyy", "0.00", '"Day" 0', "h:mm")]
+    >>> [is_date_format(text) for text in ("d. mmm yyyy", "0.00", '"Day" 0', "h:mm")]
     [True, False, False, False]
     """
     bare = re.sub(r'"[^"]*"|\\.|\[[^\]]*\]', "", number_format[:LONGEST_FORMAT])
@@ -313,7 +316,9 @@ def date_section(pattern: str) -> Section:
     if not PATTERN_OF_DATES.fullmatch(pattern) or not re.search("[dmy]", pattern):
         raise ValueError(Text("{!r}: write it as 'dd.mm.yyyy'", pattern))
     parts = re.findall("yyyy|yy|dd?|mm?|hh?|ss?|.", pattern)
-    return Section(moment=with_minutes([one if one[0] in "ymdhs" else f"'{one}" for one in parts]))
+    return Section(
+        moment=with_minutes([part if part[0] in "ymdhs" else f"'{part}" for part in parts])
+    )
 
 
 def date_text(section: Section, value: Decimal, is_from_1904: bool = False) -> str:
@@ -371,7 +376,8 @@ def digits_by(pattern: str) -> DigitPattern:
     whole_pattern, point, decimals_pattern = pattern.partition(".")
     has_groups = "," in whole_pattern
     is_plain = "E" not in pattern.upper() and "," not in decimals_pattern
-    if not is_plain or has_groups and not WHOLE_PATTERN.fullmatch(whole_pattern):
+    are_groups_whole = not has_groups or WHOLE_PATTERN.fullmatch(whole_pattern)
+    if not is_plain or not are_groups_whole:
         raise not_understood(pattern)
     return DigitPattern(
         unit=Decimal(1).scaleb(-len(decimals_pattern)),
@@ -394,7 +400,8 @@ def by_pattern(value: Decimal, pattern: str, signs: Signs) -> str:
     whole, _, decimals = f"{rounded:,f}".partition(".")
     decimals = decimals[: form.needed] + decimals[form.needed :].rstrip("0")
     is_odd = whole == "0" and not form.shows_zero
-    if is_odd or form.has_point and not decimals:  # here spreadsheets differ
+    has_point_alone = form.has_point and not decimals
+    if is_odd or has_point_alone:  # here spreadsheets differ
         raise not_understood(pattern)
     whole = whole.replace(",", signs.thousands if form.has_groups else "")
     whole = whole.lstrip("0").zfill(form.least)

@@ -163,7 +163,7 @@ class Styles:
 
     def has_condition(self) -> bool:
         """Returns whether a condition takes letters away."""
-        return any(self.form(one).mark in NO_LETTERS for one in self.of_conditions)
+        return any(self.form(style).mark in NO_LETTERS for style in self.of_conditions)
 
     def form(self, cell: str, spans: str = "") -> Lettering:
         """Returns the form of the letters of a cell by its style, and by those of letters in it,
@@ -213,7 +213,7 @@ def rows_of_ods(
     data.
     """
     reader = OdsReader(archive, formatter)
-    found = groupby(reader.read(archive, CONTENT), lambda one: one[0])
+    found = groupby(reader.read(archive, CONTENT), lambda pair: pair[0])
     sheets = (
         Worksheet(head.name, head.is_visible, (row for _, row in rows)) for head, rows in found
     )
@@ -296,13 +296,13 @@ class OdsReader(Reader[tuple[OdsSheet, Row]]):
     def begin_outside(self, name: str, attributes: Attributes) -> None:
         """Begins a sheet, columns or a row."""
         self.path.append(name)
-        at = GROUPS.sub("", "/".join(self.path[1:]))
-        self.styles.take(at, attributes)
-        if at == TABLE and name == "table":
+        path = GROUPS.sub("", "/".join(self.path[1:]))
+        self.styles.take(path, attributes)
+        if path == TABLE and name == "table":
             self.begin_sheet(attributes)
-        elif at == f"{TABLE}/table-column":
+        elif path == f"{TABLE}/table-column":
             self.add_columns(attributes)
-        elif at == f"{TABLE}/table-row":
+        elif path == f"{TABLE}/table-row":
             self.begin_row(attributes)
 
     def begin_sheet(self, attributes: Attributes) -> None:
@@ -389,13 +389,13 @@ class OdsReader(Reader[tuple[OdsSheet, Row]]):
         own = attributes.get("style-name", "") or self.row.get("default-cell-style-name", "")
         columns = self.columns[place : place + repeat]
         made: dict[str, Cell] = {}
-        for at in range(repeat):
-            style = own or (columns[at] if at < len(columns) else "")
+        for offset in range(repeat):
+            style = own or (columns[offset] if offset < len(columns) else "")
             if style not in made:
                 made[style] = self.cell_by(style)
             if cell := made[style]:
                 self.add_letters(len(cell) if isinstance(cell, str) else 1)
-                with_empty_cells(self.cells, place + at, self.budget).append(cell)
+                with_empty_cells(self.cells, place + offset, self.budget).append(cell)
 
     def end_row(self) -> None:
         """Finds the row that is read, as often as it is repeated, but none that is empty and not
@@ -407,14 +407,14 @@ class OdsReader(Reader[tuple[OdsSheet, Row]]):
             merges = tuple(self.merges)
             beside = merges, self.links, self.hidden_places
             row = Row(self.number, self.cells, None, is_hidden, *beside)
-            self.found += ((self.sheet, one) for one in self.repeated(row, repeat))
+            self.found += ((self.sheet, same_row) for same_row in self.repeated(row, repeat))
         self.number += repeat
 
     def repeated(self, row: Row, repeat: int) -> Iterator[Row]:
         """Yields a row as often as it is there, as far as the budget allows."""
-        for number, one in enumerate(rows_from(row, self.letters, repeat)):
+        for number, same_row in enumerate(rows_from(row, self.letters, repeat)):
             self.budget.take(CELLS, len(row.cells) if number else 0)
-            yield one
+            yield same_row
 
     def line_text(self, line: CellLine, style: str, form: Lettering) -> str | Fault:
         """Returns the text of a line of a cell of a style."""
@@ -423,7 +423,9 @@ class OdsReader(Reader[tuple[OdsSheet, Row]]):
         else:
             runs = [(line, "")] if isinstance(line, str) else line
             of = self.styles.form
-            found = [(one, of(style, span) if span else form) for one, span in runs if one]
+            found = [
+                (letters, of(style, span) if span else form) for letters, span in runs if letters
+            ]
             text = text_of_runs(found)
         return text if isinstance(text, Fault) else SPACE.sub(" ", text).strip(" ")
 

@@ -137,7 +137,7 @@ def chosen(sheets: Iterable[Worksheet], wanted: str | None) -> Iterator[Row]:
     if len(found) != 1:
         count = counted("{} visible sheet", "{} visible sheets", len(found))
         what = count if wanted is None else Text("no sheet {}", quoted(wanted))
-        remedies = (Remedy("sheet", one, Text("{}", one)) for one in found or names)
+        remedies = (Remedy("sheet", name, Text("{}", name)) for name in found or names)
         hint = give(*remedies).in_window(Text("which one has your articles?"))
         raise ToolError(Text("has {} with data", what), hint, BAD_ARGUMENTS)
 
@@ -274,25 +274,25 @@ class QuickReader(Reader[F]):
         """
         text = data.decode("latin-1")
         first, last, outer = self.ends
-        at = 0
+        place = 0
         if not self.has_begun:
-            at = max(0, text.find(first))
-            self.parser.Parse(data[:at], False)
+            place = max(0, text.find(first))
+            self.parser.Parse(data[:place], False)
             self.has_begun = True
             self.is_quick = self.is_between()
         while self.is_quick:
-            while found := self.plain.match(text, at):
+            while found := self.plain.match(text, place):
                 self.take(found)
                 self.size = 0
-                at = found.end()
-            end = text.find(last, at) + len(last)
+                place = found.end()
+            end = text.find(last, place) + len(last)
             if end < len(last):
-                self.is_quick = outer not in text[at:]
+                self.is_quick = outer not in text[place:]
                 break
-            self.parser.Parse(data[at:end], False)
+            self.parser.Parse(data[place:end], False)
             self.is_quick = self.is_between()
-            at = end
-        return at
+            place = end
+        return place
 
 
 class Elements(Reader[Element]):
@@ -376,7 +376,8 @@ def rows_from(row: Row, letters: int, repeat: int = 1) -> Iterator[Row]:
         )
     if row.is_blank():  # there may be a million
         repeat = 1
-    if letters > LARGEST_ROW or repeat > 1 and (letters + EACH) * repeat > LARGEST_ROW:
+    size = (letters + EACH) * repeat if repeat > 1 else letters
+    if size > LARGEST_ROW:
         raise ToolError(TOO_LARGE, SAVE_AGAIN)
     yield row
     for number in range(row.number + 1, row.number + repeat):
@@ -422,9 +423,8 @@ def whole_number(value: str, least: int = 0) -> int:
     """Returns a count or an index of a file; raises ValueError for one below the least, which
     Python would take.
     """
-    if not (
-        value.isascii() and value.isdigit() and len(value) <= MOST_DIGITS and int(value) >= least
-    ):
+    is_number = value.isascii() and value.isdigit() and len(value) <= MOST_DIGITS
+    if not is_number or int(value) < least:
         raise ValueError(f"number {value:.30}")
     return int(value)
 

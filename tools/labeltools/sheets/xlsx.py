@@ -515,7 +515,8 @@ class SheetReader(Strings[Row]):
         value, book = self.value or "", self.book
         if self.formula is not None:
             is_empty_text = kind == "str" and self.value is not None
-            if not (value or is_empty_text) or not book.has_saved(value):
+            has_value = value or is_empty_text
+            if not has_value or not book.has_saved(value):
                 return Fault(NOT_SAVED, NOT_SAVED_HINT)
         elif not value and kind != "inlineStr":
             return ""
@@ -546,7 +547,9 @@ def text_of(text: str | XlsxRuns, look: Look) -> Cell:
     if isinstance(text, str):
         found = formed(text, form)
     else:
-        found = text_of_runs([(one, own.within(form) if own else form) for one, own in text])
+        found = text_of_runs(
+            [(letters, own.within(form) if own else form) for letters, own in text]
+        )
     if isinstance(found, str) and found and "@" in style and style != "@":
         try:
             number_format.sections_of(style)

@@ -16,7 +16,6 @@ PART_OF_PRICE = Decimal("0.0001")  # which part of a high price it may change
 LAST_DIGITS = (0, 5, 9)  # of the prices of shops, in cents
 LEAST_PAID = Decimal("0.67")  # what customers pay of what the maker advises
 STEPS = 20  # in which shops reduce or raise prices: by multiples of 5 %
-MOST_COMPARED = 20  # columns with each other: no shop has more prices of a thing
 Pairs = Set[tuple[Decimal, Decimal]]
 
 
@@ -28,10 +27,8 @@ def pairs_of(column: ColumnSample, other: ColumnSample) -> Pairs:
 
 def with_taxes(columns: Mapping[int, ColumnSample]) -> tuple[Collection[int], Collection[int]]:
     """Returns the places of the columns of which amounts prove that others are the same with a tax,
-    and those of these others; none where there are more columns than a shop has.
+    and those of these others.
     """
-    if len(columns) > MOST_COMPARED:
-        return (), ()
     pairs = [
         (bare, whole)
         for bare, column in columns.items()

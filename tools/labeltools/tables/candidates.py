@@ -4,7 +4,6 @@ codes, the title or the price. Which of these has it is weighed in evidence.py.
 
 from collections.abc import Mapping, Sequence
 
-from labeltools.tables.amounts import MOST_COMPARED
 from labeltools.tables.cell_kinds import (
     ABOVE_ZERO,
     ARTICLE,
@@ -12,6 +11,7 @@ from labeltools.tables.cell_kinds import (
     has_currency,
     has_letters,
     is_amount,
+    is_charged,
     is_money,
     LETTER,
     LETTERS,
@@ -42,7 +42,7 @@ def may_be_code(column: ColumnSample) -> bool:
         return True
     if column.has(is_money):
         return False
-    if column.says("codes") and not is_of_other(column) and column.has(DIGITS.search):
+    if column.says("codes") and column.has(DIGITS.search):
         return True
     if column.differing < 1:
         return False
@@ -119,7 +119,7 @@ def may_be_amounts(column: ColumnSample) -> bool:
 def costs_in(columns: Samples) -> Sequence[ColumnSample]:
     """Returns the columns of what the shop pays."""
     costs = (column for column in columns.values() if column.says("cost"))
-    return [column for column in costs if column.has(is_money)][:MOST_COMPARED]
+    return [column for column in costs if column.has(is_money)]
 
 
 def is_weight(column: ColumnSample) -> bool:
@@ -129,6 +129,6 @@ def is_weight(column: ColumnSample) -> bool:
     return bool(weights) and not is_priced and not column.has(has_currency)
 
 
-def is_of_money(column: ColumnSample) -> bool:
-    """Returns whether a column has prices by its name, or amounts of money by their looks."""
-    return bool(column.says("prices", "priced")) or column.has(is_money)
+def charged(column: ColumnSample) -> float:
+    """Returns which part of the cells have an amount above zero, or an error in place of one."""
+    return column.part(is_charged) * column.filled

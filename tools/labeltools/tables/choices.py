@@ -4,20 +4,20 @@ evidence speaks for, and what only the keeper knows.
 
 from collections.abc import Collection, Mapping, Sequence
 
+from labeltools.common.budget import Budget, COMPARED
 from labeltools.tables.amounts import (
     is_above_costs,
     is_never_above,
     is_paid_beside,
-    MOST_COMPARED,
     with_taxes,
 )
 from labeltools.tables.candidates import (
     are_different_texts,
+    charged,
     CODE,
     CODES,
     costs_in,
     is_of_books,
-    is_of_money,
     is_of_other,
     is_plain_title,
     may_be_amounts,
@@ -29,8 +29,8 @@ from labeltools.tables.candidates import (
     Samples,
     TITLE,
 )
-from labeltools.tables.cell_kinds import COUNT, has_unit, is_charged
-from labeltools.tables.code_readings import CodeReading, is_isbn_10, LEAST, passing_share
+from labeltools.tables.cell_kinds import FEW, has_unit
+from labeltools.tables.code_readings import CodeReading, is_isbn_10, LEAST
 from labeltools.tables.column_samples import ColumnSample, Plainness
 from labeltools.tables.evidence import evidences_of
 from labeltools.tables.scores import Decision, probable_choice
@@ -42,7 +42,7 @@ NO_KEYS = ("prices", "cost", "stock")  # what says nothing about which rows are 
 def code_choice(columns: Samples) -> Decision:
     """Returns which column has the codes: some, wherever a column may have them."""
     may_be = code_candidates(columns)
-    found = probable_choice(evidences_of(may_be, CODE, columns))
+    found = probable_choice(evidences_of(may_be, CODE))
     if found.is_none:
         return Decision(sorted(found.may_be))
     if found.surely is None:
@@ -69,13 +69,7 @@ def code_rivals(columns: Samples, chosen: int) -> Collection[int]:
     others = {place: other for place, other in others.items() if not other.says("ids")}
     if code.has_codes:
         return [place for place, other in others.items() if are_two_codes(code, other)]
-    checked = [place for place, other in columns.items() if is_other_code(other)]
-    return checked or others if not code.says(*CODES) else checked
-
-
-def is_other_code(column: ColumnSample) -> bool:
-    """Returns whether a column has EAN or UPC of something else than articles and books."""
-    return column.has_codes and is_of_other(column) and not is_of_books(column)
+    return [] if code.says(*CODES) else [*others]
 
 
 def are_two_codes(column: ColumnSample, other: ColumnSample) -> bool:
@@ -94,7 +88,7 @@ def code_candidates(columns: Samples) -> Samples:
     """
     may_be = {place: column for place, column in columns.items() if may_be_code(column)}
     if any(column.has_codes for column in may_be.values()):
-        may_be = {place: one for place, one in may_be.items() if not one.has(is_isbn_10)}
+        may_be = {place: own for place, own in may_be.items() if not own.has(is_isbn_10)}
     checked = {place: column for place, column in may_be.items() if column.has_codes}
     fullest = max(checked, key=lambda place: checked[place].filled, default=-1)
     again = [
@@ -127,19 +121,25 @@ def title_choice(columns: Samples, taken: Collection[int]) -> Decision:
     """Returns which column has the title, of those that are not taken."""
     may_be = title_candidates(columns, taken)
     if may_be:
-        found = probable_choice(evidences_of(may_be, TITLE, columns))
-        near = {place: may_be[place] for place in found.may_be}
-        return Decision(sorted(near)) if is_title_asked(near, found.surely) else found
+        found = probable_choice(evidences_of(may_be, TITLE))
+        rivals = title_rivals(may_be, found.surely)
+        return Decision(sorted({*found.may_be, *rivals})) if rivals else found
     free = without(columns, taken)
     texts = [place for place, column in free.items() if are_different_texts(column)]
     return Decision(texts, texts[0]) if len(texts) == 1 else Decision()
 
 
-def is_title_asked(columns: Samples, chosen: int | None) -> bool:
-    """Returns whether only the keeper knows if a title is meant: beside others it is a part of a
-    name.
+def title_rivals(columns: Samples, chosen: int | None) -> Collection[int]:
+    """Returns the columns of which only the keeper knows if they have the title, and not the chosen
+    one: few rows have that, and most have another one; or it is a part of a name.
     """
-    return chosen is not None and len(columns) > 1 and bool(columns[chosen].says("parts"))
+    if chosen is None:
+        return ()
+    is_doubtful = columns[chosen].says("parts") or columns[chosen].filled < LEAST
+    if not is_doubtful:
+        return ()
+    full = (place for place, column in columns.items() if column.filled >= LEAST)
+    return [place for place in full if place != chosen]
 
 
 def title_candidates(columns: Samples, taken: Collection[int]) -> Samples:
@@ -147,7 +147,8 @@ def title_candidates(columns: Samples, taken: Collection[int]) -> Samples:
     free = without(columns, taken).items()
     may_be = {place: column for place, column in free if may_be_title(column)}
     long = [place for place, column in may_be.items() if column.says("long")]
-    return without(may_be, long) if any(one.says("short") for one in may_be.values()) else may_be
+    is_short_there = any(column.says("short") for column in may_be.values())
+    return without(may_be, long) if is_short_there else may_be
 
 
 def without(columns: Samples, taken: Collection[int]) -> Samples:
@@ -177,16 +178,16 @@ def has_part(column: ColumnSample, part: ColumnSample) -> bool:
     return 2 * sum(text in whole for whole, text in pairs) >= len(pairs)
 
 
-def price_choice(columns: Samples, taken: Collection[int]) -> Decision:
+def price_choice(columns: Samples, taken: Collection[int], budget: Budget) -> Decision:
     """Returns which column has the price, by what amounts prove, and else by what is probable. If
-    none is it surely, the keeper is asked about a column of money.
+    none is it surely, the keeper is asked.
     """
-    may_be, proved = price_candidates(columns, taken)
+    may_be, proved = price_candidates(columns, taken, budget)
     if proved is not None and not are_two_paid(may_be, proved):
         return Decision(sorted(may_be), proved)
     if not may_be:
         return Decision(net_places(without(columns, taken)))
-    found = probable_choice(evidences_of(may_be, PRICE, columns))
+    found = probable_choice(evidences_of(may_be, PRICE))
     near = {place: may_be[place] for place in found.may_be}
     if found.surely is not None:
         rivals = near | advised_beside(may_be, found.surely)
@@ -195,8 +196,7 @@ def price_choice(columns: Samples, taken: Collection[int]) -> Decision:
         if is_known and not is_price_asked(rivals, found.surely):
             return found
         near = rivals
-    asked = [place for place in near if not found.is_none or is_of_money(columns[place])]
-    return Decision(sorted(asked))
+    return Decision(sorted(near))
 
 
 def is_named_price(column: ColumnSample) -> bool:
@@ -204,7 +204,9 @@ def is_named_price(column: ColumnSample) -> bool:
     return not column.words or bool(column.says(*PAID, "priced", "advised", "regular", "sale"))
 
 
-def price_candidates(columns: Samples, taken: Collection[int]) -> tuple[Samples, int | None]:
+def price_candidates(
+    columns: Samples, taken: Collection[int], budget: Budget
+) -> tuple[Samples, int | None]:
     """Returns the columns that may have the price, without those of which another one has the tax,
     and the only one of which amounts prove that it has the tax, if there is one.
     """
@@ -214,7 +216,7 @@ def price_candidates(columns: Samples, taken: Collection[int]) -> tuple[Samples,
         for place, column in free.items()
         if may_be_amounts(column) and not column.says("cost", "old")
     }
-    bare, whole = with_taxes(amounts)
+    bare, whole = with_taxes(compared(amounts, budget))
     paid = {
         place: column
         for place, column in amounts.items()
@@ -222,6 +224,14 @@ def price_candidates(columns: Samples, taken: Collection[int]) -> tuple[Samples,
     }
     may_be = without_same(paid) if any(column.texts for column in paid.values()) else {}
     return may_be, min(whole) if len(whole) == 1 else None
+
+
+def compared(columns: Samples, budget: Budget) -> Samples:
+    """Returns the columns, if the budget allows to compare the amounts of each one with those of
+    each other one; else none: a table has more columns of prices than shops have.
+    """
+    pairs = len(columns) * sum(len(column.cells) for column in columns.values())
+    return columns if budget.some(COMPARED, pairs) == pairs else {}
 
 
 def without_same(columns: Samples) -> Samples:
@@ -233,12 +243,13 @@ def without_same(columns: Samples) -> Samples:
         column = columns[place]
         plainest.setdefault((tuple(column.cells), column.says("currencies")), place)
     left = {place: columns[place] for place in sorted(plainest.values())}
-    plain = [column for column in left.values() if is_plain_price(column)][:MOST_COMPARED]
+    plain = next((column for column in left.values() if is_plain_price(column)), None)
+    if plain is None:
+        return left
     return {
         place: column
         for place, column in left.items()
-        if not column.says("regular")
-        or not any(is_never_above(other, column) for other in plain if other is not column)
+        if column is plain or not (column.says("regular") and is_never_above(plain, column))
     }
 
 
@@ -303,11 +314,6 @@ def are_two_paid(columns: Samples, chosen: int) -> bool:
     return len(currencies) > 1 or columns[chosen] not in full or len(kinds) > 1
 
 
-def charged(column: ColumnSample) -> float:
-    """Returns which part of the cells have an amount above zero, or an error in place of one."""
-    return column.part(is_charged) * column.filled
-
-
 def paid_columns(columns: Samples, taken: Collection[int]) -> Sequence[int]:
     """Returns the columns of money that customers may pay, of those that are not taken."""
     return [place for place in money_in(columns, taken) if not columns[place].says("cost", "old")]
@@ -321,7 +327,7 @@ def unpaid_columns(columns: Samples, taken: Collection[int]) -> Sequence[int]:
 def money_in(columns: Samples, taken: Collection[int]) -> Sequence[int]:
     """Returns the columns of money, of those that are not taken."""
     free = without(columns, taken).items()
-    return [place for place, column in free if may_be_amounts(column) and is_of_money(column)]
+    return [place for place, column in free if may_be_amounts(column)]
 
 
 def unit_price_choice(columns: Samples, taken: Collection[int]) -> Decision:
@@ -344,14 +350,12 @@ def old_price_choice(columns: Samples, taken: Collection[int], price: int) -> De
 
 
 def copies_choice(columns: Samples, taken: Collection[int]) -> Decision:
-    """Returns which column is named as numbers of labels, and has such numbers."""
+    """Returns which column is named as numbers of labels that are to be printed, and has no large
+    number, as a stock or what is on a roll has.
+    """
     free = without(columns, taken)
     named = {place: column for place, column in free.items() if column.says("copies")}
-    counts = [
-        place
-        for place, column in named.items()
-        if passing_share(column.texts, COUNT.fullmatch) == 1
-    ]
+    counts = [place for place, column in named.items() if column.part(FEW.fullmatch) == 1]
     return Decision(counts, counts[0] if len(counts) == 1 else None)
 
 

@@ -47,8 +47,8 @@ def reading_of(texts: Sequence[str], is_named: bool) -> CodeReading:
         return CodeReading()
     is_own = passing_share(texts, OWN_NUMBER.fullmatch) >= LEAST
     if not is_own and (is_named or passing_share(texts, has_length) >= LEAST):
-        ways = ((one, partial(code_of, rules=one)) for one in OTHER_WAYS)
-        rules = [one for one, read in ways if passing_share(texts, read) >= LEAST]
+        ways = ((way, partial(code_of, rules=way)) for way in OTHER_WAYS)
+        rules = [way for way, read in ways if passing_share(texts, read) >= LEAST]
         if rules != [ANY_TEXT] or passing_share(texts, has_length) >= LEAST:
             return CodeReading(rules or [CodeRules()], problem_of(texts))
     is_long = passing_share(texts, NO_BARS.fullmatch) >= LEAST
@@ -64,7 +64,7 @@ def has_lost_zeros(texts: Sequence[str]) -> bool:
     >>> has_lost_zeros(["72651101016", "72651101023"]), has_lost_zeros(["4006381333931"])
     (False, False)
     """
-    lost = {one for one in texts if not passing_share([one], is_code)}
+    lost = {text for text in texts if not passing_share([text], is_code)}
     read = partial(code_of, rules=WITH_ZEROS)
     return len(lost) >= MOST_CHANCE and passing_share([*lost], read) == 1
 

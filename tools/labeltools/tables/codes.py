@@ -18,13 +18,18 @@ from labeltools.lines.symbologies import (
     SYMBOLOGIES,
     UPCA,
 )
-from labeltools.sheets.cells import IS_ROUNDED_DATA, PROGRAM_ERROR, ROUNDED, ROUNDED_HINT
-from labeltools.tables.money import NO_VALUES
+from labeltools.sheets.cells import (
+    IS_ROUNDED_DATA,
+    NO_CODES,
+    PROGRAM_ERROR,
+    ROUNDED,
+    ROUNDED_HINT,
+)
 
 AUTO = "auto"
 FREE = (CODE128.name, QR.name)
-NAMES = (AUTO, *(one.name for one in NUMBERS.values()), *FREE)
-LENGTHS = {one.name: length for length, one in NUMBERS.items()}
+NAMES = (AUTO, *(number.name for number in NUMBERS.values()), *FREE)
+LENGTHS = {number.name: length for length, number in NUMBERS.items()}
 MOST_ZEROS = 3  # that --fill-zeros puts back
 # a number with decimals, or in groups: those of an ISBN, and those that are printed below bars
 WITH_SIGNS = re.compile(
@@ -34,7 +39,7 @@ ISBN_10 = re.compile("(?:[0-9][- ]?){8,9}[0-9Xx]")
 # 4,00635E+12 shows at most six digits; as 4006350000000 it has six zeros before the check digit
 LOOKS_ROUNDED = re.compile("[0-9]*0{6}[0-9]|(?=.{11})0*[0-9]{1,6}0+")
 IS_ROUNDED = re.compile("[0-9]+(?:[.,][0-9]+)?[Ee][+]?[0-9]+")
-KEYS = sorted({key for one in SYMBOLOGIES.values() for key in one.settings})
+KEYS = sorted({key for symbology in SYMBOLOGIES.values() for key in symbology.settings})
 WITH_SETTINGS = Text("delete it, and give it with {}", Remedy("settings"))
 # what would be drawn though nobody means it, and what to do about it
 AROUND = (
@@ -58,14 +63,15 @@ NO_CHECK_DIGITS = Text("if the column has no check digits, {}", give(WITHOUT_DIG
 
 def kind_remedy(name: str) -> Remedy:
     """Returns the choice of a symbology."""
-    is_one = name in SYMBOLOGIES
-    says = Text("The codes are {}", SYMBOLOGIES[name].title) if is_one else Text("Find their kind")
+    says = Text("Find their kind")
+    if name in SYMBOLOGIES:
+        says = Text("The codes are {}", SYMBOLOGIES[name].title)
     return Remedy("symbology", name, says)
 
 
 OTHER_CODES = Text(
     "a code that is not an EAN or UPC needs {} (bars) or {:value}", *map(kind_remedy, FREE)
-)
+).in_window(Text("for such codes choose Code 128 or QR as the kind of code, for all labels"))
 HAS_DIGIT = replace(WITHOUT_DIGIT, says=Text("The codes have a check digit"), is_less=True)
 ONLY_WITHOUT = Text("give {} only if no number has one", HAS_DIGIT)
 FILL_ZEROS = Remedy("fill-zeros", says=Text("Put lost zeros back in front"))
@@ -151,10 +157,14 @@ def check_data(cell: str) -> None:
     """Raises `RowError` for what would be drawn as data though nobody means it."""
     if IS_ROUNDED_DATA.fullmatch(cell):
         raise RowError(Text("{}: {}", quoted(cell), ROUNDED), ROUNDED_HINT)
-    if cell.strip().casefold() in NO_VALUES or PROGRAM_ERROR.fullmatch(cell.strip()):
+    if cell.strip().casefold() in NO_CODES or PROGRAM_ERROR.fullmatch(cell.strip()):
         raise RowError(Text("{} is what a program writes if it has no value", quoted(cell)))
     if AROUND_DATA.fullmatch(cell):
-        found = (one for one in AROUND if re.fullmatch(one[0], cell, re.DOTALL))
+        found = (
+            (pattern, around, hint)
+            for pattern, around, hint in AROUND
+            if re.fullmatch(pattern, cell, re.DOTALL)
+        )
         _, around, hint = next(found)
         what = Text("{} {}, which would become part of the code", quoted(cell), around)
         raise RowError(what, hint)
@@ -220,7 +230,8 @@ def symbology_of(digits: str, rules: CodeRules) -> str:
     missing = rules.without_check_digit
     count = len(digits) + missing
     is_short = rules.fill_zeros and count == 7 and is_right(digits)
-    if digits[0] == "0" and count == 8 or is_short:
+    has_all_digits = digits[0] == "0" and count == 8
+    if has_all_digits or is_short:
         hint = Text("for an EAN-8 {}", give(kind_remedy(EAN8.name)))
         raise RowError(Text("{} may be a UPC-E, which labels does not draw", digits), hint)
     if missing and count in NUMBERS and is_right(digits):
@@ -254,7 +265,7 @@ def wrong_length(digits: str, asked: Sequence[str], rules: CodeRules) -> RowErro
     """Returns the error of a number with other digits than its symbology has, and what to do."""
     count = len(digits)
     missing = rules.without_check_digit
-    lengths = joined(", ", (code_length(one, missing) for one in asked))
+    lengths = joined(", ", (code_length(name, missing) for name in asked))
     what = counted("{1} has {0} digit, {2}", "{1} has {0} digits, {2}", count, digits[:20], lengths)
     is_auto = rules.symbology == AUTO
     may_miss = count + 1 in NUMBERS and not missing

@@ -43,7 +43,7 @@ class ColumnSample:
     @cached_property
     def texts(self) -> Sequence[str]:
         """Its cells that have a text."""
-        return [one for one in self.cells if one]
+        return [cell for cell in self.cells if cell]
 
     @property
     def filled(self) -> float:
@@ -58,7 +58,7 @@ class ColumnSample:
     @cached_property
     def amounts(self) -> Sequence[Decimal | None]:
         """The amounts of money in its cells, but for zero."""
-        return [price_in(one) for one in self.cells]
+        return [price_in(cell) for cell in self.cells]
 
     def part(self, test: Callable[[str], object]) -> float:
         """Returns the part of its texts that pass a test; those that it refuses do not."""
@@ -94,8 +94,8 @@ class ColumnSample:
     def said(self) -> Mapping[str, frozenset[str]]:
         """The words of its name by the kinds of which they are."""
         pairs = (
-            (kind, frozenset(word for word in self.words if one.has(word)))
-            for kind, one in column_words().items()
+            (kind, frozenset(word for word in self.words if known.has(word)))
+            for kind, known in column_words().items()
         )
         return {kind: words for kind, words in pairs if words}
 
@@ -112,12 +112,14 @@ def samples_of(names: Sequence[str], cells: Iterable[Sequence[str]]) -> list[Col
     """Returns columns by what is said in their names alone: not where all begin alike, nor the shop
     in `Price Main Street` and `Stock Main Street`, nor what a cost is of, as `Purchase rate`.
     """
-    start = commonprefix([one for one in names if one])
-    if len(names) < MANY and start[-1:].isalpha() or names.count("") == len(names) - 1:
+    start = commonprefix([name for name in names if name])
+    is_in_a_word = len(names) < MANY and start[-1:].isalpha()
+    is_single_name = names.count("") == len(names) - 1
+    if is_in_a_word or is_single_name:
         start = ""
     found = [ColumnSample(name[len(start) :], texts) for name, texts in zip(names, cells)]
-    stocks = (one for one in found if one.says("stock"))
-    shop = frozenset().union(*(one.words - one.says(*column_words()) for one in stocks))
-    costs = (one for one in found if one.texts and one.says("cost") and one.has(is_money))
-    shop = shop.union(*(one.words - one.says("cost") for one in costs))
-    return [replace(one, shared=shop & one.words, parts={}) for one in found]
+    stocks = (column for column in found if column.says("stock"))
+    shop = frozenset().union(*(stock.words - stock.says(*column_words()) for stock in stocks))
+    costs = (cost for cost in found if cost.texts and cost.says("cost") and cost.has(is_money))
+    shop = shop.union(*(cost.words - cost.says("cost") for cost in costs))
+    return [replace(column, shared=shop & column.words, parts={}) for column in found]

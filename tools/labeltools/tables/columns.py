@@ -131,9 +131,11 @@ def columns_of(head: Head, rows: Iterable[Row], options: TableOptions) -> Column
     """
     asked = options.columns
     try:
-        found = asked.map(lambda one: column_of(one, head))
+        found = asked.map(lambda argument: column_of(argument, head))
         check_code(found.code, head, options)
-        return replace(found, where=tuple((one, name_of(value)) for one, value in found.where))
+        return replace(
+            found, where=tuple((column, name_of(value)) for column, value in found.where)
+        )
     except ToolError as error:
         texts = ((row.number, texts_of(row)) for row in islice(rows, ROWS_LOOKED_AT))
         later = row_with_names(texts, asked.asked) if options.file.has_header is not False else 0

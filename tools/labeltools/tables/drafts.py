@@ -8,12 +8,12 @@ from typing import Iterator, NamedTuple, Sequence
 from labeltools.common.column_names import is_repeated, name_of
 from labeltools.common.messages import quoted, RowError
 from labeltools.common.text import Remedy, Text
-from labeltools.lines.file import Label
+from labeltools.lines.file import Record
 from labeltools.lines.symbologies import SYMBOLOGIES
 from labeltools.sheets.rows import Row
 from labeltools.tables.codes import Code, code_of, CodeRules, is_in_brackets
 from labeltools.tables.columns import Column
-from labeltools.tables.escaped import EscapedTexts
+from labeltools.tables.findings import Findings, HAS_DIGIT
 from labeltools.tables.money import (
     currency_of,
     currency_remedy,
@@ -25,7 +25,6 @@ from labeltools.tables.money import (
     plain_signs,
 )
 from labeltools.tables.name_words import column_words, folded
-from labeltools.tables.once import Once
 from labeltools.tables.prices import ARITHMETIC, MOST_LOST, nearest, PROGRAM_DECIMALS
 from labeltools.tables.table_options import Columns, TableOptions
 from labeltools.tables.twice import twice_encoded
@@ -42,7 +41,6 @@ MONTH_HINT = Text("give {} if it is none", Remedy("price-as")).in_window(
     Text("if it is none, choose how prices are printed")
 )
 MONTH_LENGTHS = (6, 7)
-HAS_DIGIT = re.compile("[0-9]")
 SHOWN_DECIMALS = 6  # of the number of a cell, in a message
 
 
@@ -71,7 +69,7 @@ class Draft(NamedTuple):
     """
 
     code: Code
-    label: Label
+    record: Record
     prices: tuple[Price | None, Price | None, Price | None]
 
 
@@ -82,13 +80,12 @@ class DraftReader:
     options: TableOptions
     columns: Columns[Column]
     names: tuple[str, ...]
-    once: Once
+    findings: Findings
     right_codes: int = 0
     other_names: int = 0  # the row that names other columns, or the same in other places
 
     def __post_init__(self) -> None:
-        self.variants = Variants(self.columns, self.once)
-        self.escaped = EscapedTexts(self.once)
+        self.variants = Variants(self.columns, self.findings)
         place = self.columns.code.place
         self.code_name = self.names[place] if place < len(self.names) else ""
 
@@ -104,7 +101,7 @@ class DraftReader:
         if self.columns.variants_of:
             self.variants.see(row)
         columns = self.columns
-        if columns.where and not all(one.has(row, value) for one, value in columns.where):
+        if columns.where and not all(column.has(row, value) for column, value in columns.where):
             return None
         code = self.code(row)
         self.right_codes += 1
@@ -113,11 +110,17 @@ class DraftReader:
         texts = self.texts(columns.text, row, code)
         currency = self.currency(row) if columns.currency else None
         copies = columns.copies.copies(row) if columns.copies else 1
-        label = Label(row.number, title, (*texts.values(),), copies=copies, names=(*texts,))
+        record = Record(
+            row=row.number,
+            title=title,
+            text=tuple(texts.values()),
+            copies=copies,
+            names=tuple(texts),
+        )
         price = self.price(columns.price, row, currency)
         unit = self.price(columns.unit_price, row, currency) if columns.unit_price else None
         was = self.price(columns.old_price, row, currency) if columns.old_price else None
-        return Draft(code, label, (price, unit, was))
+        return Draft(code, record, (price, unit, was))
 
     def refuse_names(self, row: Row) -> None:
         """Raises `RowError` for a row that has the names of the columns again, and for one that
@@ -167,7 +170,7 @@ class DraftReader:
             said = Text(
                 "the code of row {} is GS1's in brackets, which is drawn as plain text", row.number
             )
-            self.once.see("brackets", said, Text("no scanner of GS1 takes it"))
+            self.findings.see("brackets", said, Text("no scanner of GS1 takes it"))
         if self.options.settings and (wrong := self.options.wrong_setting(code.symbology)):
             raise RowError(Text("{} has no setting {}", SYMBOLOGIES[code.symbology].title, wrong))
         return code
@@ -180,7 +183,7 @@ class DraftReader:
             said = Text("the code of row {} is a text that leads to an address", row.number)
             remedy = Remedy("links", says=Text("Draw the address"))
             hint = Text("give {} to draw the address", remedy)
-            self.once.see("link", said, hint)
+            self.findings.see("link", said, hint)
         return text
 
     def rules(self, row: Row) -> CodeRules:
@@ -218,7 +221,7 @@ class DraftReader:
         if not text.isascii() and (before := twice_encoded(text)) != text:
             what = Text("has {}, which was encoded twice, for {}", quoted(text), quoted(before))
             raise column.error(RowError(what, Text("export the table again")))
-        self.escaped.see(column, row.number, text)
+        self.findings.see_text(column, row.number, text)
 
     def see_price(self, price: Price, row: int, number: Decimal) -> None:
         """Looks at a price that is the number of a cell; raises `RowError` where it is shown as
@@ -239,7 +242,7 @@ class DraftReader:
             )
         if money.decimals < 2:
             said = Text("row {} shows the price {}, and its value is {}", row, price.text, value)
-            self.once.see(("rounded", price.column), said)
+            self.findings.see(("rounded", price.column), said)
 
     def currency(self, row: Row) -> str | None:
         """Returns the currency of a row, None where the table has no column of them; raises
@@ -256,7 +259,7 @@ class DraftReader:
         if found and not is_known:
             said = Text("row {} has the currency {}, which is not known", row.number, quoted(found))
             hint = Text("if it is right, give {}", currency_remedy(found))
-            self.once.see("currency", said, hint)
+            self.findings.see("currency", said, hint)
         return found
 
     def price(self, column: Column | None, row: Row, currency: str | None) -> Price | None:
@@ -322,7 +325,7 @@ def symbology_in(column: Column, row: Row, default: str) -> str:
         return default
     found = NAMED.get(re.sub("[^a-z0-9]", "", text.casefold()))
     if found is None:
-        listed = ", ".join(one.title for one in SYMBOLOGIES.values())
+        listed = ", ".join(kind.title for kind in SYMBOLOGIES.values())
         what = Text("has {}, which is not a symbology", quoted(text))
         raise column.error(RowError(what, Text("it is one of {}", listed)))
     return found

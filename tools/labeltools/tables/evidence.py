@@ -3,65 +3,20 @@ means stands in weights.list, with what it counts.
 """
 
 import re
-from collections.abc import Callable, Mapping
+from collections.abc import Collection, Mapping
 from dataclasses import dataclass
 
-from labeltools.tables.amounts import is_above_costs, MOST_COMPARED
-from labeltools.tables.candidates import (
-    CODE,
-    CODES,
-    costs_in,
-    is_of_books,
-    PAID,
-    PRICE,
-    Samples,
-    TITLE,
-    TITLES,
-)
-from labeltools.tables.cell_kinds import (
-    ARTICLE,
-    has_currency,
-    has_letters,
-    has_unit,
-    is_charged,
-    is_money,
-    SPACE,
-)
+from labeltools.tables.candidates import charged, CODE, PAID, PRICE, Samples, TITLE, TITLES
+from labeltools.tables.cell_kinds import has_currency, has_unit, SPACE
 from labeltools.tables.code_readings import LEAST
-from labeltools.tables.column_samples import ColumnSample, DIGITS
+from labeltools.tables.column_samples import ColumnSample, Plainness
 
 # kinds of words that say plainly what a column is, beside further ones that are known
-WORDS = {
-    CODE: (*CODES, "beside-codes"),
-    TITLE: (*TITLES, "beside-titles", "languages", "short", "long"),
-    PRICE: (*PAID, "sale", "advised"),
-}
-# kinds of words that speak for a role or against it
-KINDS = {
-    CODE: (*CODES, "numbers", "ids", "national", "books", "others"),
-    TITLE: (*TITLES, "persons", "languages", "english", "short", "others", "numbers", "inventory"),
-    PRICE: ("prices", "priced", "taxed", "paid", "sold", "regular", "sale", "advised", "totals"),
-}
-LONG = 40  # letters of a text that describes
+TITLE_WORDS = (*TITLES, "beside-titles", "languages", "short", "long")
+PRICE_WORDS = (*PAID, "sale", "advised")
 ROUND = re.compile("[059][^0-9]*")  # the end of a price of a shop
-# what cells are tested for
-TEXT_TESTS: Mapping[str, Callable[[str], object]] = {
-    "article-numbers": ARTICLE.fullmatch,
-    "letters": has_letters,
-    "spaces": SPACE.search,
-}
-TESTS: Mapping[str, Mapping[str, Callable[[str], object]]] = {
-    CODE: TEXT_TESTS,
-    TITLE: TEXT_TESTS,
-    PRICE: {
-        "amounts": is_charged,
-        "decimals": is_money,
-        "currency": has_currency,
-        "units": has_unit,
-        "round": ROUND.search,
-    },
-}
-Evidence = dict[str, float]
+NO_PRICE = {"none": 1.0}
+Evidence = Mapping[str, float]
 
 
 @dataclass(frozen=True)
@@ -73,78 +28,76 @@ class Evidences:
     none: Evidence
 
 
-def evidences_of(columns: Samples, role: str, beside: Samples) -> Evidences:
-    """Returns what the columns that may have a role show; `beside` are all of the table."""
-    found = {place: own_evidence(column, role) for place, column in columns.items()}
-    add = {CODE: add_of_codes, TITLE: add_of_titles, PRICE: add_of_prices}[role]
-    add(found, columns, beside)
-    for name in ("filled", "differs"):
-        most = max((evidence[name] for evidence in found.values()), default=0)
-        for evidence in found.values():
-            evidence[f"most-{name}"] = float(evidence[name] == most)
-    return Evidences(role, found, none_evidence(beside))
+def evidences_of(columns: Samples, role: str) -> Evidences:
+    """Returns what the columns show that may have a role."""
+    found = {CODE: of_codes, TITLE: of_titles, PRICE: of_prices}[role](columns)
+    return Evidences(role, found, NO_PRICE if role == PRICE else {})
 
 
-def own_evidence(column: ColumnSample, role: str) -> Evidence:
-    """Returns what a column shows by itself."""
-    found = {f"says-{kind}": 1.0 for kind in KINDS[role] if kind in column.said}
-    found[column.plainness(*WORDS[role]).name.lower().replace("_", "-")] = 1.0
-    found |= {name: column.part(test) for name, test in TESTS[role].items()}
-    length = sum(map(len, column.texts)) / max(1, len(column.texts))
-    return found | {
-        "nameless": float(not column.words),
-        "unknown": float(bool(column.words) and not column.said),
-        "filled": column.filled,
-        "half-filled": float(column.filled >= LEAST),
-        "differs": column.differing,
-        "all-differ": float(column.differing == 1),
-        "long": min(1.0, length / LONG),
+def of_codes(columns: Samples) -> Mapping[int, Evidence]:
+    """Returns what columns show that may have the codes."""
+    fullest = max((column.filled for column in columns.values()), default=0.0)
+    return {
+        place: said_by(column, "codes", "own-numbers", "books", "others")
+        | {"most-filled": float(column.filled == fullest)}
+        for place, column in columns.items()
     }
 
 
-def add_of_codes(found: Mapping[int, Evidence], columns: Samples, beside: Samples) -> None:
-    """Adds what shows that a column has codes, whatever is beside it."""
-    for place, evidence in found.items():
-        evidence["codes"] = float(columns[place].has_codes)
-
-
-def add_of_titles(found: Mapping[int, Evidence], columns: Samples, beside: Samples) -> None:
-    """Adds what columns that may have titles show beside each other."""
+def of_titles(columns: Samples) -> Mapping[int, Evidence]:
+    """Returns what columns show that may have the title."""
     again = named_again(columns)
-    for number, (place, evidence) in enumerate(found.items()):
-        evidence["first"] = float(number == 0)
-        evidence["again"] = float(place in again)
+    return {
+        place: said_by(column, "titles", "short")
+        | {
+            "plain": float(column.plainness(*TITLE_WORDS) is Plainness.PLAIN),
+            "spaces": column.part(SPACE.search),
+            "first": float(place == min(columns)),
+            "again": float(place in again),
+        }
+        for place, column in columns.items()
+    }
 
 
-def named_again(columns: Samples) -> set[int]:
-    """Returns the columns whose name is that of one before, but for its number or its language: of
-    `Price 1` and `Price 2` the first one is meant. A first one in English is for others.
+def of_prices(columns: Samples) -> Mapping[int, Evidence]:
+    """Returns what columns show that may have the price."""
+    again = named_again(columns)
+    return {
+        place: said_by(column, "prices", "paid", "sold", "advised")
+        | {
+            "plain": float(column.plainness(*PRICE_WORDS) is Plainness.PLAIN),
+            "of-some-kind": float(column.plainness(*PRICE_WORDS) is Plainness.OF_SOME_KIND),
+            "unknown": float(is_unknown(column)),
+            "charged": float(charged(column) >= LEAST),
+            "currency": column.part(has_currency),
+            "units": column.part(has_unit),
+            "round": column.part(ROUND.search),
+            "again": float(place in again),
+        }
+        for place, column in columns.items()
+    }
+
+
+def said_by(column: ColumnSample, *kinds: str) -> dict[str, float]:
+    """Returns of which of some kinds the name of a column has words."""
+    return {f"says-{kind}": float(kind in column.said) for kind in kinds}
+
+
+def is_unknown(column: ColumnSample) -> bool:
+    """Returns whether a column has a name, and no word of it is known."""
+    return bool(column.words) and not column.said
+
+
+def named_again(columns: Samples) -> Collection[int]:
+    """Returns the columns whose name is that of another one, but for its number or its language: of
+    `Price 1` and `Price 2` the first one is meant, and one in English is for others.
     """
-    first: dict[frozenset[str], ColumnSample] = {}
-    found = set()
+    alike: dict[frozenset[str], list[int]] = {}
     for place, column in columns.items():
-        bare = column.words - column.says("languages")
-        before = first.setdefault(bare, column)
-        is_numbered = column.words != bare or DIGITS.search(column.name) is not None
-        if is_numbered and bare and before is not column and not before.says("english"):
-            found.add(place)
+        if bare := column.words - column.says("languages"):
+            alike.setdefault(bare, []).append(place)
+    found: set[int] = set()
+    for places in alike.values():
+        meant = min(places, key=lambda place: (bool(columns[place].says("english")), place))
+        found |= {*places} - {meant}
     return found
-
-
-def add_of_prices(found: Mapping[int, Evidence], columns: Samples, beside: Samples) -> None:
-    """Adds what columns that may have prices show beside each other, and beside costs."""
-    again = named_again(columns)
-    costs = costs_in(beside) if len(columns) <= MOST_COMPARED else []
-    for place, evidence in found.items():
-        evidence["again"] = float(place in again)
-        evidence["only"] = float(len(columns) == 1)
-        evidence["above-cost"] = float(is_above_costs(columns[place], costs))
-
-
-def none_evidence(columns: Samples) -> Evidence:
-    """Returns what a table shows of that no column has a role."""
-    named = {kind for column in columns.values() if column.texts for kind in column.said}
-    codes = [column for column in columns.values() if column.has_codes and not is_of_books(column)]
-    kinds = ("inventory", "own-numbers", "parts", "sold", "books")
-    found = {f"none-{kind}": 1.0 for kind in kinds if kind in named}
-    return found | {"none": 1.0, "none-no-codes": float(not codes)}

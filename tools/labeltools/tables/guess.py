@@ -3,16 +3,17 @@ window shows the guess, label-table proposes it, and the keeper of the shop deci
 
 A table goes through these modules: header_row.py finds the names; column_samples.py reads words in
 them and looks at the cells; candidates.py says which columns may have the code, the title or the
-price at all; evidence.py gathers what these show, with what amounts.py proves; scores.py weighs it,
-by weights.list. Below the margin the keeper is asked.
+price at all; amounts.py proves what it can about prices; evidence.py gathers what the columns show;
+scores.py weighs it, by weights.list. choices.py decides by all of them, and asks the keeper what is
+below the margin.
 """
 
 from collections.abc import Collection, Iterator, Mapping, Sequence
 from dataclasses import dataclass, field, replace
 from itertools import islice, zip_longest
 
-from labeltools.common.budget import Budget
-from labeltools.common.messages import Talk
+from labeltools.common.budget import Budget, LOOKED_AT, NAMES_LOOKED_AT, Share
+from labeltools.common.messages import Silence, Talk
 from labeltools.sheets.cells import FORMULA_OF_TEXT
 from labeltools.sheets.rows import Row
 from labeltools.tables.candidates import Samples
@@ -46,8 +47,7 @@ from labeltools.tables.scores import Decision
 from labeltools.tables.table import head_of, Start
 from labeltools.tables.table_options import TableOptions
 
-SAMPLE = 300  # rows that are looked at,
-MOST_CELLS = 100_000  # and cells: of a table with very many columns fewer rows
+SAMPLE = 300  # rows that are looked at, fewer of a table with very many columns
 LONGEST = 1000  # letters of a cell, whose kind these show
 OWN = CodeReading([ANY_TEXT])
 
@@ -73,11 +73,6 @@ class Guess:
     unpaid: Sequence[int] = ()
 
     @property
-    def price_as(self) -> str:
-        """The format that the prices of the column need which surely has them; empty for none."""
-        return self.formats.get(self.columns.get("price", -1), "")
-
-    @property
     def rules(self) -> CodeRules:
         """How the codes that may be meant first are read, as far as it is sure."""
         reading = next(iter(self.codes.values()), CodeReading())
@@ -97,14 +92,25 @@ def guess_of(
     file = options.file
     if file.has_header is None and file.header_row is None:
         start = head_of(data, name, options, talk, budget)
-        top = guessed_header([start.head.row, *sample_of(start)])
+        top = guessed_header([start.head.row, *sample_of(start, budget, LOOKED_AT)])
         named = replace(options, file=replace(file, has_header=True, header_row=top.number))
         found = guess_of(data, name, named, talk, budget)
         has_code = any(passing_share([text], is_code) for text in column_names(top) if text)
         if not has_code and not any(map(found.is_named_as_code, found.codes)):
             return found
         options = replace(options, file=replace(file, has_header=False))
-    return guess(*table_columns(data, name, options, talk, budget))
+    return guess(*table_columns(data, name, options, talk, budget), budget)
+
+
+def names_of(data: bytes, options: TableOptions, budget: Budget) -> Sequence[str]:
+    """Returns the names of the columns of a table alone; raises `ToolError` where it cannot be
+    read.
+    """
+    start = head_of(data, budget.name, options, Silence(), budget)
+    if options.file.has_header is None and options.file.header_row is None:
+        rows = [start.head.row, *sample_of(start, budget, NAMES_LOOKED_AT)]
+        return column_names(guessed_header(rows))
+    return start.head.names
 
 
 def table_columns(
@@ -115,7 +121,8 @@ def table_columns(
     """
     start = head_of(data, name, options, talk, budget)
     names, head, file = start.head.names, start.head.row, options.file
-    shown = (row for row in sample_of(start) if file.hidden or not row.is_hidden)
+    rows = sample_of(start, budget, LOOKED_AT)
+    shown = (row for row in rows if file.hidden or not row.is_hidden)
     right = (row for row in shown if not (row.problem or row.is_blank()))
     cells = [texts_of(row) for row in right if column_names(row) != names]
     columns = [*zip_longest(names, *cells, fillvalue="")]
@@ -123,20 +130,26 @@ def table_columns(
     return columns, number, () if file.hidden else head.hidden_places
 
 
-def sample_of(start: Start) -> Iterator[Row]:
-    """Returns the first rows below the names, fewer of a table with very many columns."""
-    most = MOST_CELLS // max(1, len(start.head.row.cells))
-    return islice(start.rows, max(1, min(SAMPLE, most)))
+def sample_of(start: Start, budget: Budget, share: Share) -> Iterator[Row]:
+    """Returns the first rows below the names, as many as the budget allows to look at."""
+    width = max(1, len(start.head.row.cells))
+    return islice(start.rows, max(1, budget.some(share, SAMPLE * width) // width))
 
 
-def guess(columns: Sequence[Sequence[str]], header: int, hidden: Collection[int] = ()) -> Guess:
+def guess(
+    columns: Sequence[Sequence[str]],
+    header: int,
+    hidden: Collection[int] = (),
+    budget: Budget | None = None,
+) -> Guess:
     """Returns a guess from columns, each with its name in front, which may be empty. Hidden ones
     are only looked at if no other one has codes.
     """
+    budget = budget or Budget("", 0)
     shown = [("", *()) if place in hidden else cells for place, cells in enumerate(columns)]
-    found = guess_by(samples_from(shown))
+    found = guess_by(samples_from(shown), budget)
     if hidden and not found.codes:
-        found = guess_by(samples_from(columns))
+        found = guess_by(samples_from(columns), budget)
     names = [name for name, *_ in columns]
     examples = [next(filter(None, map(str.strip, cells)), "") for _, *cells in columns]
     return replace(found, names=names, header=header, examples=examples)
@@ -148,7 +161,7 @@ def samples_from(columns: Sequence[Sequence[str]]) -> Samples:
     return dict(enumerate(samples_of([name for name, *_ in columns], cells)))
 
 
-def guess_by(columns: Samples) -> Guess:
+def guess_by(columns: Samples, budget: Budget) -> Guess:
     """Returns a guess without what belongs to the whole table, as the row of the names."""
     code = code_choice(columns)
     parts = name_parts(columns, code.taken)
@@ -156,7 +169,7 @@ def guess_by(columns: Samples) -> Guess:
     readings = readings_of(code, columns)
     is_single = bool(parts) or are_single_things(readings, columns)
     taken = {*code.taken, *title.taken, *parts}
-    price = Decision(is_none=True) if is_single else price_choice(columns, taken)
+    price = Decision(is_none=True) if is_single else price_choice(columns, taken, budget)
     choices = {"code": code, "title": title, "price": price}
     choices |= choices_beside(columns, taken, price)
     found = {kind: choice.surely for kind, choice in choices.items() if choice.surely is not None}

@@ -18,16 +18,16 @@ def guessed_header(rows: Sequence[Row]) -> Row:
     """
     cells = [[name for name in column_names(row) if name] for row in rows]
     most = max(map(len, cells))
-    wide = [both for both in zip(rows, cells) if 2 * len(both[1]) > most]
-    above = takewhile(lambda both: not any(map(ARTICLE.fullmatch, both[1])), wide)
-    names = [both for both in above if not any(map(FIGURES.fullmatch, both[1]))]
-    return max(names or wide[:1], key=lambda both: known_in(both[1]))[0]
+    wide = [place for place, texts in enumerate(cells) if 2 * len(texts) > most]
+    above = takewhile(lambda place: not any(map(ARTICLE.fullmatch, cells[place])), wide)
+    names = [place for place in above if not any(map(FIGURES.fullmatch, cells[place]))]
+    return rows[max(names or wide[:1], key=lambda place: known_in(cells[place]))]
 
 
 def known_in(texts: Iterable[str]) -> int:
     """Returns how many different texts are short, with a word that the names of columns have."""
-    words = ([*words_in(text)] for text in {*texts})
-    return sum(len(one) <= MOST_WORDS and any(map(is_known, one)) for one in words)
+    of_texts = ([*words_in(text)] for text in {*texts})
+    return sum(len(words) <= MOST_WORDS and any(map(is_known, words)) for words in of_texts)
 
 
 def is_known(word: str) -> bool:

@@ -6,6 +6,7 @@ language, `nan`, a lone sign, a date, a code and a size are none because no rule
 
 import re
 import unicodedata
+from collections.abc import Callable
 from dataclasses import dataclass, replace
 from decimal import Decimal
 from functools import lru_cache
@@ -109,7 +110,6 @@ BASIS = re.compile(
     r"(?P<basis>\(?(?:(?:Grundpreis|GP)\s*:?\s*)?(?:[0-9]{1,4}\s*[^\W\d_]{1,12}\.?\s*[=:]\s*)?)"
     r"(?P<price>.*?)(?P<end>\)?)"
 )
-NO_VALUES = WORDS["no-values"]  # what programs write where they have no value
 
 
 class NotMoney(RowError):
@@ -179,13 +179,13 @@ def currency_of(text: str, own: str = "") -> str | None:
     return FOLDED.get(text.casefold())
 
 
-def is_same(one: str, other: str) -> bool:
+def is_same(currency: str, other: str) -> bool:
     """Returns whether two currencies, each a sign or a code, may be one.
 
     >>> is_same("$", "CAD"), is_same("EUR", "CHF")
     (True, False)
     """
-    return one == other or (one, other) in PAIRS or (other, one) in PAIRS
+    return currency == other or (currency, other) in PAIRS or (other, currency) in PAIRS
 
 
 @lru_cache(maxsize=4096)
@@ -226,6 +226,18 @@ def parse(text: str, own: str = "", most_decimals: int = MOST_DECIMALS) -> Money
     if unit and not is_priced(price, bare, unit):
         raise NotMoney(OTHER_WORDS, OTHER_WORDS_HINT)  # 1.0/AV
     return replace(price, text=text.strip(), unit=unit)
+
+
+def price_of(text: str, read: Callable[[str], Money] = parse) -> Money | None:
+    """Returns the price of a text, None where it is none.
+
+    >>> price_of("nan"), price_of("0,80 €").value
+    (None, Decimal('0.80'))
+    """
+    try:
+        return read(text)
+    except NotMoney:
+        return None
 
 
 def parse_unit_price(text: str, own: str = "", most_decimals: int = MOST_DECIMALS) -> Money:
@@ -315,7 +327,9 @@ def number_in(bare: str, own: str, most_decimals: int) -> Money:
     is_below, before, behind = without_sign(before.strip(), behind, bool(found["none"]))
     currencies, words = around_of(before, behind, own)
     is_plain_number = amount.is_bare and not found["none"]
-    if words and not currencies and (is_plain_number or amount.group and not amount.point):
+    has_groups_alone = amount.group and not amount.point
+    has_words_alone = words and not currencies
+    if has_words_alone and (is_plain_number or has_groups_alone):
         raise NotMoney(OTHER_WORDS, hint_for(bare))  # ab 5
     check_amount(amount, bool(currencies), is_plain_number, most_decimals)
     if behind.startswith("+"):
@@ -359,7 +373,8 @@ def check_letters(before: str, amount: Amount, own: str) -> None:
     name = before.rpartition(" ")[2]
     if not re.search(r"[A-Za-z]\Z", before) or name == own:
         return
-    if amount.is_bare and name.isalpha() or currency_of(name) is None:
+    is_as_in_codes = amount.is_bare and name.isalpha()
+    if is_as_in_codes or currency_of(name) is None:
         hint = Text("if this is a currency, give {}", currency_remedy(name))
         raise NotMoney(Text("has letters before its digits, as a code has"), hint)
 
@@ -398,7 +413,7 @@ def around_of(before: str, behind: str, own: str) -> tuple[set[str], list[str]]:
                 raise NotMoney(OTHER_WORDS, hint_for(side))
             if code is None:
                 words += [word] if word else []
-            elif code == "cent" or all(is_same(code, one) for one in currencies):
+            elif code == "cent" or all(is_same(code, currency) for currency in currencies):
                 currencies.add(code)
             else:
                 raise NotMoney(Text("has two currencies"), Text("write only one of them"))

@@ -27,7 +27,7 @@ def folded(text: str) -> str:
     ('prix reduit', 'κωδικοσ', 'paaris')
     """
     letters = unicodedata.normalize("NFD", text.casefold().translate(FOLDED))
-    bare = "".join(one for one in letters if not unicodedata.category(one).startswith("M"))
+    bare = "".join(sign for sign in letters if not unicodedata.category(sign).startswith("M"))
     return unicodedata.normalize("NFC", bare)
 
 
@@ -68,7 +68,7 @@ def words_of_languages() -> Mapping[str, Words]:
     }
     common = parts.pop(FOREIGN)
     return {
-        part: Words([one for one in words.all if not common.has(one.strip("-"))])
+        part: Words([word for word in words.all if not common.has(word.strip("-"))])
         for part, words in parts.items()
     }
 

@@ -10,28 +10,31 @@ from functools import cached_property
 from pathlib import Path
 
 from labeltools.common.budget import Budget
-from labeltools.common.messages import quoted, Silence, ToolError
+from labeltools.common.messages import quoted, ToolError
 from labeltools.common.text import joined, Remedy, Text
 from labeltools.common.word_lists import lists_by_section
 from labeltools.sheets.encoding import (
     is_odd,
     is_old,
+    letters_by,
     LONGEST_WORD,
     OTHER_WORD,
     other_words,
     SIGNS,
     text_by,
 )
-from labeltools.tables.guess import guess_of
+from labeltools.tables.guess import names_of
 from labeltools.tables.name_words import words_in, words_of_languages
 from labeltools.tables.table_options import TableOptions
 
 SECTIONS = lists_by_section(Path(__file__).with_name("languages.list"))
-LANGUAGES = {name: one for name, one in SECTIONS.items() if "group" in one}
-OF_SEVERAL_BYTES = {name: one["several"] for name, one in SECTIONS.items() if "several" in one}
-GROUPS = {name: one["encodings"] for name, one in SECTIONS.items() if "encodings" in one}
+LANGUAGES = {name: lists for name, lists in SECTIONS.items() if "group" in lists}
+OF_SEVERAL_BYTES = {
+    name: lists["several"] for name, lists in SECTIONS.items() if "several" in lists
+}
+GROUPS = {name: lists["encodings"] for name, lists in SECTIONS.items() if "encodings" in lists}
 # whose old encodings are taken for those of others
-NEAR = [name for name, one in LANGUAGES.items() if {"western", "central"} & {*one["group"]}]
+NEAR = [name for name, lists in LANGUAGES.items() if {"western", "central"} & {*lists["group"]}]
 OF_WINDOWS = {encodings[0] for encodings in GROUPS.values()}
 MOST_ODD = 0.05  # the part of the words of a sensible reading that nobody writes
 MOST_TRIED = 2000  # words
@@ -67,7 +70,8 @@ class Reading:
     def letters(self) -> frozenset[str]:
         """The letters beside a to z."""
         found = set("".join(self.words))
-        return frozenset(one for one in found if one.isalpha() and not one.isascii()) - {*SIGNS}
+        letters = (sign for sign in found if sign.isalpha() and not sign.isascii())
+        return frozenset(letters) - {*SIGNS}
 
     @property
     def is_sensible(self) -> bool:
@@ -83,7 +87,7 @@ class Reading:
                 own = "".join(
                     LANGUAGES[language]["letters"] + SECTIONS[group]["letters"] * has_foreign
                 )
-                if all(one in own or one.lower() in own for one in self.letters):
+                if all(letter in own or letter.lower() in own for letter in self.letters):
                     for encoding in GROUPS[group]:
                         if encoding in self.encodings:
                             return encoding
@@ -96,8 +100,10 @@ class Reading:
 
     def is_better_than(self, other: "Reading") -> bool:
         """Returns whether nobody writes what another one reads otherwise."""
-        pairs = [both for both in zip(self.words, other.words) if both[0] != both[1]]
-        return bool(pairs) and not self.odd and all(their in other.odd for _, their in pairs)
+        if self.odd or not other.odd:
+            return False
+        words = zip(self.words[:MOST_TRIED], other.words)
+        return all(theirs in other.odd for own, theirs in words if own != theirs)
 
 
 @dataclass(frozen=True)
@@ -111,12 +117,16 @@ class OldEncoding:
     def text(self) -> Text:
         """What is said of it."""
         shown = joined(", ", map(quoted, self.words))
-        return Text("the table is read as {}, with words such as {}", self.name, shown)
+        text = Text("the table is read as {}, with words such as {}", self.name, shown)
+        letters = letters_by(self.name)
+        return text.in_window(
+            Text("the letters are read as {}, in words such as {}", letters, shown)
+        )
 
     @property
     def hint(self) -> Text:
         """What helps if it is the wrong one: without it, others are offered."""
-        others = Remedy("encoding", self.name, Text("Choose the encoding"), is_less=True)
+        others = Remedy("encoding", self.name, Text("The letters are wrong"), is_less=True)
         hint = Text("if letters are wrong, leave out {}", others)
         return hint.in_window(Text("check the letters"))
 
@@ -131,12 +141,11 @@ def old_encoding(
     several = in_several_bytes(data, options, budget)
     if several:
         return several
-    codecs = dict.fromkeys(one for encodings in GROUPS.values() for one in encodings)
-    tried = (Reading(own, words) for words, own in other_words(data, codecs).items())
-    every = [one for one in tried if one.is_sensible]
-    every = [one for one in every if not any(it.is_better_than(one) for it in every)]
-    every = [one for one in every if is_of_prices(one, data)] or every
-    found = the_one(every, languages_of(data, options, every, budget))
+    encodings = dict.fromkeys(name for names in GROUPS.values() for name in names)
+    tried = [Reading(alike, words) for words, alike in other_words(data, encodings).items()]
+    readings = best_of([reading for reading in tried if reading.is_sensible])
+    readings = [reading for reading in readings if is_of_prices(reading, data)] or readings
+    found = only_reading(readings, languages_of(data, options, readings, budget))
     if found is None:
         return None
     encoding, reading = found
@@ -144,6 +153,15 @@ def old_encoding(
     if text.count("«") != text.count("»") or text.count("„") > sum(map(text.count, "“”")):
         return None
     return OldEncoding(encoding, shown_words(reading)) if text else None
+
+
+def best_of(readings: Sequence[Reading]) -> Sequence[Reading]:
+    """Returns the readings to which no other one is to be preferred."""
+    return [
+        reading
+        for reading in readings
+        if not any(other.is_better_than(reading) for other in readings)
+    ]
 
 
 def in_several_bytes(data: bytes, options: TableOptions, budget: Budget) -> OldEncoding | None:
@@ -161,27 +179,31 @@ def in_several_bytes(data: bytes, options: TableOptions, budget: Budget) -> OldE
     return best
 
 
-def the_one(every: Sequence[Reading], languages: Collection[str]) -> tuple[str, Reading] | None:
-    """Returns the one sensible reading, with its encoding, of a table whose columns are named in
+def only_reading(
+    readings: Sequence[Reading], languages: Collection[str]
+) -> tuple[str, Reading] | None:
+    """Returns the only sensible reading, with its encoding, of a table whose columns are named in
     some languages, in none where that is not known. Of several the letters decide.
 
     Of DOS and of Macs it is only with several letters of such a language. One with letters from
     abroad is sensible where no language of Europe's west or middle has all letters of another one.
     """
     known = languages or LANGUAGES
-    if len(every) == 1:
-        one = every[0]
-        encoding = one.encoding_in(known, True) or one.encoding_in(LANGUAGES, True)
-        return (encoding, one) if encoding else None
-    own = [one for one in every if one.encoding_in(known)]
-    foreign = [one for one in every if one.encoding_in(known, has_foreign=True)]
-    if len(own) == 1:
-        one = own[0]
-        is_plain = languages and one.letters and one.is_of_windows
-        is_alone = len(foreign) == 1 and (one.is_of_windows or languages and len(one.letters) > 1)
-        return (one.encoding_in(known), one) if is_plain or is_alone else None
-    if languages and not own and len(foreign) == 1 and foreign[0].is_of_windows:
-        if not any(one.encoding_in(NEAR) for one in every if one not in foreign):
+    if len(readings) == 1:
+        [reading] = readings
+        encoding = reading.encoding_in(known, True) or reading.encoding_in(LANGUAGES, True)
+        return (encoding, reading) if encoding else None
+    native = [reading for reading in readings if reading.encoding_in(known)]
+    foreign = [reading for reading in readings if reading.encoding_in(known, has_foreign=True)]
+    if len(native) == 1:
+        [reading] = native
+        has_letters = languages and len(reading.letters) > 1
+        is_plain = languages and reading.letters and reading.is_of_windows
+        is_alone = len(foreign) == 1 and (reading.is_of_windows or has_letters)
+        return (reading.encoding_in(known), reading) if is_plain or is_alone else None
+    if languages and not native and len(foreign) == 1 and foreign[0].is_of_windows:
+        others = (reading for reading in readings if reading not in foreign)
+        if not any(reading.encoding_in(NEAR) for reading in others):
             return foreign[0].encoding_in(known, has_foreign=True), foreign[0]
     return None
 
@@ -207,8 +229,8 @@ def names_by(data: bytes, options: TableOptions, encoding: str, budget: Budget) 
     """Returns the words of the names of the columns, as an encoding reads them."""
     file = replace(options.file, encoding=encoding)
     with suppress(ToolError):
-        names = guess_of(data, budget.name, replace(options, file=file), Silence(), budget).names
-        return {word for one in names for word in words_in(one)}
+        names = names_of(data, replace(options, file=file), budget)
+        return {word for name in names for word in words_in(name)}
     return ()
 
 
@@ -224,7 +246,7 @@ def shown_words(reading: Reading) -> Sequence[str]:
     """Returns some words of a reading that show its letters, the first ones that do."""
     found: list[str] = []
     left = set(reading.letters)
-    for word in (one for one in reading.words if one not in reading.odd):
+    for word in (word for word in reading.words if word not in reading.odd):
         if left.intersection(word) and len(found) < MOST_SHOWN:
             found.append(word.strip(AROUND)[:LONGEST_WORD])
             left.difference_update(word)
@@ -235,9 +257,9 @@ def is_strange(word: str) -> bool:
     """Returns whether nobody writes a word, or only a bad reading has it: a Latin letter stands
     alone in it, or a sign stands at letters that is for numbers or between words.
 
-    >>> [is_strange(one) for one in ("Käse", "50€", "Ø20", "L’Oréal", "1º", "л")]
+    >>> [is_strange(word) for word in ("Käse", "50€", "Ø20", "L’Oréal", "1º", "л")]
     [False, False, False, False, False, False]
-    >>> [is_strange(one) for one in ("50Ä", "Espa–a", "œ", "´itný", "aº")]
+    >>> [is_strange(word) for word in ("50Ä", "Espa–a", "œ", "´itný", "aº")]
     [True, True, True, True, True]
     """
     letters = [sign for sign in word if sign.isalpha() and sign not in SIGNS]

@@ -154,13 +154,13 @@ def nearest(price: Money, number: Decimal) -> Money:
     """Returns an open price as it is read that is nearest to the number of its cell.
 
     >>> from labeltools.tables.money import parse
-    >>> [str(nearest(parse("1.234"), Decimal(one)).value) for one in ("1234", "1.2341")]
+    >>> [str(nearest(parse("1.234"), Decimal(cell)).value) for cell in ("1234", "1.2341")]
     ['1234', '1.234']
     """
     if not price.is_open:
         return price
     readings = replace(price, is_open=False), with_three_decimals(price)
-    return min(readings, key=lambda one: abs(one.value - number))
+    return min(readings, key=lambda reading: abs(reading.value - number))
 
 
 def with_three_decimals(price: Money) -> Money:
@@ -195,21 +195,25 @@ class PricePattern:
         (',', '–')
         """
         found = PATTERN.fullmatch(text.translate(dict.fromkeys(map(ord, SPACES[:-1]), " ")))
-        if not found or (found["group"] or found["hash"]) == found["point"] is not None:
-            raise ValueError(Text("{!r} is not a format such as '0,00 €'", text))
+        problem = Text("{!r} is not a format such as '0,00 €'", text)
+        if not found:
+            raise ValueError(problem)
+        group, point = found["group"] or found["hash"], found["point"]
+        is_one_sign_for_both = point is not None and group == point
+        if is_one_sign_for_both:
+            raise ValueError(problem)
         front = text[: len(found["front"])]
         end = text[len(text) - len(found["end"] or "") :]
         check_currencies(text, front, end)
         behind = found["decimals"] or ""
         dash = "" if "0" in behind else behind
-        group = found["group"] or found["hash"] or ""
         if group == " ":  # it may be a narrow one
             inside = text[len(front) : len(text) - len(end)]
             group = next(sign for sign in inside if LOOKS.get(sign, sign) == " ")
         named = currency_of(plain_signs(front.strip() or end.strip()))
-        if found["point"] is None and group and named in WITH_THREE_DECIMALS:
+        if point is None and group and named in WITH_THREE_DECIMALS:
             return cls(front, "", group, 3, "", end)
-        return cls(front, group, found["point"] or "", behind.count("0"), dash, end)
+        return cls(front, group or "", point or "", behind.count("0"), dash, end)
 
     @property
     def currency(self) -> str:
@@ -352,21 +356,23 @@ def pattern_for(texts: Sequence[str], name: str, has_codes: bool) -> str:
     for text in texts:
         with suppress(NotMoney):
             prices.append(parse(text, most_decimals=PROGRAM_DECIMALS))
-    odd = [one for one in prices if one.decimals not in USUAL_DECIMALS and not one.unit]
+    odd = [price for price in prices if price.decimals not in USUAL_DECIMALS and not price.unit]
     named = WORDS["codes"].intersection(re.findall("[A-Z]{3}", name))
-    if has_codes or prices and all(one.currency for one in prices):
+    have_currencies = bool(prices) and all(price.currency for price in prices)
+    if has_codes or have_currencies:
         named = frozenset("¤")
-    is_long = any(one.decimals > MOST_DECIMALS for one in odd)
-    are_short = all(one.decimals == 1 for one in odd)
-    if not odd or len(named) != 1 and not (is_long or are_short):
+    is_long = any(price.decimals > MOST_DECIMALS for price in odd)
+    are_short = all(price.decimals == 1 for price in odd)
+    is_sure = len(named) == 1 or is_long or are_short
+    if not odd or not is_sure:
         return ""
     return f"0{odd[0].point}00 {min(named) if len(named) == 1 else ''}".rstrip()
 
 
 def check_currencies(text: str, front: str, end: str) -> None:
     """Raises ValueError where a pattern has what is no currency, or two."""
-    for one in (front.strip(), end.strip()):
-        if one not in ("", "¤") and currency_of(plain_signs(one)) is None:
-            raise ValueError(Text("{!r} in {!r} is not a currency", one, text))
+    for sign in (front.strip(), end.strip()):
+        if sign not in ("", "¤") and currency_of(plain_signs(sign)) is None:
+            raise ValueError(Text("{!r} in {!r} is not a currency", sign, text))
     if front.strip() and end.strip():
         raise ValueError(Text("{!r} has two currencies", text))

@@ -80,7 +80,7 @@ def sentences(totals: Totals) -> Text:
     text = labels_from(totals.labels, totals.symbologies.total())
     if totals.lowest and totals.highest:
         ends = totals.lowest[1], totals.highest[1]
-        lowest, highest = (one.replace(" ", NO_BREAK) for one in ends)
+        lowest, highest = (price.replace(" ", NO_BREAK) for price in ends)
         is_one = lowest == highest
         prices = Text("{}, with prices from {} to {}", text, lowest, highest)
         text = Text("{}, with the price {}", text, lowest) if is_one else prices
@@ -95,8 +95,8 @@ def labels_from(labels: int, rows: int) -> Text:
 
 def said_of_prices(lowest: str, highest: str, count: int, rows: int) -> Text:
     """Returns the lowest and the highest price, and in how many rows there are prices."""
-    one = lowest == highest
-    text = Text("price {}", lowest) if one else Text("prices {} to {}", lowest, highest)
+    is_same = lowest == highest
+    text = Text("price {}", lowest) if is_same else Text("prices {} to {}", lowest, highest)
     return text if count == rows else Text("{} in {}", text, rows_text(count))
 
 

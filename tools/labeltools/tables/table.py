@@ -7,16 +7,13 @@ from itertools import chain
 from typing import Iterator, NamedTuple
 
 from labeltools.common.budget import Budget
-from labeltools.common.column_names import said_of_empty
 from labeltools.common.messages import BAD_ARGUMENTS, quoted, RowError, Talk, ToolError
-from labeltools.common.report import listed
-from labeltools.common.text import counted, give, NOTHING, Remedy, Text
-from labeltools.lines.accents import said_of_accents
+from labeltools.common.text import Remedy, Text
 from labeltools.lines.symbologies import CODE128
 from labeltools.sheets.cells import seen
 from labeltools.sheets.csv_table import csv_table
 from labeltools.sheets.file_options import CsvOptions
-from labeltools.sheets.number_format import DATE_HINT, Formatter, local_date, local_signs
+from labeltools.sheets.number_format import Formatter, local_date, local_signs
 from labeltools.sheets.ods import rows_of_ods
 from labeltools.sheets.rows import Row
 from labeltools.sheets.workbook import is_ods, named_errors, opened
@@ -30,10 +27,8 @@ from labeltools.tables.codes import (
 )
 from labeltools.tables.columns import Column, column_names, columns_of, Head
 from labeltools.tables.drafts import DraftReader
-from labeltools.tables.line_writer import LineWriter, shown_by
-from labeltools.tables.money import WORDS
-from labeltools.tables.once import Once
-from labeltools.tables.prices import CENTS, measure_of
+from labeltools.tables.findings import Findings
+from labeltools.tables.line_writer import LineWriter
 from labeltools.tables.summary import Totals
 from labeltools.tables.table_options import Columns, TableOptions
 
@@ -47,7 +42,6 @@ OF_CSV = ("delimiter", "encoding")
 OF_WORKBOOKS = ("sheet", "hidden", "date_as", "links")
 SO = Text("Read it all the same")
 MOST_HELD = 1000  # rows that are wrong, before the first one that is right
-SUMS = WORDS["sums"]  # what is in front of a sum below a table
 BETWEEN = 256  # rows between two calls of `go_on`
 
 
@@ -82,9 +76,10 @@ def lines_of_table(data: bytes, name: str, options: TableOptions, talk: Talk) ->
     columns = columns_of(start.head, start.rows, options)
     work = TableRun(options, columns, start, talk)
     work.take_all(start.rows)
-    writer = work.writer
+    writer, findings = work.writer, work.findings
     work.refuse_other_codes(name)
-    if not (writer.taken or writer.left_out or work.hidden or work.unmarked):
+    has_rows = writer.taken or writer.left_out or findings.hidden or work.unmarked
+    if not has_rows:
         row = start.head.row.number
         raise ToolError(
             Text("{} has no row below row {}, which has the names of the columns", name, row)
@@ -92,9 +87,9 @@ def lines_of_table(data: bytes, name: str, options: TableOptions, talk: Talk) ->
     if work.unmarked and not writer.taken:
         raise nothing_marked(columns, name)
     output = writer.finish()
-    work.say_all()
+    findings.say(talk, start.formatter)
     left_out = tuple(writer.left_out)
-    return Lines(output, writer.count, left_out, work.hidden, writer.totals)
+    return Lines(output, findings.count, left_out, findings.hidden, findings.totals)
 
 
 def head_of(
@@ -161,9 +156,9 @@ def rows_of_workbook(
 def nothing_marked(columns: Columns[Column], name: str) -> ToolError:
     """Returns the error of a table in which no row has the values that were asked for."""
     wanted = (Text("{} in {}", quoted(value), column.title) for column, value in columns.where)
-    both = reduce(lambda one, other: Text("{} and {}", one, other), wanted)
+    values = reduce(lambda before, value: Text("{} and {}", before, value), wanted)
     return ToolError(
-        Text("{} has no row with {}", name, both), Text("check how the cells are spelled")
+        Text("{} has no row with {}", name, values), Text("check how the cells are spelled")
     )
 
 
@@ -175,21 +170,18 @@ class TableRun:
     columns: Columns[Column]
     start: Start
     talk: Talk
-    once: Once = field(default_factory=Once)
+    findings: Findings = field(init=False)
     reader: DraftReader = field(init=False)
     writer: LineWriter = field(init=False)
-    hidden: int = 0
     unmarked: int = 0
     held: list[tuple[int, str, RowError]] = field(default_factory=list)  # while no row is right
     is_holding: bool = True
     wrong_digits: int = 0
 
     def __post_init__(self) -> None:
-        older = shown_by(self.options.new_since) if self.options.new_since else None
-        has_copies = self.columns.copies is not None
-        self.reader = DraftReader(self.options, self.columns, self.start.head.names, self.once)
-        texts = tuple(column.name for column in self.columns.text)
-        self.writer = LineWriter(self.options, self.talk, self.once, has_copies, older, texts)
+        self.findings = Findings(self.options, self.columns)
+        self.reader = DraftReader(self.options, self.columns, self.start.head.names, self.findings)
+        self.writer = LineWriter(self.options, self.columns, self.talk, self.findings)
 
     def take_all(self, rows: Iterator[Row]) -> None:
         """Takes the rows below the head, but none that is empty."""
@@ -199,7 +191,7 @@ class TableRun:
             if row.is_blank():
                 continue
             if row.is_hidden and not self.options.file.hidden:
-                self.hidden += 1
+                self.findings.hidden += 1
             else:
                 self.take(row)
 
@@ -224,8 +216,8 @@ class TableRun:
     def leave_out_held(self) -> None:
         """Leaves out the rows that are held, and holds no more: one message is not for all."""
         self.is_holding = False
-        for one in self.held:
-            self.writer.leave_out(*one)
+        for row, cell, problem in self.held:
+            self.writer.leave_out(row, cell, problem)
         self.held.clear()
 
     def refuse_other_codes(self, name: str) -> None:
@@ -246,81 +238,3 @@ class TableRun:
                 WITHOUT_DIGIT,
             ).in_window(Text("maybe they have none"))
             raise ToolError(what, hint)
-
-    def say_all(self) -> None:
-        """Says what there is to say about the whole table."""
-        self.say_of_empty()
-        self.say_of_prices()
-        self.say_of_words()
-        if accents := self.writer.accents:
-            self.talk.say(said_of_accents(listed(list(accents)), accents.values()))
-        self.once.say(self.talk)
-        self.reader.escaped.say(self.talk)
-        if self.hidden:
-            text = counted(
-                "{} hidden row is not printed", "{} hidden rows are not printed", self.hidden
-            )
-            remedy = Remedy("hidden", says=Text("Print hidden rows too"))
-            self.talk.say(text, Text("give {} to print them", remedy))
-        if self.writer.unchanged:
-            text = counted(
-                "{} row has not changed, and is not printed",
-                "{} rows have not changed, and are not printed",
-                self.writer.unchanged,
-            )
-            self.talk.say(text)
-        self.say_of_numbers()
-
-    def say_of_prices(self) -> None:
-        """Says which columns have several currencies, cents, or prices of many articles; the last
-        two are known by their names.
-        """
-        columns = (self.columns.price, self.columns.unit_price, self.columns.old_price)
-        for column, prices in zip(columns, self.writer.columns):
-            if len(prices.currencies) > 1:
-                listed = ", ".join(sorted(prices.currencies))
-                self.talk.say(Text("the prices have several currencies: {}", listed))
-            measure = measure_of(column.name) if column else NOTHING
-            is_meant = prices.are_bare if measure is CENTS else column is not columns[1]
-            if column and measure and is_meant:
-                text = Text(
-                    "the name of {} says {}, but its prices are printed as they are",
-                    column.title,
-                    measure,
-                )
-                self.talk.say(
-                    text, Text("make a column with the price of one article, such as 1.20")
-                )
-
-    def say_of_empty(self) -> None:
-        """Says which rows have no title or no price."""
-        asked = {"title": self.columns.title, "price": self.columns.price}
-        for kind, rows in self.writer.empty.items():
-            if asked[kind] and rows:
-                self.talk.say(said_of_empty(kind, rows, self.writer.count))
-
-    def say_of_words(self) -> None:
-        """Says which codes have no digit, if three of four others have one, or one is of a sum."""
-        words = self.writer.words
-        is_sum = any(one.strip(" :").casefold() in SUMS for one in words.values())
-        if words and (4 * len(words) <= self.writer.count or is_sum and len(words) == 1):
-            rows, first = listed(list(words)), quoted(next(iter(words.values())))
-            text = Text("the code of {}, {}, has no digit, and others have", rows, first)
-            self.talk.say(text, Text("if it is not a code, delete the row"))
-
-    def say_of_numbers(self) -> None:
-        """Shows how numbers and dates of .xlsx are printed, where the file does not say it."""
-        formatter = self.start.formatter
-        is_given = self.options.file.decimal is not None or self.options.prices.pattern
-        if formatter.first_number and not is_given:
-            text = Text("numbers are printed as {}: is that right?", quoted(formatter.first_number))
-            text = text.in_window(Text("How should numbers look?"))
-            looks = [formatter.first_number.replace(*signs) for signs in (".,", ",.")]
-            remedies = [
-                Remedy("decimal", sign, Text("{}", look))
-                for sign, look in zip(("comma", "point"), looks)
-            ]
-            self.talk.say(text, Text("else {}", give(*remedies)))
-        if formatter.first_date and not formatter.date_as:
-            text = Text("dates are printed as {}: is that right?", quoted(formatter.first_date))
-            self.talk.say(text, Text("else {}", DATE_HINT))

@@ -36,14 +36,14 @@ class Columns(Generic[C]):
     def map(self, to: Callable[[C], D]) -> "Columns[D]":
         """Returns what a function makes of each column."""
         found: dict[str, Any] = {}
-        for one in fields(self):
-            own = getattr(self, one.name)
-            if one.name == "where":
+        for kind in fields(self):
+            own = getattr(self, kind.name)
+            if kind.name == "where":
                 found["where"] = tuple((to(column), value) for column, value in own)
             elif isinstance(own, tuple):
-                found[one.name] = tuple(map(to, own))
+                found[kind.name] = tuple(map(to, own))
             else:
-                found[one.name] = None if own is None else to(own)
+                found[kind.name] = None if own is None else to(own)
         return Columns(**found)
 
     @property
@@ -51,7 +51,7 @@ class Columns(Generic[C]):
         """All of them."""
         prices = (self.price, self.unit_price, self.old_price)
         others = (*prices, self.currency, self.copies, self.symbology, self.variants_of)
-        given = (one for one in others if one is not None)
+        given = (column for column in others if column is not None)
         return (self.code, *self.title, *self.text, *given, *(column for column, _ in self.where))
 
 
@@ -89,6 +89,6 @@ class TableOptions:
 
     def wrong_setting(self, symbology: str) -> str:
         """Returns a key of the settings that a symbology does not have; empty if it has all."""
-        keys = (one.partition("=")[0] for one in self.settings.split(",") if one)
+        keys = (setting.partition("=")[0] for setting in self.settings.split(",") if setting)
         known = SYMBOLOGIES[symbology].settings
         return next((key for key in keys if key not in known), "")

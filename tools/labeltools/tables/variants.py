@@ -11,7 +11,7 @@ from labeltools.common.messages import quoted, RowError
 from labeltools.common.text import Text
 from labeltools.sheets.rows import Row
 from labeltools.tables.columns import Column
-from labeltools.tables.once import Once
+from labeltools.tables.findings import Findings
 from labeltools.tables.table_options import Columns
 
 # what programs call an article, as `a-1` or `10047`: no word or amount as people write it
@@ -45,7 +45,7 @@ class Variants:
     """The titles of articles, each with its row, by what their variants have in common."""
 
     columns: Columns[Column]
-    once: Once
+    findings: Findings
     titles: dict[str, tuple[int, str]] = field(default_factory=dict)
 
     def see(self, row: Row) -> None:
@@ -53,7 +53,7 @@ class Variants:
         if self.columns.variants_of:
             with suppress(RowError):  # which leaves out that row alone
                 key = self.columns.variants_of.mark(row)
-                texts = [one.text(row) for one in self.columns.title]
+                texts = [column.text(row) for column in self.columns.title]
                 if key and key not in self.titles and any(texts):
                     self.titles[key] = row.number, "\n".join(filter(None, texts))
 
@@ -67,5 +67,5 @@ class Variants:
         first, title = self.titles.get(key, (0, ""))
         if title:
             said = Text("row {} has the title of row {}, {}", row.number, first, quoted(title))
-            self.once.see("variant", said)
+            self.findings.see("variant", said)
         return title

@@ -40,7 +40,7 @@ class Application(Gtk.Application):
         for action, keys in KEYS.items():
             self.set_accels_for_action(action, [keys])
 
-    def do_activate(self) -> Any:
+    def do_activate(self) -> Window:
         """Returns a new window without a table, which is shown."""
         window = Window(application=self)
         window.present()

@@ -3,9 +3,13 @@
 import time
 from collections.abc import Callable
 from dataclasses import dataclass, replace
-from typing import Any
+from typing import TYPE_CHECKING
 
+from labeltools.window.designs import without_folder
 from labeltools.window.gtk import Gtk
+
+if TYPE_CHECKING:
+    from labeltools.window.window import Window
 
 MOST_EVENTS = 20  # in the list
 ERROR, WARNING, SUCCESS, INFO = "error", "warning", "success", "info"
@@ -35,50 +39,52 @@ class Event:
 class Bar:
     """The bar of a window, and the list of events."""
 
-    def __init__(self, window: Any) -> None:
+    def __init__(self, window: "Window") -> None:
         self.window = window
         self.event: Event | None = None  # the one that is shown
-        window.bar_act.connect("clicked", lambda _button: self.act())
+        window.widgets.bar_act.connect("clicked", lambda _button: self.act())
 
     def show(self, event: Event) -> None:
         """Shows an event. One that is bad stays until it is closed or work begins: what is good
         about something else is only listed.
         """
-        event = replace(event, sentence=self.window.of_printers.named(event.sentence))
+        named = self.window.of_printers.named(without_folder(event.sentence))
+        event = replace(event, sentence=named)
         self.list(event)
-        shown = self.event if self.window.bar.get_visible() else None
+        shown = self.event if self.window.widgets.bar.get_visible() else None
         is_other = shown is not None and shown.about not in (None, event.about)
         if is_other and shown is not None and shown.kind in BAD and event.kind not in BAD:
             return
         self.event = event
         kind, icon = KINDS[event.kind]
-        self.window.bar.set_message_type(kind)
-        style = self.window.bar.get_style_context()
+        self.window.widgets.bar.set_message_type(kind)
+        style = self.window.widgets.bar.get_style_context()
         for name in KINDS:
             (style.add_class if name == event.kind else style.remove_class)(f"is-{name}")
-        self.window.bar_icon.set_from_icon_name(icon, Gtk.IconSize.BUTTON)
-        self.window.bar_text.set_text(event.sentence)
-        self.window.bar_act.set_visible(event.answer)
+        self.window.widgets.bar_icon.set_from_icon_name(icon, Gtk.IconSize.BUTTON)
+        self.window.widgets.bar_text.set_text(event.sentence)
+        self.window.widgets.bar_act.set_visible(event.answer)
         if event.answer:
-            self.window.bar_act.set_label(event.answer[0])
-        self.window.bar.show()
+            self.window.widgets.bar_act.set_label(event.answer[0])
+        self.window.widgets.bar.show()
 
     def hide(self) -> bool:
         """Closes the bar; returns whether it was there."""
-        was_there = bool(self.window.bar.get_visible())
-        self.window.bar.hide()
+        was_there = bool(self.window.widgets.bar.get_visible())
+        self.window.widgets.bar.hide()
         return was_there
 
     def act(self) -> None:
         """Does what helps, and closes the bar."""
         answer = self.event.answer if self.event else None
+        self.window.widgets.panel.child_focus(Gtk.DirectionType.TAB_FORWARD)  # the button goes
         self.hide()
         if answer:
             answer[1]()
 
     def list(self, event: Event) -> None:
         """Adds an event to the list, in front of those before it."""
-        rows = self.window.history_list
+        rows = self.window.widgets.history_list
         line = Gtk.Box(spacing=8, margin=4)
         image = Gtk.Image(icon_name=KINDS[event.kind][1])
         image.get_style_context().add_class(f"is-{event.kind}")
@@ -90,4 +96,4 @@ class Bar:
         rows.insert(line, 0)
         for old in rows.get_children()[MOST_EVENTS:]:
             old.destroy()
-        self.window.history_button.set_sensitive(True)
+        self.window.widgets.history_button.set_sensitive(True)

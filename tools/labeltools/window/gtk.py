@@ -3,23 +3,49 @@ is not there.
 """
 
 from collections.abc import Callable, Iterator, Mapping, Sequence
-from typing import Any
+from functools import partial
+from typing import Any, TYPE_CHECKING
 
 import gi
 
 from labeltools.common.language import _
+from labeltools.common.text import Remedy, whole
+from labeltools.window.further import options_in, said_of, typed_without
 
 try:
     gi.require_version("Gdk", "3.0")
     gi.require_version("Gtk", "3.0")
-    from gi.repository import Gdk, Gio, GLib, Gtk, Pango
+    from gi.repository import Gdk, GdkPixbuf, Gio, GLib, GObject, Gtk, Pango
 except ValueError as error:  # there is no such version
     raise ImportError(str(error)) from error
 
+if TYPE_CHECKING:  # GTK has no types, so that whatever is asked of its windows would be right
+
+    class ApplicationWindow:
+        """What the tools use of a window of GTK."""
+
+        __gtype__: Any
+        add_action: Callable[[Any], None]
+        connect_after: Callable[[str, Callable[..., object]], int]
+        destroy: Callable[[], None]
+        drag_dest_add_uri_targets: Callable[[], None]
+        drag_dest_set: Callable[[Any, Sequence[Any], Any], None]
+        get_child: Callable[[], Any]
+        get_size: Callable[[], tuple[int, int]]
+        get_visible: Callable[[], bool]
+        lookup_action: Callable[[str], Any]
+        present: Callable[[], None]
+
+else:
+    ApplicationWindow = Gtk.ApplicationWindow
+
 __all__ = [
+    "ApplicationWindow",
     "Gdk",
+    "GdkPixbuf",
     "Gio",
     "GLib",
+    "GObject",
     "Gtk",
     "Pango",
     "add_actions",
@@ -29,6 +55,7 @@ __all__ = [
     "within",
 ]
 LETTERS = 14  # that a choice shows at least
+LINE = 30  # letters of a line of the panel, of words that are wrapped
 BESIDE = 60  # pixels of an icon beside the texts of a list, and of what is between them
 WIDEST = 600  # pixels of a list
 SIDE = 90  # pixels of an answer that is beside another one
@@ -47,6 +74,7 @@ infobar label, infobar image { color: @theme_fg_color; text-shadow: none; }
   background: mix(@theme_selected_bg_color, @theme_fg_color, .4); }
 .working { padding: 8px; background: mix(@theme_bg_color, @theme_selected_bg_color, .12); }
 button.fold:checked { background: none; border-color: transparent; box-shadow: none; }
+.given button { padding: 0; min-width: 22px; min-height: 22px; }
 combobox { -GtkComboBox-appears-as-list: 1; }
 image.is-success { color: @success_color; }
 image.is-warning { color: @warning_color; }
@@ -83,7 +111,7 @@ def leave_wheel(control: Any, _event: Any) -> None:
 
 def shorten(choice: Any) -> None:
     """Lets a long row of a choice end with an ellipsis."""
-    (letters,) = choice.get_cells()
+    letters = next(cell for cell in choice.get_cells() if isinstance(cell, Gtk.CellRendererText))
     longest = max((len(row[0]) for row in choice.get_model()), default=LETTERS)
     letters.set_properties(ellipsize=Pango.EllipsizeMode.END, width_chars=min(LETTERS, longest))
 
@@ -101,8 +129,9 @@ def widen(choice: Any, *columns: int) -> None:
     if isinstance(shown, Gtk.TreeView):  # and not yet a menu
         texts = ([row[column] for row in choice.get_model()] for column in columns)
         drawn = (map(shown.create_pango_layout, column) for column in texts)
-        widths = (max((one.get_pixel_size()[0] for one in part), default=0) for part in drawn)
-        shown.set_size_request(min(sum(widths) + BESIDE, WIDEST), -1)
+        widths = (max((layout.get_pixel_size()[0] for layout in part), default=0) for part in drawn)
+        beside = BESIDE + sum(max(0, cell.get_fixed_size()[0]) for cell in choice.get_cells())
+        shown.set_size_request(min(sum(widths) + beside, WIDEST), -1)
 
 
 def within(widget: Any) -> Iterator[Any]:
@@ -167,6 +196,65 @@ class Question(Gtk.Box):
         self.show()
 
 
+class Given(Gtk.Box):
+    """The options that a button chose or the window guessed, each in words, with a button that
+    takes it back; `words` are the options as they are typed.
+    """
+
+    __gtype_name__ = "LabelsGiven"
+    __gsignals__ = {"changed": (GObject.SignalFlags.RUN_FIRST, None, ())}
+    words = GObject.Property(type=str, default="")
+
+    def __init__(self, **properties: Any) -> None:
+        super().__init__(**properties)
+        self.set_properties(orientation=Gtk.Orientation.VERTICAL, spacing=4, no_show_all=True)
+        self.get_style_context().add_class("given")
+        self.word_by: Callable[[str], str] = lambda _codec: ""  # a word as an encoding reads it
+        self.told = ""  # the words that were there when a change was told
+        self.shown: list[str] = []  # what is said of each option
+        self.connect("notify::words", lambda given, _property: given.show_options())
+
+    def show_options(self) -> None:
+        """Shows each option in words, and tells that they are others than before."""
+        options = [*options_in(self.words)]
+        shown = [whole(said_of(option, self.word_of(option))) for option in options]
+        if shown != self.shown:  # else a button that has the focus would lose it
+            self.shown = shown
+            self.foreach(Gtk.Widget.destroy)
+            for place, (option, said) in enumerate(zip(options, shown)):
+                self.add(self.line_of(said, partial(self.take_back, place, option)))
+        self.set_visible(self.words)
+        if self.words != self.told:
+            self.told = self.words
+            self.emit("changed")
+
+    def word_of(self, option: Remedy) -> str:
+        """Returns the word by which an encoding is known; nothing for another option."""
+        return self.word_by(option.value) if option.option == "encoding" else ""
+
+    def line_of(self, said: str, take_back: Callable[[Any], None]) -> Any:
+        """Returns a line with what is said of an option, and a button that takes it back."""
+        text = Gtk.Label(label=said, xalign=0, wrap=True, max_width_chars=LINE, hexpand=True)
+        image = Gtk.Image(icon_name="window-close-symbolic")
+        button = Gtk.Button(child=image, relief=Gtk.ReliefStyle.NONE, valign=Gtk.Align.CENTER)
+        about = _("Take back: {what}").format(what=said)
+        button.set_tooltip_text(about)
+        button.get_accessible().set_name(about)
+        button.connect("clicked", take_back)
+        line = Gtk.Box(spacing=6)
+        for part in (text, button):
+            line.add(part)
+        line.show_all()
+        return line
+
+    def take_back(self, place: int, option: Remedy, _button: Any) -> None:
+        """Takes an option back; the focus goes to the next one, or else to what is below."""
+        self.get_toplevel().child_focus(Gtk.DirectionType.TAB_FORWARD)
+        self.words = typed_without(self.words, option)
+        if lines := self.get_children():
+            lines[min(place, len(lines) - 1)].get_children()[-1].grab_focus()
+
+
 class Fold(Gtk.Expander):
     """Controls behind a line that opens them. GTK leaves those of a closed one in the order of the
     Tab key, unless they are hidden.
@@ -206,6 +294,7 @@ class Choice(Gtk.ComboBoxText):
         self.connect("scroll-event", leave_wheel)
         self.set_hexpand(True)
         self.set_popup_fixed_width(False)
+        self.set_button_sensitivity(Gtk.SensitivityType.ON)  # else an empty list takes the focus
         self.connect("show", shorten)
         self.connect("map", widen, 0)
 

@@ -1,30 +1,34 @@
 """Presets: papers and printers by their names, which the menu of the window lists."""
 
 from collections.abc import Iterable
-from typing import Any
+from typing import Any, TYPE_CHECKING
 
 from labeltools.common.language import _
+from labeltools.window.choices import kept_of, values_kept, with_further
 from labeltools.window.gtk import add_actions, Gio, GLib
 from labeltools.window.memory import PRESETS
 from labeltools.window.shop import PAPER
 from labeltools.window.ways import confirmed
 
-KEPT = (*PAPER, "for-print")  # what a preset has
+if TYPE_CHECKING:
+    from labeltools.window.window import Window
+
+KEPT = (*PAPER, "for-print", "given-print")  # what a preset has
 
 
 class Presets:
     """The presets of a window."""
 
-    def __init__(self, window: Any) -> None:
+    def __init__(self, window: "Window") -> None:
         self.window = window
         add_actions(window, {"keep-preset": self.ask})
         add_actions(window, {"preset": self.use, "forget-preset": self.forget}, "s")
-        window.menu_button.connect("toggled", lambda _button: self.fill())
+        window.widgets.menu_button.connect("toggled", lambda _button: self.fill())
         self.fill()
 
     def fill(self) -> None:
         """Fills the menu with what there is now."""
-        menu = self.window.presets_menu
+        menu = self.window.widgets.presets_menu
         menu.remove_all()
         names = PRESETS.all()
         add_items(menu, "win.preset", names)
@@ -36,11 +40,11 @@ class Presets:
 
     def ask(self) -> None:
         """Asks for a name for the paper and the printer, and keeps them by it."""
-        if confirmed(self.window.naming):
-            name = self.window.preset_name.get_text().strip()
-            choices = self.window.choices()
+        if confirmed(self.window.widgets.naming):
+            name = self.window.widgets.preset_name.get_text().strip()
+            kept = kept_of(self.window.choices())
             if name:
-                PRESETS.keep(name, {option: choices[option] for option in KEPT})
+                PRESETS.keep(name, {option: kept[option] for option in KEPT})
 
     def forget(self, name: str) -> None:
         """Forgets a preset."""
@@ -49,9 +53,9 @@ class Presets:
     def use(self, name: str) -> None:
         """Takes the paper and the printer of a preset."""
         with self.window.filling():
-            choices = PRESETS.all().get(name, {})
-            self.window.take(choices)
-            self.window.of_printers.recall(choices)
+            kept = with_further(PRESETS.all().get(name, {}))
+            self.window.take(**values_kept(kept))
+            self.window.of_printers.recall(kept)
         self.window.make()
 
 

@@ -5,13 +5,12 @@ inch. A printer in the network is added once.
 from collections.abc import Mapping, Sequence
 from concurrent.futures import Future, ThreadPoolExecutor
 from functools import partial
-from typing import Any
+from typing import Any, TYPE_CHECKING
 
-from labeltools.commands.label_print import print_options
 from labeltools.common.language import _
 from labeltools.common.messages import ToolError
 from labeltools.common.text import translated
-from labeltools.printing.job import is_direct, planned
+from labeltools.printing.job import is_direct, planned, PrintOptions
 from labeltools.printing.press import labels_of
 from labeltools.sending.network import address_of, SCHEME
 from labeltools.sending.printers import (
@@ -24,10 +23,14 @@ from labeltools.sending.printers import (
 )
 from labeltools.sending.queue import Queue, queue_of
 from labeltools.sending.sender import send_to
+from labeltools.window.choices import Kept
 from labeltools.window.gtk import GLib, Gtk, widen
 from labeltools.window.memory import PRINTERS
 from labeltools.window.questions import said
-from labeltools.window.shop import Choices, WindowTalk
+from labeltools.window.shop import WindowTalk
+
+if TYPE_CHECKING:
+    from labeltools.window.window import Window
 
 ADD, FILE, NONE = "add", "file", "-"  # rows of the list that are no printers
 ICONS = {QUEUE: "printer-symbolic", USB: "printer-symbolic"}
@@ -38,21 +41,22 @@ PDF = ("pdf", DRAWING_DPI)  # a form, and its dots an inch
 NAMES = {"pdf": "PDF", "zpl": "ZPL", "escpos": "ESC/POS"}
 TEST = b'#{"title":"Test","price":"1,00"}\ncode128 TEST-123\n'
 Shown = tuple[str, str, str, str]  # of the list: a name, an icon, a state, a key
-TEST_SIZE = "50x25"  # millimetres of a test label
+TEST_SIZE = (50.0, 25.0)  # millimetres of a test label
 
 
 class Printers:
     """The list of a window."""
 
-    def __init__(self, window: Any) -> None:
+    def __init__(self, window: "Window") -> None:
         self.window = window
         self.all: dict[str, Printer] = {}
         self.wanted = ""  # the key of the one that is chosen, or was when labels went out
         self.is_decided = False  # what it is sent, by choices of older versions
         self.of_files = {False: PDF, True: PDF}  # the form of a file of sheets, and of a roll
+        self.of_rolls: set[str] = set()  # the queues whose drivers have paper for labels alone
         self.thread = ThreadPoolExecutor(1)
-        window.printer.set_row_separator_func(lambda model, row: model[row][3] == NONE)
-        window.printer.connect("notify::popup-shown", lambda *_: self.refresh())
+        window.widgets.printer.set_row_separator_func(lambda model, row: model[row][3] == NONE)
+        window.widgets.printer.connect("notify::popup-shown", lambda *_: self.refresh())
         self.fill([])
         self.refresh()
 
@@ -68,25 +72,26 @@ class Printers:
         found, default = future.result()
         self.fill(found)
         if not self.wanted:
-            first = default or next((one.key for one in found), FILE)
+            first = default or next((printer.key for printer in found), FILE)
             first = first if first in self.all else FILE
             (self.settle if self.is_decided else self.choose)(first)
 
     def fill(self, found: Sequence[Printer]) -> None:
         """Fills the list; a printer that is wanted and not there is in it, too."""
-        self.all = {one.key: one for one in found}
+        self.all = {printer.key: printer for printer in found}
         if self.wanted and self.wanted not in (*self.all, FILE):
             self.all[self.wanted] = lost_printer(self.wanted)
         rows = [
-            (one.name, icon_of(one), translated(one.state), key) for key, one in self.all.items()
+            (printer.name, icon_of(printer), translated(printer.state), key)
+            for key, printer in self.all.items()
         ]
         rows += [(NONE, "", "", NONE)] if rows else []
         rows.append((_("Network printer…"), "list-add-symbolic", "", ADD))
         rows.append((_("Save a file…"), "document-save-symbolic", "", FILE))
         with self.window.filling():
-            show_rows(self.window.printers, rows)
-            widen(self.window.printer, 0, 2)
-            self.window.printer.set_active_id(self.wanted or None)
+            show_rows(self.window.widgets.printers, rows)
+            widen(self.window.widgets.printer, 0, 2)
+            self.window.widgets.printer.set_active_id(self.wanted or None)
 
     @property
     def chosen(self) -> Printer | None:
@@ -95,9 +100,9 @@ class Printers:
 
     @property
     def is_of_labels(self) -> bool:
-        """Whether the printer that is chosen takes labels one by one, and has no sheets."""
+        """Whether the printer that is chosen prints on a roll, and has no sheets."""
         printer = self.chosen
-        return printer is not None and printer.form in LANGUAGES
+        return printer is not None and (printer.form in LANGUAGES or printer.key in self.of_rolls)
 
     def name_of(self, key: str) -> str:
         """Returns the name of a printer, as the list shows it."""
@@ -109,21 +114,23 @@ class Printers:
             text = text.replace(key, self.all[key].name)
         return text
 
-    def recall(self, choices: Choices) -> None:
+    def recall(self, kept: Kept) -> None:
         """Takes the printer of choices by which labels went out before. Older ones have no more
         than the address of one in the network, if they have that.
         """
-        key = choices.get("printer", "")
-        if not key and choices.get("to") in LANGUAGES and choices.get("address"):
-            key = SCHEME + choices["address"].removeprefix(SCHEME)
+        key = kept.get("printer", "")
+        if not key and kept.get("to") in LANGUAGES and kept.get("address"):
+            key = SCHEME + kept["address"].removeprefix(SCHEME)
             name = key.removeprefix(SCHEME)
-            kept = {"name": name, "to": choices["to"], "dpi": str(choices.get("dpi", USUAL_DPI))}
-            PRINTERS.keep(key, kept)
-            self.all |= {one.key: one for one in printers({key: kept}) if one.key == key}
-        self.is_decided = bool(choices.get("to"))
-        form, is_roll = choices.get("to"), choices.get("roll")
+            known = {"name": name, "to": kept["to"], "dpi": str(kept.get("dpi", USUAL_DPI))}
+            PRINTERS.keep(key, known)
+            self.all |= {
+                printer.key: printer for printer in printers({key: known}) if printer.key == key
+            }
+        self.is_decided = bool(kept.get("to"))
+        form, is_roll = kept.get("to"), kept.get("roll")
         if is_roll and form in LANGUAGES:
-            self.of_files[True] = form, int(choices.get("dpi") or USUAL_DPI)
+            self.of_files[True] = form, int(kept.get("dpi") or USUAL_DPI)
         if key:
             self.settle(key)
         if key == FILE:
@@ -132,23 +139,39 @@ class Printers:
     def settle(self, key: str) -> None:
         """Shows a printer as chosen; it decides nothing."""
         self.wanted = key
-        self.fill([one for one in self.all.values() if not one.is_lost])
+        self.fill([printer for printer in self.all.values() if not printer.is_lost])
         self.window.fit_paper()
         self.show_button()
+        printer = self.chosen
+        if printer and printer.way == QUEUE and printer.form not in LANGUAGES:
+            future = self.thread.submit(queue_of, key)
+            future.add_done_callback(partial(GLib.idle_add, self.learn, key))
+
+    def learn(self, key: str, future: "Future[Queue]") -> None:
+        """Learns whether a queue has sheets; one that does not answer may have some."""
+        if future.exception() is None and self.window.get_visible():
+            self.see_paper(key, future.result())
+
+    def see_paper(self, key: str, queue: Queue) -> bool:
+        """Returns whether a queue has paper for labels alone, and shows no sheets for it."""
+        is_roll = bool(queue.papers.known) and not queue.papers.is_office
+        (self.of_rolls.add if is_roll else self.of_rolls.discard)(key)
+        self.window.fit_paper()
+        return is_roll
 
     def show_button(self) -> None:
         """Names the button after what it does, and a file after its form."""
         text = _("_Print…")
         if self.wanted == FILE:
-            form = self.window.choices()["to"]
+            form = self.window.choices().to or ""
             text = _("Sa_ve {form}…").format(form=NAMES.get(form, form))
-        self.window.print_button.set_label(text)
+        self.window.widgets.print_button.set_label(text)
 
     def choose(self, key: str) -> None:
         """Chooses a printer: it decides the language, the dots, and sheets or a roll."""
         self.wanted = key
         with self.window.filling():
-            self.window.printer.set_active_id(key)
+            self.window.widgets.printer.set_active_id(key)
         self.show_button()
         self.window.questions.clear()
         printer = self.chosen
@@ -177,7 +200,7 @@ class Printers:
         """Does what is chosen in the list by the keeper."""
         if key == ADD:
             with self.window.filling():
-                self.window.printer.set_active_id(self.wanted or None)
+                self.window.widgets.printer.set_active_id(self.wanted or None)
             self.add()
         elif key:
             self.choose(key)
@@ -187,10 +210,10 @@ class Printers:
         a roll the language of the last label printer.
         """
         chosen = self.window.choices()
-        form, dpi = self.of_files[chosen["roll"]]
-        if self.wanted in (FILE, "") and chosen["to"] != form:
+        form, dpi = self.of_files[chosen.roll]
+        if self.wanted in (FILE, "") and chosen.to != form:
             with self.window.filling():
-                self.window.take({"to": form, "dpi": str(dpi)})
+                self.window.take(to=form, dpi=str(dpi))
         self.show_button()
 
     def decide_by_queue(self, key: str, future: "Future[Queue]") -> None:
@@ -202,14 +225,14 @@ class Printers:
             self.window.show_problem(error)
             return
         queue = future.result()
-        is_roll = bool(queue.papers.known) and not queue.papers.is_office
+        is_roll = self.see_paper(key, queue)
         self.decide("pdf", queue.dpi_for(not is_roll) or DRAWING_DPI, is_roll)
 
     def decide(self, form: str, dpi: int, is_roll: bool) -> None:
         """Makes the labels for a printer."""
         with self.window.filling():
-            self.window.take({"to": form, "dpi": str(dpi)})
-            self.window.take({"roll" if is_roll else "sheet": True})
+            self.window.take(to=form, dpi=str(dpi))
+            self.window.take(**{"roll" if is_roll else "sheet": True})
         self.window.make()
 
     def ask(self) -> None:
@@ -225,7 +248,7 @@ class Printers:
         printer = self.chosen
         if printer is None:
             usual = USUAL_DPI if form in LANGUAGES else DRAWING_DPI
-            self.of_files[self.window.choices()["roll"]] = form, usual
+            self.of_files[self.window.choices().roll] = form, usual
             self.show_button()
         if printer is None or printer.way == QUEUE:
             return False
@@ -233,7 +256,7 @@ class Printers:
             self.know(printer.key, {"to": form})
         else:
             with self.window.filling():
-                self.window.take({"to": printer.form or LANGUAGES[0]})
+                self.window.take(to=printer.form or LANGUAGES[0])
         return True
 
     def ask_language(self, printer: Printer) -> None:
@@ -250,8 +273,8 @@ class Printers:
         """Keeps what is known of a printer from now on, and chooses it."""
         PRINTERS.keep(key, {**PRINTERS.all().get(key, {}), **more})
         known = PRINTERS.all()
-        self.all = {one.key: one for one in self.all.values()} | {
-            one.key: one for one in printers({key: known[key]}) if one.key == key
+        self.all = {printer.key: printer for printer in self.all.values()} | {
+            printer.key: printer for printer in printers({key: known[key]}) if printer.key == key
         }
         self.wanted = key
         self.fill([*self.all.values()])
@@ -260,37 +283,37 @@ class Printers:
     def add(self) -> None:
         """Asks for a printer in the network, and chooses it."""
         window = self.window
-        window.new_said.set_text("")
-        window.new_address.grab_focus()
-        tests = window.new_test.connect("clicked", lambda _button: self.test())
-        window.adding.set_default_response(Gtk.ResponseType.OK)
-        while window.adding.run() == Gtk.ResponseType.OK:
+        window.widgets.new_said.set_text("")
+        window.widgets.new_address.grab_focus()
+        tests = window.widgets.new_test.connect("clicked", lambda _button: self.test())
+        window.widgets.adding.set_default_response(Gtk.ResponseType.OK)
+        while window.widgets.adding.run() == Gtk.ResponseType.OK:
             key, kept = self.new()
             try:
                 address_of(key)
             except ToolError as error:
-                window.new_said.set_text(said(error.what, error.hint))
+                window.widgets.new_said.set_text(said(error.what, error.hint))
                 continue
             self.know(key, kept)
             break
-        window.new_test.disconnect(tests)
-        window.adding.hide()
+        window.widgets.new_test.disconnect(tests)
+        window.widgets.adding.hide()
 
     def new(self) -> tuple[str, Mapping[str, str]]:
         """Returns the printer that is typed: its address, and what is kept of it."""
-        address = self.window.new_address.get_text().strip().removeprefix(SCHEME)
-        name = self.window.new_name.get_text().strip() or address
-        form = LANGUAGES[0] if self.window.new_zpl.get_active() else LANGUAGES[1]
+        address = self.window.widgets.new_address.get_text().strip().removeprefix(SCHEME)
+        name = self.window.widgets.new_name.get_text().strip() or address
+        form = LANGUAGES[0] if self.window.widgets.new_zpl.get_active() else LANGUAGES[1]
         return SCHEME + address, {
             "name": name,
             "to": form,
-            "dpi": self.window.new_dpi.get_active_id(),
+            "dpi": self.window.widgets.new_dpi.get_active_id(),
         }
 
     def test(self) -> None:
         """Prints a test label, and says what came of it."""
         key, kept = self.new()
-        self.window.new_said.set_text("…")
+        self.window.widgets.new_said.set_text("…")
         future = self.thread.submit(print_test, key, kept)
         future.add_done_callback(partial(GLib.idle_add, self.tested))
 
@@ -302,7 +325,7 @@ class Printers:
             text = said(error.what, error.hint)
         elif error is not None:
             text = str(error)
-        self.window.new_said.set_text(text)
+        self.window.widgets.new_said.set_text(text)
 
 
 def show_rows(model: Any, rows: Sequence[Shown]) -> None:
@@ -331,6 +354,6 @@ def found_printers() -> tuple[Sequence[Printer], str]:
 def print_test(key: str, kept: Mapping[str, str]) -> None:
     """Prints a test label on a printer in the network; raises `ToolError`."""
     address_of(key)
-    words = ["--paper", TEST_SIZE, "--to", kept["to"], "--dpi", kept["dpi"]]
+    options = PrintOptions(paper=TEST_SIZE, to=kept["to"], dpi=int(kept["dpi"]))
     talk = WindowTalk()
-    send_to(labels_of(planned(print_options(words)), "test", TEST, talk), key, talk)
+    send_to(labels_of(planned(options), "test", TEST, talk), key, talk)

@@ -5,7 +5,7 @@ would change labels, such as a scale.
 import webbrowser
 from collections.abc import Mapping
 from dataclasses import dataclass, replace
-from typing import Any
+from typing import Any, TYPE_CHECKING
 from urllib.parse import quote
 
 from labeltools.common.language import _, ngettext
@@ -19,6 +19,9 @@ from labeltools.window.gtk import Gio, GLib, Gtk
 from labeltools.window.memory import PRINTERS
 from labeltools.window.rows import Rows
 from labeltools.window.shop import skipped
+
+if TYPE_CHECKING:
+    from labeltools.window.window import Window
 
 PAGE = "http://localhost:631/printers/"  # of a queue, in the pages of CUPS
 # the programs of desktops that have the settings of printers, with their words
@@ -42,14 +45,18 @@ class Printout:
 class Printing:
     """The dialog of a window."""
 
-    def __init__(self, window: Any) -> None:
+    def __init__(self, window: "Window") -> None:
         self.window = window
-        window.print_rows.connect("changed", self.on_typed)
-        for one in (window.print_all, window.print_some, window.print_trial):
-            one.connect("toggled", self.show_what)
-        window.print_what.connect("changed", self.show_what)
-        window.print_settings.connect("activate-link", self.on_settings)
-        window.print_choose.connect("clicked", self.on_choose)
+        window.widgets.print_rows.connect("changed", self.on_typed)
+        for button in (
+            window.widgets.print_all,
+            window.widgets.print_some,
+            window.widgets.print_trial,
+        ):
+            button.connect("toggled", self.show_what)
+        window.widgets.print_what.connect("changed", self.show_what)
+        window.widgets.print_settings.connect("activate-link", self.on_settings)
+        window.widgets.print_choose.connect("clicked", self.on_choose)
         self.rows = Rows(window)
         self.printer = ""
 
@@ -57,27 +64,27 @@ class Printing:
         """Asks what is to be printed; returns nothing if that is cancelled."""
         window = self.window
         self.labels, self.printer = labels, printer.key
-        window.printing.set_title(_("Print on {printer}").format(printer=printer.name))
+        window.widgets.printing.set_title(_("Print on {printer}").format(printer=printer.name))
         is_roll = labels.job.form.is_roll or labels.job.plan.sheet.is_single
         trial = _("_Trial: one label") if is_roll else _("_Trial: the first sheet, on plain paper")
-        window.print_trial.set_label(trial)
-        window.print_all.set_label(all_text(labels, is_roll))
-        window.print_all.set_active(True)
-        window.print_rows.set_text("")
-        window.print_what.set_active_id("rows")
-        window.print_what.set_visible(not is_roll)
-        window.print_some.set_label(_("_Only rows") if is_roll else _("_Only"))
+        window.widgets.print_trial.set_label(trial)
+        window.widgets.print_all.set_label(all_text(labels, is_roll))
+        window.widgets.print_all.set_active(True)
+        window.widgets.print_rows.set_text("")
+        window.widgets.print_what.set_active_id("rows")
+        window.widgets.print_what.set_visible(not is_roll)
+        window.widgets.print_some.set_label(_("_Only rows") if is_roll else _("_Only"))
         self.fill(options)
         self.show_what()
-        window.print_yes.grab_focus()  # Enter prints
-        answer = window.printing.run()
-        window.printing.hide()
+        window.widgets.print_yes.grab_focus()  # Enter prints
+        answer = window.widgets.printing.run()
+        window.widgets.printing.hide()
         return self.wanted() if answer == Gtk.ResponseType.OK else None
 
     def fill(self, options: Options) -> None:
         """Fills the choices of a driver, with those of the last time."""
         kept = PRINTERS.all().get(self.printer, {})
-        for name, choice in ((TRAY, self.window.tray), (MEDIA, self.window.media)):
+        for name, choice in ((TRAY, self.window.widgets.tray), (MEDIA, self.window.widgets.media)):
             choice.remove_all()
             choice.append("", _("as the printer is set"))
             for word, shown in options.get(name, {}).items():
@@ -86,26 +93,26 @@ class Printing:
             choice.set_active_id(kept[name] if is_known else "")
             for part in (choice, *choice.list_mnemonic_labels()):
                 part.set_visible(name in options)
-        self.window.print_queue.set_visible("/" not in self.printer)
+        self.window.widgets.print_queue.set_visible("/" not in self.printer)
 
     def on_choose(self, _button: Any) -> None:
         """Asks for the rows in a list."""
-        chosen = self.rows.choose(self.labels, self.window.print_rows.get_text())
+        chosen = self.rows.choose(self.labels, self.window.widgets.print_rows.get_text())
         if chosen is not None:
-            self.window.print_what.set_active_id("rows")
-            self.window.print_rows.set_text(chosen)
+            self.window.widgets.print_what.set_active_id("rows")
+            self.window.widgets.print_rows.set_text(chosen)
 
     def on_typed(self, entry: Any) -> None:
         """Prints only some, once they are typed."""
         if entry.get_text():
-            self.window.print_some.set_active(True)
+            self.window.widgets.print_some.set_active(True)
         self.show_what()
 
     def show_what(self, _control: Any = None) -> None:
         """Shows how many sheets are needed, and whether there is something to print."""
         wanted = self.wanted()
         prints, job = wanted.labels.prints, wanted.labels.job
-        self.window.printing.set_response_sensitive(Gtk.ResponseType.OK, bool(prints))
+        self.window.widgets.printing.set_response_sensitive(Gtk.ResponseType.OK, bool(prints))
         count = job.pages_of(len(prints))
         stock = job.options.stock or _("labels")
         text = ngettext(
@@ -119,22 +126,22 @@ class Printing:
         put = text.format(count=count, stock=stock) if is_sheet else ""
         count = self.window.made.left_out
         left_out = whole(skipped(count)) if count else ""
-        self.window.print_put.set_text("\n".join(filter(None, (put, left_out))))
+        self.window.widgets.print_put.set_text("\n".join(filter(None, (put, left_out))))
 
     def wanted(self) -> Printout:
         """Returns what is chosen."""
-        chosen = {TRAY: self.window.tray, MEDIA: self.window.media}
-        options = {name: one.get_active_id() for name, one in chosen.items()}
+        chosen = {TRAY: self.window.widgets.tray, MEDIA: self.window.widgets.media}
+        options = {name: choice.get_active_id() for name, choice in chosen.items()}
         options = {name: word for name, word in options.items() if word}
-        if self.window.print_trial.get_active():
+        if self.window.widgets.print_trial.get_active():
             is_single = self.labels.job.plan.sheet.is_single or self.labels.job.form.is_roll
             first = replace(self.labels, prints=self.labels.prints[:1])
             trial = first if is_single else on_sheets(self.labels, ((1, 1),))
             return Printout(trial, {}, True)
-        if not self.window.print_some.get_active():
+        if not self.window.widgets.print_some.get_active():
             return Printout(self.labels, options)
-        ranges = ranges_in(self.window.print_rows.get_text().replace(" ", ""))
-        pick = on_sheets if self.window.print_what.get_active_id() == "sheets" else of_rows
+        ranges = ranges_in(self.window.widgets.print_rows.get_text().replace(" ", ""))
+        pick = on_sheets if self.window.widgets.print_what.get_active_id() == "sheets" else of_rows
         return Printout(pick(self.labels, ranges), options)
 
     def on_settings(self, _link: Any) -> bool:
@@ -170,19 +177,21 @@ def is_in(number: int, ranges: Ranges) -> bool:
 
 def of_rows(labels: Prepared, ranges: Ranges) -> Prepared:
     """Returns the labels of some rows of the table."""
-    return replace(labels, prints=[one for one in labels.prints if is_in(table_row(one), ranges)])
+    return replace(
+        labels, prints=[item for item in labels.prints if is_in(table_row(item), ranges)]
+    )
 
 
 def table_row(item: LaidOut) -> int:
     """Returns the row of a label in its table."""
-    return item.label.record.origin.number
+    return item.record.origin.number
 
 
 def on_sheets(labels: Prepared, ranges: Ranges) -> Prepared:
     """Returns the labels that are on some sheets; only the first one may begin at a later cell."""
     job = labels.job
     pages = enumerate(labels.prints, 1)
-    prints = [one for number, one in pages if is_in(job.pages_of(number), ranges)]
+    prints = [item for number, item in pages if is_in(job.pages_of(number), ranges)]
     first = job.options.first if is_in(1, ranges) else 1
     return replace(
         labels, prints=prints, job=replace(job, options=replace(job.options, first=first))

@@ -3,16 +3,20 @@ in place of the page where the file cannot be read without it. Nothing is printe
 """
 
 from collections.abc import Sequence
-from typing import Any
+from typing import Any, TYPE_CHECKING
 
 from labeltools.common.text import NOTHING, Text, translated, whole, windowed
 from labeltools.window.bar import Answer
 from labeltools.window.gtk import Gtk
 
+if TYPE_CHECKING:
+    from labeltools.window.window import Window
+
 Answers = Sequence[Answer]
 # the controls below which the remedies of a problem are asked for
 CONTROLS = {
     **dict.fromkeys(("symbology", "without-check-digit", "fill-zeros", "allow-zeros"), "code"),
+    "delimiter": "code",
     **dict.fromkeys(("decimal", "price-as", "price-text", "currency-name"), "price"),
     **dict.fromkeys(("dpi", "edge", "to", "first"), "printer"),
 }
@@ -29,7 +33,7 @@ BELOW = ("code", "title", "price", "copies", "printer")
 class Questions:
     """The questions of a window."""
 
-    def __init__(self, window: Any) -> None:
+    def __init__(self, window: "Window") -> None:
         self.window = window
 
     @property
@@ -39,16 +43,17 @@ class Questions:
 
     def box(self, name: str) -> Any:
         """Returns where it is asked about a control."""
-        return getattr(self.window, f"ask_{name}")
+        return getattr(self.window.widgets, f"ask_{name}")
 
     def ask(self, name: str, text: str, answers: Answers) -> None:
         """Asks below a control."""
         self.box(name).ask(
-            text, [(shown, lambda act=act: self.answer(act)) for shown, act in answers]
+            text, [(shown, lambda act=act: self.answer(name, act)) for shown, act in answers]
         )
 
-    def answer(self, act: Any) -> None:
-        """Does what was answered."""
+    def answer(self, name: str, act: Any) -> None:
+        """Does what was answered; the focus stays beside the answer, which goes."""
+        getattr(self.window.widgets, name).grab_focus()
         self.clear()
         act()
 
@@ -59,23 +64,23 @@ class Questions:
 
     def ask_of_file(self, text: str, more: str, answers: Answers) -> None:
         """Asks in place of the page."""
-        self.window.asked.set_text(text)
-        self.window.asked_more.set_text(more)
-        self.window.asked_more.set_visible(more)
-        box = self.window.answers
+        self.window.widgets.asked.set_text(text)
+        self.window.widgets.asked_more.set_text(more)
+        self.window.widgets.asked_more.set_visible(more)
+        box = self.window.widgets.answers
         box.foreach(Gtk.Widget.destroy)
         for shown, act in answers:
             button = Gtk.Button(label=shown, visible=True, width_request=260)
             button.connect("clicked", lambda _button, act=act: act())
             box.add(button)
-        self.window.stack.set_visible_child_name("asking")
+        self.window.widgets.stack.set_visible_child_name("asking")
         box.get_children()[0].grab_focus()
 
     def focus(self) -> None:
         """Puts the focus on the first answer, or on Print where nothing is asked."""
         first = next((self.box(name) for name in BELOW if self.box(name).get_visible()), None)
         answers = first.answers.get_children() if first else []
-        (answers[0] if answers else self.window.print_button).grab_focus()
+        (answers[0] if answers else self.window.widgets.print_button).grab_focus()
 
 
 def asked_at(option: str) -> str:

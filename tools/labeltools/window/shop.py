@@ -1,44 +1,60 @@
-"""What is behind the window of the shop: choices as the words of the commands, the labels that come
-of them, and what was chosen the last time.
+"""What is behind the window of the shop: a table, the labels that come of it by choices, and what
+was chosen the last time.
 """
 
 import hashlib
 import shlex
 import time
-from collections.abc import Iterable, Iterator, Mapping, Sequence
+from collections.abc import Iterable, Iterator, Sequence
 from contextlib import suppress
 from dataclasses import dataclass
 from functools import reduce
 from pathlib import Path
-from typing import Any
 
-from labeltools.commands import label_print as print_command, label_table as table_command
+from labeltools.commands import label_table as table_command
 from labeltools.common.arguments import words_of
-from labeltools.common.budget import TABLE
+from labeltools.common.budget import Budget, TABLE
 from labeltools.common.messages import Cancelled, Origin, Talk, ToolError
 from labeltools.common.process import read_input
 from labeltools.common.report import LeftOut
-from labeltools.common.text import counted, NOTHING, Remedy, shell_line, Text
-from labeltools.lines.file import first_remark, label_lines, last_remark, LineRecord, read_lines
+from labeltools.common.text import counted, NOTHING, remedies_of, Remedy, shell_line, Text
+from labeltools.lines.file import first_remark, last_remark, read_lines, Record, record_lines
 from labeltools.printing.job import planned
 from labeltools.printing.press import labels_of, Prepared
 from labeltools.sending.job import job_of, SentJob
+from labeltools.sheets.csv_table import csv_table
+from labeltools.sheets.file_options import CsvOptions
+from labeltools.tables.codes import AUTO
 from labeltools.tables.columns import column_word
 from labeltools.tables.guess import guess_of
 from labeltools.tables.money import NotMoney, parse
+from labeltools.tables.name_words import column_words, words_in
 from labeltools.tables.old_encoding import old_encoding
 from labeltools.tables.prices import PricePattern, PROGRAM_DECIMALS
 from labeltools.tables.summary import labels_from, sentences
-from labeltools.tables.table import Lines, lines_of_table
+from labeltools.tables.table import Lines, lines_of_table, ZIP
 from labeltools.tables.table_options import TableOptions
 from labeltools.window import memory
+from labeltools.window.choices import (
+    Choices,
+    chosen_with,
+    further_kept,
+    header_of,
+    is_of_table,
+    Kept,
+    kept_of,
+    print_options_of,
+    print_words,
+    table_options_of,
+    table_words,
+)
+from labeltools.window.further import Further, typed_with
+from labeltools.window.harmless import is_answer, keeps_good_rows
 from labeltools.window.memory import FILES, TABLES
 
-COLUMNS = ("code", "title", "text", "text-2", "price", "unit-price", "old-price", "copies")
 PAPER = ("sheet", "roll", "stock", "width", "height", "design", "to", "dpi", "printer")
 WAITING = ".waiting"  # what a file of lines ends with whose job is not over
 PATTERNS = ("0,00 €", "€0.00", "£0.00", "$0.00", "CHF 0.00", "0,00 kr", "0,00 zł")  # of prices
-Choices = Mapping[str, Any]  # by the names of the options
 
 
 class WindowTalk(Talk):
@@ -75,17 +91,31 @@ class WindowTalk(Talk):
         self.total = total
 
 
+class Unheard(Talk):
+    """A talk of which nothing is kept, of work within other work, with which it is stopped."""
+
+    def __init__(self, outer: Talk) -> None:
+        self.outer = outer
+
+    def go_on(self, done: int, total: int) -> None:
+        """Raises `Cancelled` where the work is stopped."""
+        self.outer.go_on(done, total)
+
+
 @dataclass(frozen=True)
 class MadeLabels:
     """What was made of a table: its lines, the labels that can be printed, what there is to say
-    about them, how many rows are left out, and the line that prints them in a shell.
+    about them, how many rows are left out, the line that prints them in a shell, and the remedies
+    in what is said that would do harm to rows that are right.
     """
 
+    table: "Table"
     lines: Lines
     labels: Prepared
     notes: Sequence[LeftOut]
     left_out: int
     command: str
+    harmful: frozenset[Remedy] = frozenset()
 
     @property
     def summary(self) -> Text:
@@ -101,52 +131,59 @@ class Table:
 
     lines: Lines  # those that were made last, by the words of label-table
     said: Sequence[LeftOut]  # about them
+    harmful: frozenset[Remedy]  # of the remedies that are said
     words: Sequence[str] = ()
-    text: str  # the words by which it is read
-    kept: Choices  # for tables with the same names
+    delimiter = ""  # between the cells of CSV, if the names of its columns show that it is right
+    further: Further  # options by which it is read
+    kept: Kept  # for tables with the same names
     of_file: Sequence[LeftOut] = ()  # what is said of how it is read
 
-    def __init__(self, path: Path, text: str | None, header: int | None, talk: WindowTalk) -> None:
-        """Reads a table by further words of label-table, None for those that are kept; its names
+    def __init__(
+        self, path: Path, further: Further | None, header: int | None, talk: WindowTalk
+    ) -> None:
+        """Reads a table by further options of label-table, None for those that are kept; its names
         are in the row `header` (0: in none) where that is known. Raises `ToolError` and `OSError`.
         """
         _, self.data = read_input(str(path), TABLE)
         self.path = path
-        before = FILES.all().get(path.name, "") if text is None else ""
+        is_first = further is None  # time that it is read
+        before = Further.of(FILES.all().get(path.name, "")) if is_first else Further()
         try:
-            self.read(before or text or "", header, talk)
+            self.read(further or before, header, talk)
         except ToolError:
-            old = old_encoding(self.data, path.name, TableOptions()) if text is None else None
-            if not before and old is None:
+            old = old_encoding(self.data, path.name, TableOptions()) if is_first else None
+            if not any(before) and old is None:
                 raise
             # it has another encoding now, or other sheets
-            self.read(shlex.join(words_of({"encoding": old and old.name})), header, talk)
+            encoding = Remedy("encoding", old.name) if old else Remedy("encoding", is_less=True)
+            self.read(Further(given=typed_with("", encoding)), header, talk)
             self.of_file = [LeftOut(None, "", old.text, old.hint)] if old else ()
-        kept = self.kept.get("for-table", "")
-        if text is None and kept and kept != self.text and isinstance(kept, str):
+        kept = further_kept(self.kept, "for_table")
+        if is_first and any(kept) and kept != self.further:
             with suppress(ToolError):
                 self.read(kept, header, talk)
                 self.of_file = ()
-        if (text is None or header is not None) and not self.kept:
-            self.text = self.with_guessed()
-        last: Choices = next(reversed(TABLES.all().values()), {})
+        if (is_first or header is not None) and not self.kept:
+            self.further = self.with_guessed()
+        last: Kept = next(reversed(TABLES.all().values()), {})
         self.paper = {name: value for name, value in last.items() if name in PAPER}
         self.settle()
 
-    def read(self, text: str, header: int | None, talk: WindowTalk) -> None:
-        """Guesses the columns of the table as words read it, and finds what is kept for these."""
-        head = words_of({"header-row": header, "no-header": header == 0})
-        arguments = table_command.understood(
-            ["--code", "1", "--title", "1", "--price", "1", *head, *option_words(text)]
-        )
+    def read(self, further: Further, header: int | None, talk: WindowTalk) -> None:
+        """Guesses the columns of the table as options read it, and finds what is kept for these."""
+        columns = {"code": "1", "title": ["1"], "price": "1"}
+        arguments = table_command.understood(further.words, {**columns, **header_of(header)})
         options = table_command.table_options(arguments)
         self.guess = guess_of(self.data, self.path.name, options, talk)
-        self.text = text
+        self.delimiter = self.delimiter_of_names(options)
+        self.further = further
         self.key = "\n".join(self.guess.names) if any(self.guess.names) else ""
         self.kept = TABLES.all().get(self.key, {}) if self.key else {}
 
-    def with_guessed(self) -> str:
-        """Returns the words by which the table is read, with what is guessed and has no control."""
+    def with_guessed(self) -> Further:
+        """Returns the options by which the table is read, with what is guessed and has no
+        control.
+        """
         nothing = table_command.table_parser().parse_args([])
         price = self.guess.columns.get("price")
         more = table_command.more_options(self.guess, nothing, price)
@@ -156,12 +193,11 @@ class Table:
         if "title" in self.guess.beside:
             second = column_word(self.guess.names, self.guess.beside["title"])
             found.append(Remedy("title", second))
-        return reduce(typed_with, found, self.text)
+        return self.further._replace(given=reduce(typed_with, found, self.further.given))
 
     def guessed_pattern(self, price: str) -> str:
         """Returns how the prices of a column are to be printed if that is guessed; else nothing."""
-        is_guessed = price == str(self.guess.columns.get("price", -1) + 1)
-        return self.guess.price_as if is_guessed else ""
+        return self.guess.formats.get(int(price or 0) - 1, "")
 
     def price_patterns(
         self, price: str, patterns: Iterable[str] = PATTERNS
@@ -170,8 +206,8 @@ class Table:
         pattern; the one that is guessed in front.
         """
         example = self.guess.examples[int(price) - 1]
-        at = self.guess.beside.get("currency")
-        currency = "" if at is None else self.guess.examples[at]
+        place = self.guess.beside.get("currency")
+        currency = "" if place is None else self.guess.examples[place]
         for pattern in filter(None, (self.guessed_pattern(price), *patterns)):
             with suppress(NotMoney):
                 money = parse(example, most_decimals=PROGRAM_DECIMALS)
@@ -179,24 +215,69 @@ class Table:
 
     def made(self, choices: Choices, talk: WindowTalk) -> MadeLabels:
         """Returns what is made by choices; raises `ToolError` and `OSError`."""
-        to_print = print_words(choices)
-        options = print_command.print_options(to_print)
+        options = print_options_of(choices)
         job = planned(options)
-        since = {"new-since": str(self.printed) if choices["new-only"] else ""}
-        words = [*words_of(since), *table_words(choices)]
-        to_read = [*words, "--", str(self.path)]
+        since = str(self.printed) if choices.new_only else None
+        delimiter = self.delimiter_for(choices)
+        own = words_of({"new-since": since, "delimiter": delimiter})
+        words = [*own, *table_words(choices), "--", str(self.path)]
         if words != self.words:  # other paper needs no other lines
-            rules = table_command.table_options(table_command.understood(to_read))
-            self.lines = lines_of_table(self.data, self.path.name, rules, talk)
+            to_read = table_options_of(choices, str(self.path), since, delimiter)
+            self.lines = lines_of_table(self.data, self.path.name, to_read, talk)
             self.said = tuple(talk.notes)
+            self.harmful = frozenset(self.harmful_remedies(choices, talk))
             self.words = words
         found = labels_of(job, self.path.name, self.lines.output, talk)
         rows = set(self.lines.left_out)
-        more = [one for one in found.left_out if one.origin and one.origin.number not in rows]
-        commands = ["label-table", *to_read], ["label-print", *to_print]
+        more = [note for note in found.left_out if note.origin and note.origin.number not in rows]
+        commands = ["label-table", *words], ["label-print", *print_words(choices)]
         command = " | ".join(map(shell_line, commands)) + f" > labels.{job.form.name}"
         notes = sorted((*self.of_file, *self.said, *more, *found.remarks), key=row_of_note)
-        return MadeLabels(self.lines, found, notes, len(rows) + len(more), command)
+        count = len(rows) + len(more)
+        return MadeLabels(self, self.lines, found, notes, count, command, self.harmful)
+
+    def delimiter_for(self, choices: Choices) -> str | None:
+        """Returns the character between cells if it is known and has to be given: label-table asks
+        for it where nothing is wanted but a code that may have any character. Raises `ToolError`.
+        """
+        options = table_options_of(choices)
+        is_asked = options.file.delimiter is None and csv_options(options).may_have_delimiter
+        return self.delimiter if self.delimiter and is_asked else None
+
+    def delimiter_of_names(self, options: TableOptions) -> str:
+        """Returns the character that divides the names of the columns, which are known as such;
+        empty if none does.
+        """
+        if self.data.startswith(ZIP) or not self.guess.header or not are_known(self.guess.names):
+            return ""
+        budget = Budget(self.path.name, len(self.data))
+        found = csv_table(self.data, csv_options(options), budget).delimiter
+        return "tab" if found == "\t" else found
+
+    def harmful_remedies(self, choices: Choices, talk: WindowTalk) -> Iterator[Remedy]:
+        """Yields the remedies in what is said that would leave rows worse that are right; raises
+        `Cancelled`.
+        """
+        found = (remedy for note in self.said for remedy in remedies_of(note.hint) if remedy.says)
+        for remedy in dict.fromkeys(found):
+            is_tried = is_of_table(remedy) and not is_answer(remedy)
+            if is_tried and self.lines.count and not self.is_harmless(remedy, choices, talk):
+                yield remedy
+
+    def is_harmless(self, remedy: Remedy, choices: Choices, talk: WindowTalk) -> bool:
+        """Returns whether the rows that are right stay so with a remedy; raises `Cancelled`."""
+        if remedy.option == "symbology" and remedy.value != AUTO and not remedy.is_less:
+            if {*self.lines.totals.symbologies} != {remedy.value}:
+                return False  # as it would be found below, but at once
+        try:
+            chosen = chosen_with(choices, remedy)
+            options = table_options_of(chosen, delimiter=self.delimiter_for(chosen))
+            lines = lines_of_table(self.data, self.path.name, options, Unheard(talk))
+        except Cancelled:
+            raise
+        except ToolError:
+            return False
+        return keeps_good_rows(self.lines.output, lines.output)
 
     @property
     def printed(self) -> Path:
@@ -214,13 +295,13 @@ class Table:
         """Keeps the lines of the labels that went out, for the next `--new-since`."""
         self.keep_records(self.records_of(made, sent))
 
-    def records_of(self, made: MadeLabels, sent: Prepared) -> tuple[LineRecord, ...]:
+    def records_of(self, made: MadeLabels, sent: Prepared) -> tuple[Record, ...]:
         """Returns the lines of the labels that were sent."""
-        rows = {item.label.record.label.row for item in sent.prints}
+        rows = {item.record.row for item in sent.prints}
         records = read_lines(made.lines.output, self.path.name).records
-        return tuple(record for record in records if record.label.row in rows)
+        return tuple(record for record in records if record.row in rows)
 
-    def keep_records(self, new: Sequence[LineRecord]) -> None:
+    def keep_records(self, new: Sequence[Record]) -> None:
         """Keeps lines of labels that went out, and those that went out before, but for the same
         codes.
         """
@@ -266,7 +347,7 @@ class Table:
                 if state.is_over:
                     self.end_waiting(path, state.is_printed)
 
-    def printed_records(self) -> tuple[LineRecord, ...]:
+    def printed_records(self) -> tuple[Record, ...]:
         """Returns the lines that went out before; none where they cannot be read."""
         with suppress(OSError, ToolError):
             return read_lines(self.printed.read_bytes(), self.printed.name).records
@@ -277,8 +358,8 @@ class Table:
         since two tables without names have nothing in common. The words by which the file was read
         are kept for its name, too: without its sheet or encoding it would not open.
         """
-        TABLES.keep(self.key, choices)
-        FILES.keep(self.path.name, choices["for-table"] or None)
+        TABLES.keep(self.key, kept_of(choices))
+        FILES.keep(self.path.name, shlex.join(choices.further_of_table.words) or None)
 
 
 def skipped(count: int) -> Text:
@@ -291,55 +372,24 @@ def row_of_note(note: LeftOut) -> int:
     return note.origin.number if note.origin else 0
 
 
-def file_of(records: Sequence[LineRecord]) -> bytes:
+def file_of(records: Sequence[Record]) -> bytes:
     """Returns a file of lines."""
-    lines = (label_lines(one.label, one.line.decode(), True) for one in records)
+    lines = (record_lines(record, record.line.decode(), True) for record in records)
     return "".join([first_remark(""), *lines, last_remark(len(records), ())]).encode()
 
 
-def table_words(choices: Choices) -> list[str]:
-    """Returns the words of label-table, but for the file; raises `ToolError`."""
-    options = {name: choices[name] for name in (*COLUMNS, "symbology", "price-as", "header-row")}
-    options["no-header"] = not choices["header-row"]
-    second = words_of({"text": options.pop("text-2")})
-    return [*words_of(options), *second, *option_words(choices["for-table"])]
+def are_known(names: Sequence[str]) -> bool:
+    """Returns whether several names of columns have words that such names have.
 
-
-def print_words(choices: Choices) -> list[str]:
-    """Returns the words of label-print; raises `ToolError`."""
-    options = {name: choices[name] for name in ("stock", "first", "design", "to", "dpi")}
-    if choices["roll"]:
-        options["paper"] = f"{choices['width']:g}x{choices['height']:g}"
-        del options["stock"], options["first"]
-    return [*words_of(options), *option_words(choices["for-print"])]
-
-
-def is_of_table(remedy: Remedy) -> bool:
-    """Returns whether a remedy is an option of label-table, not of label-print; it may have no
-    value here.
+    >>> are_known(["Code", "Name"]), are_known(["WIFI:S:shop", "T:WPA", "", ""])
+    (True, False)
     """
-    return f"--{remedy.option}" in table_command.table_parser().format_help().split()
+    kinds = column_words().values()
+    return (
+        sum(any(kind.has(word) for kind in kinds for word in words_in(name)) for name in names) > 1
+    )
 
 
-def typed_with(typed: str, remedy: Remedy) -> str:
-    """Returns options as they are typed, with a remedy, or without its option.
-
-    >>> typed_with("--hidden --decimal point", Remedy("decimal", "comma"))
-    '--hidden --decimal comma'
-    >>> typed_with("--hidden --delimiter=tab", Remedy("delimiter", is_less=True))
-    '--hidden'
-    """
-    words = [*option_words(typed)]
-    name = f"--{remedy.option}"
-    while at := next((at for at, word in enumerate(words, 1) if word.split("=")[0] == name), 0):
-        has_value = at < len(words) and words[at - 1] == name and not words[at].startswith("--")
-        del words[at - 1 : at + has_value]
-    return shlex.join([*words, *([] if remedy.is_less else remedy.words)])
-
-
-def option_words(argument: str) -> tuple[str, ...]:
-    """Returns options that are given as one text, as a shell reads them; raises `ToolError`."""
-    try:
-        return tuple(shlex.split(argument))
-    except ValueError as error:
-        raise ToolError(Text("{}: {}", repr(argument), error)) from error
+def csv_options(options: TableOptions) -> CsvOptions:
+    """Returns how a file of CSV is read by options."""
+    return CsvOptions(options.file, options.columns.asked, options.codes.is_free)

@@ -8,7 +8,7 @@ from concurrent.futures import Future
 from dataclasses import replace
 from functools import partial
 from pathlib import Path
-from typing import Any, NamedTuple
+from typing import Any, NamedTuple, TYPE_CHECKING
 
 from labeltools.common.language import _
 from labeltools.common.messages import ToolError
@@ -24,6 +24,9 @@ from labeltools.window.gtk import GLib, Gtk
 from labeltools.window.memory import PRINTERS
 from labeltools.window.printing import open_settings, Options, Printing, Printout
 from labeltools.window.shop import MadeLabels, Table, WindowTalk
+
+if TYPE_CHECKING:
+    from labeltools.window.window import Window
 
 WATCH = 2000  # milliseconds between two looks at a job of CUPS
 Way = Callable[[Prepared, WindowTalk], "Sent"]
@@ -43,7 +46,7 @@ class Sent(NamedTuple):
 class WaysOut:
     """The ways out of a window."""
 
-    def __init__(self, window: Any) -> None:
+    def __init__(self, window: "Window") -> None:
         self.window = window
         self.waiting: dict[SentJob, tuple[Table, Path]] = {}  # jobs whose labels may be printed
         self.on_sheets: dict[SentJob, Prepared] = {}  # the labels of jobs of this window
@@ -57,7 +60,8 @@ class WaysOut:
         """Sends labels by a way, or the rest of those that were sent before, and keeps what is
         chosen for the next table like this. A trial does not count as printed.
         """
-        table, made = self.window.table, self.window.made
+        made = self.window.made
+        table = made.table
         table.keep(self.window.choices())
         self.of = table, made
         if not is_rest:
@@ -98,9 +102,9 @@ class WaysOut:
         job = labels.job
         cells = len(job.plan.places)
         following = (job.options.first - 1 + len(labels.prints)) % cells + 1
-        if cells < 2 or following == self.window.choices()["first"]:
+        if cells < 2 or following == self.window.choices().first:
             return ""
-        self.window.take({"first": following})
+        self.window.take(first=following)
         text = Text("The next labels begin at label {} of the last sheet.", following)
         return translated(text) if following > 1 else ""
 
@@ -195,17 +199,18 @@ class WaysOut:
         hint = told.hint if is_given_up else Text("it is looked for again")
         parts = sent, whole(told.what), whole(hint)
         text = joined(" ", parts)
-        answer = (_("Was it printed?"), partial(self.ask_of_job, job, translated(text)))
-        if self.told.get(job) != text:
-            self.told[job] = text
+        said = translated(text)
+        answer = (_("Was it printed?"), partial(self.ask_of_job, job, said))
+        if self.told.get(job) != said:
+            self.told[job] = said
             self.report(WARNING, text, job, answer if is_given_up else None)
         if not is_given_up:
             GLib.timeout_add(WATCH, self.watch, job, count)
 
     def ask_file(self) -> None:
         """Asks for a file, and writes it."""
-        chooser = self.window.saver
-        path = self.window.table.path
+        chooser = self.window.widgets.saver
+        path = self.window.made.table.path
         chooser.set_current_folder(str(path.absolute().parent))
         kind, form = _("labels"), self.window.made.labels.job.form.name
         chooser.set_current_name(f"{path.stem}-{kind}.{form}")
@@ -248,7 +253,7 @@ class WaysOut:
         printer = self.window.of_printers.chosen
         if job.form.is_drawn and dpi % job.plan.dpi:
             what = Text("{} prints at {} dpi: the labels are drawn for it now", queue.name, dpi)
-            self.window.take({"dpi": str(dpi)})
+            self.window.take(dpi=str(dpi))
             self.window.make(problem=ToolError(what, Text("check them, and print again")))
         elif printer and (wanted := self.printing.ask(printer, labels, options)):
             if not wanted.is_trial:
@@ -285,7 +290,7 @@ class WaysOut:
         done = problem.done
         labels, counts = self.sending
         if problem.is_doubtful:
-            label = labels.prints[done - labels.job.options.after].label.record.label
+            label = labels.prints[done - labels.job.options.after].record
             text = _("Is label {number} on paper: {title} {price}?")
             text = text.format(number=done + 1, title=label.title, price=label.price)
             yes = _("Yes, go on with {number}").format(number=done + 2)
@@ -296,7 +301,7 @@ class WaysOut:
         if done - labels.job.options.after < len(labels.prints):
             self.go_on(problem.printer, done)
         elif counts:
-            self.window.table.keep_printed(self.window.made, labels)
+            self.window.made.table.keep_printed(self.window.made, labels)
 
     def go_on(self, printer: str, done: int) -> None:
         """Sends the labels of a job to a printer that took some of them, behind these."""

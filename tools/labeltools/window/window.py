@@ -2,7 +2,7 @@
 printed, and the rows that are skipped. Its widgets are those of window.ui.
 """
 
-from collections.abc import Callable, Iterable, Iterator, Mapping, Sequence
+from collections.abc import Callable, Collection, Iterable, Iterator, Mapping, Sequence
 from contextlib import contextmanager, suppress
 from dataclasses import dataclass, replace
 from functools import partial
@@ -22,13 +22,26 @@ from labeltools.common.text import (
 from labeltools.designs.svg_design import is_file
 from labeltools.layout.area import ARTICLE
 from labeltools.lines.symbologies import SYMBOLOGIES
+from labeltools.paper.stock import size_text
 from labeltools.printing.press import check_count
 from labeltools.sending.sender import Unfinished
-from labeltools.tables.codes import AUTO
-from labeltools.window import sheets
+from labeltools.sheets.encoding import first_word
+from labeltools.window import designs, sheets
 from labeltools.window.bar import Bar, ERROR, Event, INFO
+from labeltools.window.choices import (
+    Choices,
+    chosen_with,
+    COLUMNS,
+    FURTHER,
+    Kept,
+    kept_of,
+    values_kept,
+    with_further,
+)
+from labeltools.window.further import Further
 from labeltools.window.gtk import (
     add_actions,
+    ApplicationWindow,
     Caption,
     Gdk,
     Gio,
@@ -42,34 +55,21 @@ from labeltools.window.presets import Presets
 from labeltools.window.preview import Preview
 from labeltools.window.printers import Printers
 from labeltools.window.questions import Answers, asked_at, CENTS, Questions, said, which
-from labeltools.window.shop import (
-    Choices,
-    COLUMNS,
-    is_of_table,
-    MadeLabels,
-    skipped,
-    Table,
-    typed_with,
-)
+from labeltools.window.shop import MadeLabels, skipped, Table
 from labeltools.window.ways import WaysOut
+from labeltools.window.widgets import widgets_of
 from labeltools.window.work import Work
 
 FILE = Path(__file__).with_name("window.ui")
-# the controls by the names of options, and the property of each that has what is chosen
+# the controls by the fields of choices, and the property of each that has what is chosen
 CONTROLS = {
-    **dict.fromkeys((*COLUMNS, "symbology", "price-as", "design", "to", "dpi"), "active-id"),
-    **dict.fromkeys(("stock", "for-table", "for-print"), "text"),
-    **dict.fromkeys(("header-row", "first", "width", "height"), "value"),
-    **dict.fromkeys(("sheet", "roll", "new-only"), "active"),
+    **dict.fromkeys((*COLUMNS, "symbology", "price_as", "design", "to", "dpi"), "active-id"),
+    **dict.fromkeys(("stock", "for_table", "for_print"), "text"),
+    **dict.fromkeys(("given_table", "given_print"), "words"),
+    **dict.fromkeys(("header_row", "first", "width", "height"), "value"),
+    **dict.fromkeys(("sheet", "roll", "new_only"), "active"),
 }
-RANGES = {"header-row": (0, 1000), "first": (1, 10_000), "width": (5, 500), "height": (5, 500)}
-# those that a remedy chooses by; `sheet` is a worksheet there, and here a sheet of labels
-CHOSEN = ("symbology", "price-as", "header-row", "dpi", "to", "first")
-UNCHOSEN = {"symbology": AUTO}  # what a control has that says nothing; others have an empty text
-HEADERS = {"no-header": ("header-row", "0"), "header": ("header-row", "1")}
-A_FILE = "file"  # the choice of a design in a file
-SHARE = Path(__file__).resolve().parents[3]  # of a checkout, or PREFIX/share
-DESIGNS = (SHARE / "designs", SHARE / "doc/labels/designs")  # designs to start from
+RANGES = {"header_row": (0, 1000), "first": (1, 10_000), "width": (5, 500), "height": (5, 500)}
 MOST_NOTES = 2000
 MOST_HELPS = 3  # buttons above the notes
 LOW = 700  # pixels of a window in which the list of notes is closed at first
@@ -81,21 +81,19 @@ WRAP_MARGIN = 20  # pixels of the list beside the reasons
 
 @dataclass(frozen=True)
 class Before:
-    """A table that was open: its file, what was chosen, the names of its columns, the words by
+    """A table that was open: its file, what was chosen, the names of its columns, the options by
     which it is read; and why the file that was opened then is no table.
     """
 
     path: Path
-    choices: Choices
+    choices: Choices | None
     names: Sequence[str]
-    words: str
+    further: Further
     problem: ToolError | None = None
 
 
-class Window(Gtk.ApplicationWindow):
-    """A window for one table. A widget of window.ui is an attribute by its id, and what `on_` and
-    the like name there is a method.
-    """
+class Window(ApplicationWindow):
+    """A window for one table. What `on_` and the like name in window.ui is a method."""
 
     __gtype_name__ = "LabelsWindow"
     made: MadeLabels  # what was made last
@@ -105,9 +103,9 @@ class Window(Gtk.ApplicationWindow):
         super().__init__(**properties)
         self.path: Path | None = None
         self.table: Table | None = None  # once it is read
-        self.chosen: Choices = {}  # what labels were last made by
+        self.chosen: Choices | None = None  # what labels were last made by
         self.names: Sequence[str] = ()  # of the columns of the table
-        self.words = ""  # by which the table is read
+        self.further = Further()  # options by which the table is read
         self.last_design = ARTICLE.name
         self.has_labels = False  # that are chosen
         self.is_filling = False  # controls, for labels that are made then
@@ -116,6 +114,7 @@ class Window(Gtk.ApplicationWindow):
         self.builder = Gtk.Builder()
         text = FILE.read_bytes()
         self.builder.extend_with_template(self, self.__gtype__, text.decode(), len(text))
+        self.widgets = widgets_of(self.builder)
         self.events = Bar(self)
         self.questions = Questions(self)
         self.work = Work(self)
@@ -128,7 +127,7 @@ class Window(Gtk.ApplicationWindow):
                 "open": self.ask_table,
                 "save": partial(self.when_made, self.ways.ask_file),
                 "print": partial(self.when_made, self.ways.ask),
-                "command": self.line.popup,
+                "command": self.widgets.line.popup,
             },
         )
         self.builder.connect_signals(self)
@@ -139,33 +138,34 @@ class Window(Gtk.ApplicationWindow):
         """Sets up what window.ui does not say."""
         for name, (lowest, highest) in RANGES.items():
             self.control(name).set_range(lowest, highest)
-        dialogs = (self.printing, self.adding, self.choosing)
-        inner = ((one.get_header_bar(), one.get_content_area()) for one in dialogs)
-        for part in (self.head, self.get_child(), *chain(*inner)):
+        dialogs = (self.widgets.printing, self.widgets.adding, self.widgets.choosing)
+        inner = ((dialog.get_header_bar(), dialog.get_content_area()) for dialog in dialogs)
+        for part in (self.widgets.head, self.get_child(), *chain(*inner)):
             part.show_all()
-        for part in (self.bar, self.notes_box, self.result, self.working):
+        for part in (
+            self.widgets.bar,
+            self.widgets.notes_box,
+            self.widgets.result,
+            self.widgets.working,
+        ):
             part.foreach(Gtk.Widget.show_all)  # but not the part itself
-        for fold in (self.more_of_table, self.more_of_paper):
+        for fold in (self.widgets.more_of_table, self.widgets.more_of_paper):
             fold.refold()
         self.names_width = Gtk.SizeGroup(mode=Gtk.SizeGroupMode.HORIZONTAL)
-        for one in (*self.of_label.get_children(), *self.of_paper.get_children()):
-            if isinstance(one, Caption):
-                self.names_width.add_widget(one)
-        for folder in filter(Path.is_dir, DESIGNS):
-            self.design_opener.add_shortcut_folder(str(folder))
+        for part in (*self.widgets.of_label.get_children(), *self.widgets.of_paper.get_children()):
+            if isinstance(part, Caption):
+                self.names_width.add_widget(part)
+        for folder in filter(Path.is_dir, designs.folders()[:1]):
+            self.widgets.design_opener.add_shortcut_folder(str(folder))
+        designs.add_pictures(self.widgets.design)
         self.fit_paper()
         self.connect_after("key-press-event", self.on_key)
-        self.completion.set_match_func(lambda *_: True)
-        self.completion.set_cell_data_func(self.sheet_picture, sheets.show_picture, None)
+        self.widgets.completion.set_match_func(lambda *_: True)
+        self.widgets.completion.set_cell_data_func(
+            self.widgets.sheet_picture, sheets.show_picture, None
+        )
         self.drag_dest_set(Gtk.DestDefaults.ALL, [], Gdk.DragAction.COPY)
         self.drag_dest_add_uri_targets()
-
-    def __getattr__(self, name: str) -> Any:
-        """Returns a widget of window.ui by its id."""
-        found = self.__dict__["builder"].get_object(name) if "builder" in self.__dict__ else None
-        if found is None:
-            raise AttributeError(f"window.ui has no {name}")
-        return found
 
     def let_out(self, is_ready: bool) -> None:
         """Lets labels go out, or not, as while something is asked; while they go out nothing else
@@ -174,21 +174,21 @@ class Window(Gtk.ApplicationWindow):
         is_asked = self.questions.is_open
         is_ready = is_ready and not is_asked
         hint = _("First answer the question at the left") if is_asked else None
-        self.print_button.set_tooltip_text(hint)
+        self.widgets.print_button.set_tooltip_text(hint)
         is_idle = not self.work.talk.is_sending
-        self.stack.set_sensitive(is_idle)
+        self.widgets.stack.set_sensitive(is_idle)
         for name in ("open", "preset"):
             self.lookup_action(name).set_enabled(is_idle)
         for name in ("save", "print", "command"):
             self.lookup_action(name).set_enabled(is_ready)
 
     def control(self, name: str) -> Any:
-        """Returns the control of an option by its name."""
-        return getattr(self, name.replace("-", "_"))
+        """Returns the control of a field of choices."""
+        return getattr(self.widgets, name)
 
     def offer_sheets(self, entry: Any) -> None:
         """Offers the sheets that label-print lists for what is typed, first those that begin so."""
-        sheets.offer_sheets(self.sheets, entry.get_text().lower())
+        sheets.offer_sheets(self.widgets.sheets, entry.get_text().lower())
         GLib.timeout_add(LISTED, show_first)
 
     def show_problem(self, problem: ToolError, answers: Answers = ()) -> None:
@@ -196,14 +196,19 @@ class Window(Gtk.ApplicationWindow):
         several as a question, below the control that they are about, or in place of the page if
         the table is not read.
         """
-        remedies = [one for one in remedies_of(problem.hint) if one.says and one.option != "after"]
+        remedies = [
+            remedy
+            for remedy in remedies_of(problem.hint)
+            if remedy.says and remedy.option != "after"
+        ]
         found = [*self.remedies([problem.hint]), *self.ways_on(problem), *answers]
-        places = [*filter(None, (asked_at(one.option) for one in remedies))]
+        found += self.size_of_design()
+        places = [*filter(None, (asked_at(remedy.option) for remedy in remedies))]
         if self.table is None and not remedies and self.before and not self.before.problem:
             self.go_back(replace(self.before, problem=problem))
             return
-        if self.table is None and not remedies and not self.words:
-            self.stack.set_visible_child_name("empty")
+        if self.table is None and not remedies and not any(self.further):
+            self.widgets.stack.set_visible_child_name("empty")
         if self.table is None and remedies:
             hint = said(NOTHING, problem.hint)
             self.questions.ask_of_file(said(problem.what), hint, found)
@@ -218,30 +223,37 @@ class Window(Gtk.ApplicationWindow):
         box.foreach(Gtk.Widget.destroy)
         for shown, act in answers:
             button = Gtk.Button(label=shown, visible=True)
-            button.connect("clicked", lambda _button, act=act: act())
+            button.connect("clicked", lambda _button, act=act: self.help_by(act))
             box.add(button)
             button.get_parent().set_can_focus(False)  # but the button has the focus
 
-    def remedies(self, texts: Iterable[Text]) -> Answers:
-        """Returns the remedies of some texts as answers, each once."""
-        every = dict.fromkeys(one for text in texts for one in remedies_of(text))
-        found = [one for one in every if one.says and self.is_wanted(one)]
-        return [(translated(one.says), partial(self.follow, one)) for one in found]
+    def help_by(self, act: Callable[[], object]) -> None:
+        """Does what helps; the focus stays beside the button for it, which goes."""
+        self.widgets.fold.grab_focus()
+        act()
+
+    def remedies(self, texts: Iterable[Text], harmful: Collection[Remedy] = ()) -> Answers:
+        """Returns the remedies of some texts as answers, each once, but for harmful ones."""
+        every = dict.fromkeys(remedy for text in texts for remedy in remedies_of(text))
+        found = [
+            remedy
+            for remedy in every
+            if remedy.says and self.is_wanted(remedy) and remedy not in harmful
+        ]
+        return [(translated(remedy.says), partial(self.follow, remedy)) for remedy in found]
 
     def is_wanted(self, remedy: Remedy) -> bool:
         """Returns whether a button gives a remedy: prices whose form is chosen are no texts."""
         is_text = remedy.option == "price-text" and not remedy.is_less
-        return remedy.option != "after" and not (is_text and self.choices()["price-as"])
+        return remedy.option != "after" and not (is_text and self.choices().price_as)
 
     def follow(self, remedy: Remedy) -> None:
-        """Takes a choice that helps: by its control, or else as an option that is typed."""
-        name, value = HEADERS.get(remedy.option, (remedy.option, remedy.value))
-        entry = self.for_table if is_of_table(remedy) else self.for_print
-        if name in CHOSEN:
-            value = UNCHOSEN.get(name, "") if remedy.is_less else value
-            self.take({name: type(self.choices()[name] or "")(value)})
-            remedy = replace(remedy, is_less=True)  # what is typed would count more
-        entry.set_text(typed_with(entry.get_text(), remedy))
+        """Takes a choice that helps: what is typed first, since its control is slow to tell."""
+        choices = self.choices()
+        changed = choices.changes(chosen_with(choices, remedy))
+        given = {name: value for name, value in changed.items() if name in FURTHER.values()}
+        self.take(**{name: value for name, value in changed.items() if name not in given})
+        self.take(**given)
 
     def ways_on(self, problem: ToolError) -> Answers:
         """Returns how labels go on that a printer took some of."""
@@ -254,6 +266,25 @@ class Window(Gtk.ApplicationWindow):
             text = _("Try again")
         is_some = done < len(labels.prints)
         return [(text, partial(self.ways.ask_to_go_on, problem))] if is_some else []
+
+    def size_of_design(self) -> Answers:
+        """Returns the answer that labels on a roll have the size that their design is drawn for."""
+        size = designs.size_of(self.choices().design or "")
+        if not self.widgets.roll.get_active() or size is None:
+            return []
+        if sorted(size) == sorted(
+            (self.widgets.width.get_value(), self.widgets.height.get_value())
+        ):
+            return []
+        sides = dict(zip(("width", "height"), size))
+        text = translated(Text("Labels of {}", size_text(size)))
+        return [(text, partial(self.take_together, sides))]
+
+    def take_together(self, sides: Mapping[str, float]) -> None:
+        """Takes the sides of a label, and makes the labels once."""
+        with self.filling():
+            self.take(**sides)
+        self.make()
 
     def asked_in_dialog(self, text: str, answers: Mapping[bool, str]) -> bool | None:
         """Asks in a dialog; returns what was answered, None if it was closed."""
@@ -270,18 +301,22 @@ class Window(Gtk.ApplicationWindow):
         """Tells what happened that is neither good nor bad."""
         self.events.show(Event(INFO, text))
 
-    def on_key(self, _window: Any, event: Any) -> bool:
+    def on_key(self, _window: "Window", event: Any) -> bool:
         """Closes the bar by Escape, where nothing else takes that key."""
         return bool(event.keyval == Gdk.KEY_Escape and self.events.hide())
 
     def fit_paper(self) -> None:
         """Shows what a sheet is chosen by, or a roll."""
-        is_roll = self.roll.get_active()
-        for part in (self.kind, self.kind_caption):
+        is_roll = self.widgets.roll.get_active()
+        for part in (self.widgets.kind, self.widgets.kind_caption):
             part.set_visible(not (is_roll and self.of_printers.is_of_labels))
-        for part in (self.size, self.size_caption):
+        for part in (self.widgets.size, self.widgets.size_caption):
             part.set_visible(is_roll)
-        for part in (self.stock, self.first, *self.first.list_mnemonic_labels()):
+        for part in (
+            self.widgets.stock,
+            self.widgets.first,
+            *self.widgets.first.list_mnemonic_labels(),
+        ):
             part.set_visible(not is_roll)
 
     def on_paper(self, _sheet: Any) -> None:
@@ -291,7 +326,7 @@ class Window(Gtk.ApplicationWindow):
             self.of_printers.fit_file()
             self.make()
 
-    def on_destroy(self, _window: Any) -> None:
+    def on_destroy(self, _window: "Window") -> None:
         """Ends work."""
         self.work.close()
         self.of_printers.close()
@@ -301,8 +336,8 @@ class Window(Gtk.ApplicationWindow):
         if self.work.stop():
             if self.table is None:
                 self.path = None
-                self.head.set_subtitle("")
-                self.stack.set_visible_child_name("empty")
+                self.widgets.head.set_subtitle("")
+                self.widgets.stack.set_visible_child_name("empty")
             self.tell(_("Stopped: nothing was printed"))
 
     @contextmanager
@@ -320,24 +355,25 @@ class Window(Gtk.ApplicationWindow):
             if self.work.talk.is_sending:
                 return
             if self.table is not None and self.path is not None:
-                self.before = Before(self.path, self.chosen, self.names, self.words)
-            self.chosen = {}
-        text = self.for_table.get_text() if path == self.path else None
-        self.words = text or ""
+                self.before = Before(self.path, self.chosen, self.names, self.further)
+            self.chosen = None
+        further = self.further_chosen() if path == self.path else None
+        self.further = further or Further()
         self.path = path
         self.table = None
         self.has_labels = False
         with self.filling():
-            self.columns.clear()
-            self.price_as.remove_all()
-            self.take({"for-table": self.words, "symbology": None})  # nothing is read yet
-        for part in (self.new_only, self.result):
+            self.widgets.columns.clear()
+            self.widgets.price_as.remove_all()
+            self.take(**further_values(self.further))
+            self.take(symbology=None)  # nothing is read yet
+        for part in (self.widgets.new_only, self.widgets.result):
             part.hide()
         self.questions.clear()
-        self.head.set_subtitle(path.name)
-        self.stack.set_visible_child_name("work")
+        self.widgets.head.set_subtitle(path.name)
+        self.widgets.stack.set_visible_child_name("work")
         doing = _("reading {file}…").format(file=path.name)
-        self.work.start(partial(Table, path, text, header), self.take_table, doing)
+        self.work.start(partial(Table, path, further, header), self.take_table, doing)
 
     def go_back(self, before: "Before") -> None:
         """Opens the table again that was open before a file that is no table, and says what that
@@ -347,7 +383,7 @@ class Window(Gtk.ApplicationWindow):
         self.chosen, self.names = before.choices, before.names
         self.path = before.path
         with self.filling():
-            self.take({"for-table": before.words})
+            self.take(**further_values(before.further))
         self.open(before.path, is_again=True)
 
     def take_table(self, table: Table) -> None:
@@ -363,51 +399,69 @@ class Window(Gtk.ApplicationWindow):
     def fill(self, table: Table) -> None:
         """Fills the choices of columns for a table."""
         guess = table.guess
-        self.columns.append([_("no column"), ""])
+        self.widgets.columns.append([_("no column"), ""])
         for number, (name, example) in enumerate(zip(guess.names, guess.examples), 1):
             name = name or _("column {number}").format(number=number)
-            self.columns.append([with_example(name, example), str(number)])
-        columns = {option: str(place + 1) for option, place in guess.columns.items()}
-        self.take({**dict.fromkeys(COLUMNS, ""), "code": "1", **columns})
-        self.take(dict.fromkeys(guess.doubts))  # only the keeper knows
+            self.widgets.columns.append([with_example(name, example), str(number)])
+        columns = {field_of(kind): str(place + 1) for kind, place in guess.columns.items()}
+        self.take(**{**dict.fromkeys(COLUMNS, ""), "code": "1", **columns})
+        self.take(**dict.fromkeys(map(field_of, guess.doubts)))  # only the keeper knows
         # a table that is read again, by other words, keeps what is chosen
-        is_same = self.chosen and guess.names == self.names
-        own = self.chosen if is_same else {**table.paper, "for-print": "", **table.kept, "first": 1}
+        is_same = guess.names == self.names
+        kept = kept_of(self.chosen) if self.chosen and is_same else self.kept(table)
+        own = {**values_kept(kept), **further_values(table.further)}
         self.names = guess.names
+        self.widgets.given_table.word_by = partial(first_word, table.data)
         for name in COLUMNS:
             widen(self.control(name), 0)
-        self.take({"symbology": guess.rules.symbology, **own})
-        self.of_printers.recall(own)
+        self.take(**{"symbology": guess.rules.symbology, **own})
+        self.of_printers.recall(kept)
         self.offer_patterns(table)
-        self.take({"price-as": own["price-as"]} if "price-as" in own else {})
-        self.text_2.set_visible(self.choices()["text-2"])
-        self.words = table.text
-        self.take({"for-table": self.words, "header-row": guess.header})
+        self.take(**({"price_as": own["price_as"]} if "price_as" in own else {}))
+        self.widgets.text_2.set_visible(self.choices().text_2)
+        self.further = table.further
+        self.take(header_row=guess.header)
         since = table.printed_on()
         text = _("Onl_y what is new or changed since {date}").format(date=since)
-        self.new_only.set_label(text)
-        self.new_only.get_child().set_line_wrap(True)  # of a label that is new, too
-        self.new_only.set_visible(since)
+        self.widgets.new_only.set_label(text)
+        self.widgets.new_only.get_child().set_line_wrap(True)  # of a label that is new, too
+        self.widgets.new_only.set_visible(since)
         if not since:
-            self.take({"new-only": False})
+            self.take(new_only=False)
 
-    def take(self, choices: Choices) -> None:
-        """Takes choices, but for what somebody has written into the file of them."""
-        for name, value in choices.items():
+    def kept(self, table: Table) -> Kept:
+        """Returns the choices that are kept for a table, or else those of the one before."""
+        nothing = {"for-print": "", "given-print": ""}
+        return {**table.paper, **nothing, **with_further(table.kept), "first": 1}
+
+    def further_chosen(self) -> Further:
+        """Returns the further options by which a table is to be read."""
+        return self.choices().further_of_table
+
+    def take(self, **values: Any) -> None:
+        """Takes values of choices by their fields, but for what somebody has written into the file
+        of them.
+        """
+        for name, value in values.items():
+            kind = CONTROLS[name]
             with suppress(KeyError, TypeError, ValueError):
-                kind = CONTROLS[name]
                 if name == "design":
                     self.offer_design(value)
                 if name == "dpi":
                     self.offer_resolution(value)
-                if name in ("symbology", "price-as"):
+                if name in ("symbology", "price_as"):
                     self.offer_other(name, value)
                 self.control(name).set_property(kind, value)
 
     def choices(self) -> Choices:
-        """Returns what is chosen."""
-        found = {name: self.control(name).get_property(kind) for name, kind in CONTROLS.items()}
-        return {**found, "printer": self.of_printers.wanted}
+        """Returns what is chosen; while a file is asked for, the design before it."""
+        found: dict[str, Any] = {
+            name: self.control(name).get_property(kind) for name, kind in CONTROLS.items()
+        }
+        found |= {name: int(found[name]) for name in ("header_row", "first")}
+        if found["design"] == designs.A_FILE:
+            found["design"] = self.last_design
+        return Choices(**found, printer=self.of_printers.wanted)
 
     def when_made(self, act: Callable[[], object]) -> None:
         """Does something with the labels that are chosen: a number or the name of a sheet may just
@@ -431,18 +485,20 @@ class Window(Gtk.ApplicationWindow):
         """
         if self.table is not None and not self.is_filling:
             self.has_labels = False
-            self.chosen = self.choices()
+            chosen = self.choices()
+            self.chosen = chosen
             self.questions.clear()
             self.of_printers.ask()
             guess = self.table.guess
             doubts: dict[str, Sequence[int]] = {"code": [*guess.codes], **guess.doubts}
             for kind, places in doubts.items():
-                if self.chosen[kind] is None or kind == "code" and not self.chosen[kind]:
+                column = getattr(chosen, field_of(kind))
+                if column is None or kind == "code" and not column:
                     self.ask_column(self.table, kind, places)
-            if not self.chosen["code"]:
+            if not chosen.code:
                 self.questions.focus()
                 return
-            work = partial(self.table.made, self.chosen)
+            work = partial(self.table.made, chosen)
             doing = _("reading {file}…").format(file=self.table.path.name)
             self.work.start(work, partial(self.show_labels, problem, then), doing)
 
@@ -452,7 +508,7 @@ class Window(Gtk.ApplicationWindow):
         answers = [
             (
                 with_example(guess.names[place] or str(place + 1), guess.examples[place]),
-                partial(self.control(kind).set_active_id, str(place + 1)),
+                partial(self.control(field_of(kind)).set_active_id, str(place + 1)),
             )
             for place in places
         ]
@@ -467,20 +523,20 @@ class Window(Gtk.ApplicationWindow):
 
     def offer_patterns(self, table: Table) -> None:
         """Offers how the prices of the column may be printed."""
-        self.price_as.remove_all()
-        price = self.choices()["price"]
+        self.widgets.price_as.remove_all()
+        price = self.choices().price
         example = table.guess.examples[int(price) - 1] if price else ""
-        self.price_as.append("", with_example(_("as in the table"), example))
+        self.widgets.price_as.append("", with_example(_("as in the table"), example))
         for shown, pattern in table.price_patterns(price) if price else ():
-            self.price_as.append(pattern, shown)
-        self.take({"price-as": table.guessed_pattern(price)})
+            self.widgets.price_as.append(pattern, shown)
+        self.take(price_as=table.guessed_pattern(price or ""))
 
     def on_more(self, _button: Any) -> None:
         """Asks for a second text, or for none any more."""
-        is_asked = not self.text_2.get_visible()
-        self.text_2.set_visible(is_asked)
+        is_asked = not self.widgets.text_2.get_visible()
+        self.widgets.text_2.set_visible(is_asked)
         if not is_asked:
-            self.take({"text-2": ""})
+            self.take(text_2="")
 
     def on_printer(self, printer: Any) -> None:
         """Makes the labels for another printer."""
@@ -496,15 +552,15 @@ class Window(Gtk.ApplicationWindow):
         form = language.get_active_id()
         if not self.is_filling and not self.of_printers.take_language(form):
             with self.filling():
-                self.take({"dpi": USUAL_DPI.get(form, "600")})
+                self.take(dpi=USUAL_DPI.get(form, "600"))
             self.make()
 
     def offer_resolution(self, dpi: str) -> None:
         """Offers the dots an inch of a printer."""
-        known = [int(row[1]) for row in self.dpi.get_model()]
+        known = [int(row[1]) for row in self.widgets.dpi.get_model()]
         if int(dpi) not in known:
             place = sum(other < int(dpi) for other in known)
-            self.dpi.insert(place, dpi, f"{dpi} dpi")
+            self.widgets.dpi.insert(place, dpi, f"{dpi} dpi")
 
     def offer_other(self, name: str, value: str) -> None:
         """Offers a kind of code, or a pattern of prices, that is not in the list of usual ones."""
@@ -515,22 +571,22 @@ class Window(Gtk.ApplicationWindow):
 
     def price_by(self, pattern: str) -> str:
         """Returns how the first price is printed by a pattern, or else that."""
-        price = self.choices()["price"]
+        price = self.choices().price
         found = self.table.price_patterns(price, [pattern]) if self.table and price else ()
         return {one: shown for shown, one in found}.get(pattern, pattern)
 
     def offer_design(self, name: str) -> None:
         """Offers a design of a file, before the choice of another one."""
-        known = [row[1] for row in self.design.get_model()]
+        known = [row[1] for row in self.widgets.design.get_model()]
         if name not in known and is_file(name):
-            self.design.insert(len(known) - 1, name, Path(name).name)
+            self.widgets.design.insert(len(known) - 1, name, Path(name).name)
 
     def on_design(self, design: Any) -> None:
         """Makes the labels in another design; asks for its file where that is chosen, once the list
         of choices is closed.
         """
         name = design.get_active_id()
-        if name == A_FILE:
+        if name == designs.A_FILE:
             GLib.idle_add(self.ask_design)
         elif name:
             self.last_design = name
@@ -539,46 +595,48 @@ class Window(Gtk.ApplicationWindow):
     def ask_design(self) -> None:
         """Asks for the file of a design."""
         last = Path(self.last_design) if is_file(self.last_design) else self.path
-        self.design_opener.set_current_folder(str((last or Path()).absolute().parent))
-        is_found = self.design_opener.run() == Gtk.ResponseType.ACCEPT
-        name = self.design_opener.get_filename() if is_found else self.last_design
-        self.take({"design": name})
+        self.widgets.design_opener.set_current_folder(str((last or Path()).absolute().parent))
+        is_found = self.widgets.design_opener.run() == Gtk.ResponseType.ACCEPT
+        name = self.widgets.design_opener.get_filename() if is_found else self.last_design
+        self.take(design=name)
 
     def on_sheet(self, entry: Any, _event: Any = None) -> bool:
         """Makes the labels once a sheet is named as it is listed; else they are made when its name
         is left, or Enter is typed.
         """
-        is_listed = any(row[0] == entry.get_text() for row in self.sheets)
+        is_listed = any(row[0] == entry.get_text() for row in self.widgets.sheets)
         if self.choices() != self.chosen and (is_listed or not entry.has_focus()):
             self.make()
         return False
 
     def on_list_size(self, _list: Any, area: Any) -> None:
         """Wraps the reasons at the right edge of the list."""
-        width = max(LEAST_WRAP, area.width - self.why.get_x_offset() - WRAP_MARGIN)
-        if width != self.reason.get_property("wrap-width"):
-            self.reason.set_property("wrap-width", width)
-            GLib.idle_add(self.why.queue_resize)
+        width = max(LEAST_WRAP, area.width - self.widgets.why.get_x_offset() - WRAP_MARGIN)
+        if width != self.widgets.reason.get_property("wrap-width"):
+            self.widgets.reason.set_property("wrap-width", width)
+            GLib.idle_add(self.widgets.why.queue_resize)
 
     def show_labels(
         self, problem: ToolError | None, then: Callable[[], object] | None, made: MadeLabels
     ) -> None:
         """Shows the labels that were made, and what there is to say about them."""
         self.made = made
-        self.command.set_text(made.command)
-        self.count.set_text(translated(made.summary))
-        self.notes.clear()
-        asked = [one for one in made.notes if is_of_signs(one.hint)]
-        notes = [one for one in made.notes if one.origin or one not in asked]
+        self.widgets.command.set_text(made.command)
+        asked = [note for note in made.notes if is_of_signs(note.hint)]
+        is_waiting = bool(asked) and not made.labels.prints  # for an answer: no row is counted yet
+        self.widgets.count.set_text("" if is_waiting else translated(made.summary))
+        self.widgets.notes.clear()
+        notes = [note for note in made.notes if note.origin or note not in asked]
         for note in notes[:MOST_NOTES]:
             row = str(note.origin.number) if note.origin else ""
-            self.notes.append([row, note.data, said(note.reason, note.hint)])
+            why = designs.without_folder(said(note.reason, note.hint))
+            self.widgets.notes.append([row, note.data, why])
         hints = [note.hint for note in notes if note not in asked]
-        self.offer(self.helps, self.remedies(hints)[:MOST_HELPS])
-        self.helps.set_visible(self.helps.get_children())
+        self.offer(self.widgets.helps, self.remedies(hints, made.harmful)[:MOST_HELPS])
+        self.widgets.helps.set_visible(self.widgets.helps.get_children())
         self.show_left_out(notes, made.left_out)
         self.show_view()
-        self.result.show()
+        self.widgets.result.show()
         if asked:
             first = asked[0]
             text = translated(CENTS) if first.origin else said(first.reason)
@@ -598,7 +656,7 @@ class Window(Gtk.ApplicationWindow):
             self.show_problem(problem)
         if self.table is not None:
             self.ways.look_back(self.table)
-        if then is not None and self.print_button.get_sensitive():
+        if then is not None and self.widgets.print_button.get_sensitive():
             then()
 
     def show_left_out(self, notes: Sequence[Any], count: int) -> None:
@@ -606,69 +664,69 @@ class Window(Gtk.ApplicationWindow):
         that is new, since the keeper may have opened or closed the list.
         """
         name = "dialog-warning-symbolic" if count else "dialog-information-symbolic"
-        self.left_out_icon.set_from_icon_name(name, Gtk.IconSize.BUTTON)
-        self.below.set_visible(notes)
+        self.widgets.left_out_icon.set_from_icon_name(name, Gtk.IconSize.BUTTON)
+        self.widgets.below.set_visible(notes)
         if self.is_new:
-            self.fold.set_active(self.get_size()[1] > LOW)
-        self.on_fold(self.fold)
+            self.widgets.fold.set_active(self.get_size()[1] > LOW)
+        self.on_fold(self.widgets.fold)
 
     def on_fold(self, fold: Any) -> None:
         """Shows the list of what is skipped, or hides it."""
         is_open = fold.get_active()
-        self.notes_box.set_visible(is_open)
+        self.widgets.notes_box.set_visible(is_open)
         text = Text("Please look at this")
         if count := self.made.left_out:
             text = skipped(count) if is_open else Text("{}: click to see why", skipped(count))
-        self.left_out.set_text(translated(text))
+        self.widgets.left_out.set_text(translated(text))
         name = "pan-down-symbolic" if is_open else "pan-end-symbolic"
-        self.fold_icon.set_from_icon_name(name, Gtk.IconSize.BUTTON)
+        self.widgets.fold_icon.set_from_icon_name(name, Gtk.IconSize.BUTTON)
 
     def redraw(self, _number: Any) -> None:
         """Draws the view again."""
-        self.paper.queue_draw()
+        self.widgets.paper.queue_draw()
 
     def show_view(self, _control: Any = None) -> None:
         """Shows pages, or each label, and how many there are."""
-        self.shown = Preview(self.made.labels, self.view.get_active_id() == "label")
-        self.number.set_range(1, self.shown.count)
-        self.of.set_text(_("of {all}").format(all=self.shown.count))
+        self.shown = Preview(self.made.labels, self.widgets.view.get_active_id() == "label")
+        self.widgets.number.set_range(1, self.shown.count)
+        self.widgets.of.set_text(_("of {all}").format(all=self.shown.count))
         width, height = self.shown.size
-        self.desk.set_property("ratio", width / height)
+        self.widgets.desk.set_property("ratio", width / height)
         has_cells = not self.made.labels.job.plan.sheet.is_single
-        self.click_here.set_visible(has_cells and self.begins_by_click())
-        self.paper.queue_draw()
+        self.widgets.click_here.set_visible(has_cells and self.begins_by_click())
+        self.widgets.paper.queue_draw()
 
     def on_draw(self, paper: Any, canvas: Any) -> None:
         """Draws the view."""
         scale = paper.get_allocated_width() / self.shown.size[0]
         canvas.scale(scale, scale)
-        self.shown.draw(canvas, self.number.get_value_as_int())
+        self.shown.draw(canvas, self.widgets.number.get_value_as_int())
 
     def on_click(self, paper: Any, event: Any) -> None:
         """Begins at the cell of the first page that was clicked: those before it are used."""
         scale = paper.get_allocated_width() / self.shown.size[0]
         cell = self.shown.cell_at(event.x / scale, event.y / scale)
-        if cell and self.begins_by_click() and self.number.get_value_as_int() == 1:
-            self.first.set_value(cell)
+        if cell and self.begins_by_click() and self.widgets.number.get_value_as_int() == 1:
+            self.widgets.first.set_value(cell)
 
     def begins_by_click(self) -> bool:
         """Returns whether a click on a page says where its labels begin."""
-        return bool(self.sheet.get_active() and self.view.get_active_id() == "page")
+        return bool(self.widgets.sheet.get_active() and self.widgets.view.get_active_id() == "page")
 
     def on_note(self, selection: Any) -> None:
         """Shows the label of the row that was chosen, where there is one."""
         model, row = selection.get_selected()
         page = self.shown.page_of(model[row][0]) if row else 0
         if page:
-            self.number.set_value(page)
+            self.widgets.number.set_value(page)
 
     def ask_table(self) -> None:
         """Asks for a table, first where the last one was."""
         documents = GLib.get_user_special_dir(GLib.UserDirectory.DIRECTORY_DOCUMENTS)
         folder = self.path.absolute().parent if self.path else documents or Path.home()
-        self.opener.set_current_folder(str(folder))
-        if self.opener.run() == Gtk.ResponseType.ACCEPT:
-            self.open(Path(self.opener.get_filename()))
+        self.widgets.opener.set_current_folder(str(folder))
+        if self.widgets.opener.run() == Gtk.ResponseType.ACCEPT:
+            self.open(Path(self.widgets.opener.get_filename()))
 
     def on_drop(self, _widget: Any, *event: Any) -> None:
         """Opens a table that was dropped."""
@@ -682,8 +740,8 @@ class Window(Gtk.ApplicationWindow):
     def reopen(self, control: Any) -> None:
         """Reads the table by other words, such as its encoding, or with names in another row."""
         if self.path is not None and not self.is_filling:
-            is_header = control is self.header_row
-            if is_header or control.get_text() != self.words:
+            is_header = control is self.widgets.header_row
+            if is_header or self.further_chosen() != self.further:
                 header = control.get_value_as_int() if is_header else None
                 self.open(self.path, header, is_again=True)
 
@@ -692,17 +750,27 @@ def show_first() -> bool:
     """Shows the first rows of a list beside what is typed: GTK shows the last ones where the list
     is above it.
     """
-    for one in Gtk.Window.list_toplevels():
-        if one.get_type_hint() == Gdk.WindowTypeHint.COMBO and one.get_visible():
-            for part in within(one):
+    for toplevel in Gtk.Window.list_toplevels():
+        if toplevel.get_type_hint() == Gdk.WindowTypeHint.COMBO and toplevel.get_visible():
+            for part in within(toplevel):
                 if isinstance(part, Gtk.TreeView):
                     part.scroll_to_point(-1, 0)
     return False
 
 
+def further_values(further: Further) -> Mapping[str, str]:
+    """Returns the further options by which a table is read, as fields of choices."""
+    return {"for_table": further.typed, "given_table": further.given}
+
+
+def field_of(kind: str) -> str:
+    """Returns the field of choices that has the column of a kind."""
+    return kind.replace("-", "_")
+
+
 def is_of_signs(hint: Text) -> bool:
     """Returns whether a hint is about the signs of prices, of which only the keeper knows."""
-    return any(one.option == "decimal" for one in remedies_of(hint))
+    return any(remedy.option == "decimal" for remedy in remedies_of(hint))
 
 
 def with_example(name: str, example: str) -> str:

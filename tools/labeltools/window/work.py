@@ -6,12 +6,15 @@ from collections.abc import Callable
 from concurrent.futures import Future, ThreadPoolExecutor
 from contextlib import suppress
 from functools import partial
-from typing import Any
+from typing import Any, TYPE_CHECKING
 
 from labeltools.common.language import _
 from labeltools.common.messages import Cancelled, fault_of, of_system, ToolError
 from labeltools.window.gtk import GLib
 from labeltools.window.shop import WindowTalk
+
+if TYPE_CHECKING:
+    from labeltools.window.window import Window
 
 PATIENCE = 500  # milliseconds after which work is shown, and how far it is from then on
 
@@ -21,7 +24,7 @@ class Work:
     are sent it is always shown what came of them.
     """
 
-    def __init__(self, window: Any) -> None:
+    def __init__(self, window: "Window") -> None:
         self.window = window
         self.thread = ThreadPoolExecutor(1)
         self.talk = WindowTalk()
@@ -37,7 +40,7 @@ class Work:
         self.talk.stop()
         self.talk = WindowTalk(doing, is_sending)
         self.window.events.hide()
-        self.window.working.hide()
+        self.window.widgets.working.hide()
         self.window.let_out(False)
         future = self.thread.submit(work, self.talk)
         future.add_done_callback(partial(GLib.idle_add, self.end, self.talk, then))
@@ -65,7 +68,7 @@ class Work:
     def leave(self) -> None:
         """Lets labels go out again where there are some: there is no work that anyone waits for."""
         self.talk = WindowTalk()
-        self.window.working.hide()
+        self.window.widgets.working.hide()
         self.window.let_out(self.window.has_labels)
 
     def stop(self) -> bool:
@@ -86,12 +89,12 @@ class Work:
         """Shows how far work is; returns whether it goes on."""
         if talk is not self.talk:
             return False
-        self.window.working.show()
+        self.window.widgets.working.show()
         if talk.total:
-            self.window.progress.set_fraction(talk.done / talk.total)
+            self.window.widgets.progress.set_fraction(talk.done / talk.total)
         else:
-            self.window.progress.pulse()
-        self.window.progress.set_text(progress_text(talk))
+            self.window.widgets.progress.pulse()
+        self.window.widgets.progress.set_text(progress_text(talk))
         return True
 
 

@@ -1,0 +1,52 @@
+"""The signals that end a tool, and what is not cut off by one."""
+
+import os
+import signal
+from contextlib import contextmanager
+from typing import Any, Iterator
+
+ENDING = (signal.SIGHUP, signal.SIGINT, signal.SIGTERM)
+
+
+class Signals:
+    """The signals of this process: those that came while they are held back, None where they are
+    not.
+    """
+
+    def __init__(self) -> None:
+        self.came: list[int] | None = None
+
+    @contextmanager
+    def hold(self) -> Iterator[list[int]]:
+        """Holds a signal back while something goes out that has to be whole, and gives a list in
+        which it then is; a second one ends the tool at once. Within another such time it does
+        nothing.
+        """
+        if self.came is not None:
+            yield self.came
+            return
+        came = self.came = []
+        on_signals(self.take)
+        try:
+            yield came
+        finally:
+            self.came = None
+            on_signals()
+            for number in came:
+                os.kill(os.getpid(), number)
+
+    def take(self, number: int, _: object) -> None:
+        """Takes a signal that is held back."""
+        if self.came is not None:
+            self.came.append(number)
+        on_signals()
+
+
+def on_signals(action: Any = signal.SIG_DFL) -> None:
+    """Sets what the signals do that end a tool, but for those that it was started to ignore."""
+    for number in ENDING:
+        if signal.getsignal(number) != signal.SIG_IGN:
+            signal.signal(number, action)
+
+
+hold_signals = Signals().hold

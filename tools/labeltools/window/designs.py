@@ -1,0 +1,140 @@
+"""The list of designs, with a picture of each: those that are built in, and those that come with
+the tools, as files that a keeper may also change.
+"""
+
+from collections.abc import Iterator
+from contextlib import suppress
+from functools import cache
+from pathlib import Path
+from typing import Any
+
+import cairo
+
+from labeltools.common.text import Text, translated
+from labeltools.layout.area import ARTICLE, SHELF
+from labeltools.paper.stock import Size
+from labeltools.window.gtk import Gdk, GdkPixbuf, GLib, Gtk
+
+A_FILE = "file"  # the choice of a design in a file
+TOOLS = Path(__file__).resolve().parents[2]  # of a checkout, or as they are installed
+# the folders of the designs and of their pictures: as they are installed, and of a checkout
+PLACES = (
+    (TOOLS / "designs", TOOLS / "designs"),
+    (TOOLS.parent / "designs", TOOLS.parent / "docs/pictures"),
+)
+NAMES = {
+    "address": Text("for an address"),
+    "jar": Text("for a jar"),
+    "pallet": Text("for a pallet"),
+    "rack": Text("for a place in a rack"),
+    "receipt": Text("for a ticket on a receipt printer"),
+    "shelf": Text("for a shelf, with a shop's name"),
+    "ticket": Text("for a ticket with a stub"),
+}
+WIDE, HIGH = 64, 40  # pixels of the largest picture
+FRAME = (0.6, 0.62, 0.65)
+BARS = (0, 2, 3, 6, 8, 11, 12, 15, 17, 18, 21)  # where the bars of a drawn code begin
+# the built-in designs as they are drawn small: the height of the digits of the price, and where the
+# price and the bars are
+DRAWN = {ARTICLE.name: (11, (34, 26), (5, 15, 18)), SHELF.name: (19, (16, 27), (5, 31, 5))}
+
+
+def folders() -> tuple[Path, Path]:
+    """Returns the folders of the designs and of their pictures."""
+    return next((pair for pair in PLACES if pair[0].is_dir()), PLACES[0])
+
+
+def shipped() -> Iterator[tuple[str, str]]:
+    """Yields the files of the designs that come with the tools, with the names of the list, which
+    have the size of a label.
+    """
+    for path in sorted(folders()[0].glob("*.svg")):
+        name, _, size = path.stem.rpartition("-")
+        sides = " × ".join(size.split("x"))
+        yield str(path), f"{translated(NAMES[name])}, {sides} mm"
+
+
+def without_folder(text: str) -> str:
+    """Returns a text in which the designs that come with the tools are named without a folder."""
+    return text.replace(f"{folders()[0]}/", "")
+
+
+def size_of(design: str) -> Size | None:
+    """Returns the size for which a design is drawn that comes with the tools, in millimetres."""
+    if Path(design).parent != folders()[0]:
+        return None
+    wide, _, high = Path(design).stem.rpartition("-")[2].partition("x")
+    return float(wide), float(high)
+
+
+def add_pictures(choice: Any) -> None:
+    """Shows a picture of each design in a choice of them, and adds those that come with the
+    tools.
+    """
+    for path, name in shipped():
+        choice.insert(len(choice.get_model()) - 1, path, name)
+    picture = Gtk.CellRendererPixbuf(width=WIDE + 8, xalign=0)
+    choice.pack_start(picture, False)
+    choice.reorder(picture, 0)
+    choice.set_cell_data_func(picture, show_picture_of_design, None)
+
+
+def show_picture_of_design(_layout: Any, renderer: Any, model: Any, row: Any, _data: Any) -> None:
+    """Shows the picture of the design of a row; a file of the keeper has none."""
+    renderer.set_property("pixbuf", picture_of_design(model[row][1]))
+
+
+@cache
+def picture_of_design(design: str) -> Any:
+    """Returns a picture of a design; None where there is none."""
+    if design in DRAWN:
+        return drawn_label(*DRAWN[design])
+    folder, pictures = folders()
+    path = Path(design)
+    if path.parent != folder:
+        return None
+    name = path.stem.rpartition("-")[0]
+    with suppress(GLib.Error):
+        picture = GdkPixbuf.Pixbuf.new_from_file_at_scale(
+            str(pictures / f"design-{name}.png"), WIDE - 2, HIGH - 2, True
+        )
+        return framed(picture)
+    return None
+
+
+def framed(picture: Any) -> Any:
+    """Returns a picture of a label with its edge, since paper is white."""
+    surface, canvas = paper(picture.get_width() + 2, picture.get_height() + 2)
+    Gdk.cairo_set_source_pixbuf(canvas, picture, 1, 1)
+    canvas.paint()
+    return Gdk.pixbuf_get_from_surface(surface, 0, 0, surface.get_width(), surface.get_height())
+
+
+def drawn_label(digits: float, price: tuple[float, float], bars: tuple[float, float, float]) -> Any:
+    """Returns a picture of a label of 60 by 40 mm: a title, a price of a height at a place, and
+    bars of a height at another one.
+    """
+    surface, canvas = paper(60, HIGH)
+    canvas.set_source_rgb(0, 0, 0)
+    canvas.rectangle(5, 5, 34, 3)
+    left, top, high = bars
+    for place in BARS:
+        canvas.rectangle(left + place, top, 1 + place % 2, high)
+    canvas.fill()
+    canvas.select_font_face("Liberation Sans", cairo.FONT_SLANT_NORMAL, cairo.FONT_WEIGHT_BOLD)
+    canvas.set_font_size(digits)
+    canvas.move_to(*price)
+    canvas.show_text("2,95")
+    return Gdk.pixbuf_get_from_surface(surface, 0, 0, 60, HIGH)
+
+
+def paper(wide: int, high: int) -> tuple[Any, Any]:
+    """Returns an empty label with its edge, and a canvas on it."""
+    surface = cairo.ImageSurface(cairo.FORMAT_ARGB32, wide, high)
+    canvas = cairo.Context(surface)
+    canvas.set_source_rgb(*FRAME)
+    canvas.paint()
+    canvas.set_source_rgb(1, 1, 1)
+    canvas.rectangle(1, 1, wide - 2, high - 2)
+    canvas.fill()
+    return surface, canvas

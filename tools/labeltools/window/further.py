@@ -1,0 +1,138 @@
+"""Options of the commands for which the window has no control: what the keeper typed, and what a
+button chose or the window guessed, which it says in words.
+"""
+
+import shlex
+from collections.abc import Callable, Iterator, Mapping
+from dataclasses import replace
+from functools import reduce
+from typing import NamedTuple
+
+from labeltools.common.messages import named, ToolError
+from labeltools.common.text import Remedy, Text
+from labeltools.sheets.encoding import letters_by
+
+DATES = {"dd.mm.yyyy": "31.12.2026"}  # a date by each pattern that a button gives
+SIGNS = {
+    "comma": Text("the comma is before the cents"),
+    "point": Text("the point is before the cents"),
+}
+
+
+class Further(NamedTuple):
+    """Options that the keeper typed, and those that are given by a button or a guess, each as a
+    text.
+    """
+
+    typed: str = ""
+    given: str = ""
+
+    @property
+    def words(self) -> tuple[str, ...]:
+        """All as words of a command; what is typed counts more. Raises `ToolError`."""
+        return (*option_words(self.given), *option_words(self.typed))
+
+    @classmethod
+    def of(cls, text: str) -> "Further":
+        """Returns the options of a text, such as an older window kept: those that a button gives
+        are not taken as typed.
+
+        >>> Further.of("--sheet Bread --where Name=Tea --hidden")
+        Further(typed='--where Name=Tea', given='--sheet Bread --hidden')
+        """
+        try:
+            given = [option for option in options_in(text) if option.option in SAID]
+        except ToolError:  # somebody has written into the file of choices
+            return cls(text)
+        typed = reduce(typed_without, given, text)
+        return cls(typed, reduce(typed_with, given, ""))
+
+
+def option_words(argument: str) -> tuple[str, ...]:
+    """Returns options that are given as one text, as a shell reads them; raises `ToolError`."""
+    try:
+        return tuple(shlex.split(argument))
+    except ValueError as error:
+        raise ToolError(Text("{}: {}", repr(argument), error)) from error
+
+
+def options_in(text: str) -> Iterator[Remedy]:
+    """Yields the options of a text, each with its value; raises `ToolError`.
+
+    >>> [str(option) for option in options_in("--sheet 'Old ones' --hidden --decimal=point")]
+    ["--sheet 'Old ones'", '--hidden', '--decimal point']
+    """
+    words = [*option_words(text)]
+    while words:
+        option, has_value, value = words.pop(0).partition("=")
+        if not has_value and words and not words[0].startswith("--"):
+            value = words.pop(0)
+        yield Remedy(option.removeprefix("--"), value)
+
+
+def typed_with(typed: str, remedy: Remedy) -> str:
+    """Returns options as they are typed, with a remedy, or without its option.
+
+    >>> typed_with("--hidden --decimal point", Remedy("decimal", "comma"))
+    '--hidden --decimal comma'
+    >>> typed_with("--hidden --delimiter=tab", Remedy("delimiter", is_less=True))
+    '--hidden'
+    """
+    words = [*option_words(typed)]
+    name = f"--{remedy.option}"
+    while name in (names := [word.split("=")[0] for word in words]):
+        place = names.index(name)
+        following = words[place + 1 : place + 2]
+        has_value = words[place] == name and following and not following[0].startswith("--")
+        del words[place : place + (2 if has_value else 1)]
+    return shlex.join([*words, *([] if remedy.is_less else remedy.words)])
+
+
+def typed_without(typed: str, remedy: Remedy) -> str:
+    """Returns options as they are typed, without the option of a remedy."""
+    return typed_with(typed, replace(remedy, is_less=True))
+
+
+def between_cells(mark: str) -> Text:
+    """Returns what is said of the character between cells.
+
+    >>> between_cells("^"), between_cells("none")
+    ('"^" is between cells', 'each row is one cell')
+    """
+    if mark == "none":
+        return Text("each row is one cell")
+    return Text("{} is between cells", named("\t" if mark == "tab" else mark))
+
+
+# what is said of each option that a button or a guess gives, by its value
+SAID: Mapping[str, Callable[[str], Text]] = {
+    "allow-zeros": lambda _value: Text("codes may end with zeros"),
+    "currency": lambda column: Text("the currency is in {}", column),
+    "currency-name": lambda name: Text("{} is a currency", name),
+    "date-as": lambda pattern: Text("dates look like {}", DATES.get(pattern, pattern)),
+    "decimal": lambda sign: SIGNS.get(sign, Text("{} is before the cents", sign)),
+    "delimiter": between_cells,
+    "edge": lambda _edges: Text("labels keep away from the edge"),
+    "encoding": lambda codec: Text("the letters are {}", letters_by(codec)),
+    "fill-zeros": lambda _value: Text("lost zeros are put back in front"),
+    "hidden": lambda _value: Text("hidden rows are printed too"),
+    "links": lambda _value: Text("the code is the address behind a cell"),
+    "paper-as-given": lambda _value: Text("the paper need not be one of the driver's"),
+    "price-text": lambda _value: Text("prices may be any text"),
+    "sheet": lambda name: Text("the worksheet is {}", name),
+    "title": lambda column: Text("the title goes on with {}", column),
+    "variants-of": lambda column: Text("rows of the same {} have one title", column),
+    "without-check-digit": lambda _value: Text("the codes have no check digit"),
+}
+
+
+def said_of(option: Remedy, word: str = "") -> Text:
+    """Returns what is said of an option that a button or a guess gives; of an encoding with a word
+    that it reads.
+
+    >>> said_of(Remedy("encoding", "cp1252"), "Füller"), said_of(Remedy("decimal", "point"))
+    ('the letters are Western European (Füller)', 'the point is before the cents')
+    """
+    if option.option == "encoding":
+        return Text("the letters are {}", letters_by(option.value, word))
+    return SAID[option.option](option.value)
