@@ -89,6 +89,7 @@ install: all install-library
 	    $(call link,../share/label-tools/$$tool,$(PREFIX)/bin/$$tool); done
 	set -e; for file in $(MODULES); do \
 	    install -D -m 644 tools/$$file $(DESTDIR)$(DATADIR)/label-tools/$$file; done
+	install -D -m 644 -t $(DESTDIR)$(DATADIR)/label-tools/designs designs/*.svg docs/pictures/design-*.png
 # The bytecode is a third of the time that a tool starts in; dpkg makes it for packages.
 	[ -n '$(DESTDIR)' ] || { umask 022; $(PYTHON) -m compileall -q $(DATADIR)/label-tools; }
 	set -e; for language in $(LANGUAGES); do \

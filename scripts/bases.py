@@ -49,9 +49,9 @@ class Base:
 
     @property
     def lines(self) -> Lines:
-        definitions = sum(it.lines for it in self.definitions)
-        names = self.of_std | {it.name for it in self.of_clap}
-        return Lines(definitions, sum(it.lines for it in self.code), len(names))
+        definitions = sum(definition.lines for definition in self.definitions)
+        names = self.of_std | {key.name for key in self.of_clap}
+        return Lines(definitions, sum(item.lines for item in self.code), len(names))
 
 
 @dataclass(frozen=True)
@@ -77,49 +77,50 @@ class Repository:
 
     def cited_by(self, key: Key) -> list[Key]:
         """Returns what the definition of a name cites, or nothing where it has none."""
-        one = self.definition(key)
-        return [one.key, *self.cites(one)] if one else []
+        definition = self.definition(key)
+        return [definition.key, *self.cites(definition)] if definition else []
 
-    def cites(self, one: Declaration) -> Sequence[Key]:
+    def cites(self, definition: Declaration) -> Sequence[Key]:
         """Returns what a definition cites."""
-        return self.specs[one.key.crate, one.key.module].cited_by(one)
+        return self.specs[definition.key.crate, definition.key.module].cited_by(definition)
 
     def definitions(self, keys: Iterable[Key]) -> list[Declaration]:
         """Returns the definitions of names, each once."""
-        return list(dict.fromkeys(it for key in keys if (it := self.definition(key))))
+        return list(dict.fromkeys(definition for key in keys if (definition := self.definition(key))))
 
     @property
     def promises(self) -> list[CodeItem]:
         """The contracts of the functions that crates give to their callers, what traits, views and members say, and
         the types and constants that have no view."""
-        files = [it for it in self.code if it.crate in self.crates]
-        contracts = [one for file in files for one in declared.contracts_in(file)]
-        given = {(file.crate, it.name) for file in files if file.module == "lib" for it in file.passed_on}
-        said = [it for it in self.items if it.kind in ("trait", "view", "members")]
-        keys = {it.key for it in said}
-        return contracts + said + [it for it in self.items if (it.crate, it.name) in given and it.key not in keys]
+        files = [file for file in self.code if file.crate in self.crates]
+        contracts = [item for file in files for item in declared.contracts_in(file)]
+        given = {(file.crate, imported.name) for file in files if file.module == "lib" for imported in file.passed_on}
+        said = [item for item in self.items if item.kind in ("trait", "view", "members")]
+        keys = {item.key for item in said}
+        named = [item for item in self.items if (item.crate, item.name) in given and item.key not in keys]
+        return contracts + said + named
 
     @property
     def laws(self) -> list[Declaration]:
         """The definitions outside of `Private`, and what they rest on. Those that no contract cites lemmas cite."""
-        files = [it for it in self.specs.values() if not it.module.startswith("Private")]
-        keys = [one.key for file in files for one in file.declarations]
+        files = [file for file in self.specs.values() if not file.module.startswith("Private")]
+        keys = [definition.key for file in files for definition in file.declarations]
         return self.definitions(reader.reach(keys, self.cited_by))
 
     @property
     def of_program(self) -> list[File]:
         """The files of the program itself, which makes one call."""
-        return [it for it in self.code if it.crate == PROGRAM]
+        return [file for file in self.code if file.crate == PROGRAM]
 
 
 def read_repository(top: str) -> Repository:
     """Reads the files of a repository."""
-    crates = [it for it in reversed(sources.crates_of(top)) if it not in AT_THE_TOP]
+    crates = [crate for crate in reversed(sources.crates_of(top)) if crate not in AT_THE_TOP]
     files = reader.files_of(top, crates, "specs", "src")
     files += reader.files_of(top, [PROGRAM, EXPORTS], "src")
-    specs = {(it.crate, it.module): it for it in files if it.part == "specs"}
-    code = [it for it in files if it.part == "src"]
-    items = list(declared.code_items([it for it in code if it.crate in crates]))
+    specs = {(file.crate, file.module): file for file in files if file.part == "specs"}
+    code = [file for file in files if file.part == "src"]
+    items = list(declared.code_items([file for file in code if file.crate in crates]))
     return Repository(crates, specs, code, items)
 
 
@@ -132,16 +133,16 @@ def base_of(repository: Repository, contracts: Sequence[CodeItem]) -> Base:
         roots = [key for item in code for key in item.cites]
         cited = reader.reach(roots, repository.cited_by)
         named = {*declared.keys_of(cited)}
-        words = frozenset[str]().union(*(it.words for it in code))
-        spoken_by = (it for it in repository.items if it.is_of(named, words))
+        words = frozenset[str]().union(*(item.words for item in code))
+        spoken_by = (item for item in repository.items if item.is_of(named, words))
         code = [*dict.fromkeys([*contracts, *spoken_by])]
-    members = {it for item in code for it in item.members} & members_of_std()
-    of_kit = [it for it in cited if it.crate not in repository.crates and it.name]
+    members = {member for item in code for member in item.members} & members_of_std()
+    of_kit = [key for key in cited if key.crate not in repository.crates and key.name]
     return Base(
         repository.definitions(cited),
         code,
-        {it.name for it in of_kit if it.crate != CLAP} | members,
-        [it for it in of_kit if it.crate == CLAP],
+        {key.name for key in of_kit if key.crate != CLAP} | members,
+        [key for key in of_kit if key.crate == CLAP],
     )
 
 
@@ -151,30 +152,30 @@ def base_of(repository: Repository, contracts: Sequence[CodeItem]) -> Base:
 def files_of_kit(paths: Sequence[str]) -> list[File]:
     """Returns files of the kit, by their paths in its folder of crates."""
     folder = os.path.join(libraries.kit().KIT, "rattle")
-    return reader.files_at(folder, [os.path.join(folder, it) for it in paths])
+    return reader.files_at(folder, [os.path.join(folder, path) for path in paths])
 
 
 def members_of_std() -> set[str]:
     """Returns the ghost members of std's readers and writers, by which clauses speak of bytes."""
     (file,) = files_of_kit([TRAITS_OF_STD])
-    traits = [it for it in file.declarations if it.kind == "trait"]
-    return {it.name for trait in traits for it in trait.inner if it.kind == "ghost"}
+    traits = [item for item in file.declarations if item.kind == "trait"]
+    return {member.name for trait in traits for member in trait.inner if member.kind == "ghost"}
 
 
 def definitions_of_clap(names: Sequence[Key]) -> list[Declaration]:
     """Returns the definitions of clap that stand behind names of it."""
     folder = os.path.join(libraries.kit().KIT, "rattle", CLAP, "specs")
-    paths = [os.path.relpath(it, f"{folder}/../..") for it in sources.files_below(folder, ".antt")]
-    files = {it.module: it for it in files_of_kit(paths)}
+    paths = [os.path.relpath(path, f"{folder}/../..") for path in sources.files_below(folder, ".antt")]
+    files = {file.module: file for file in files_of_kit(paths)}
 
     def next_of(key: Key) -> list[Key]:
         """What a definition cites, or what a file has a name from that it passes on."""
         file = files.get(key.module) if key.crate == CLAP else None
-        if file and (one := file.of_name.get(key.name)):
-            return [one.key, *file.cited_by(one)]
+        if file and (definition := file.of_name.get(key.name)):
+            return [definition.key, *file.cited_by(definition)]
         passed_on = file.passed_on if file else []
-        return [it.target for it in passed_on if it.target and it.name == key.name]
+        return [imported.target for imported in passed_on if imported.target and imported.name == key.name]
 
-    reached = [it for it in reader.reach(names, next_of) if it.crate == CLAP]
-    found = (files[it.module].of_name.get(it.name) for it in reached if it.module in files)
-    return list(dict.fromkeys(it for it in found if it))
+    reached = [key for key in reader.reach(names, next_of) if key.crate == CLAP]
+    found = (files[key.module].of_name.get(key.name) for key in reached if key.module in files)
+    return list(dict.fromkeys(definition for definition in found if definition))

@@ -59,8 +59,8 @@ WHY = re.compile(r"Why: ((?:`[^`]+`,? )*`[^`]+`): ")
 def item_of(repository: Repository, function: str) -> tuple[File, Declaration]:
     """Returns a function of the file of the program's own call. Stops where it is gone."""
     crate, module, _ = CALL
-    files = (it for it in repository.code if (it.crate, it.module) == (crate, module))
-    found = next(((file, it) for file in files for it in file.declarations if it.name == function), None)
+    files = (file for file in repository.code if (file.crate, file.module) == (crate, module))
+    found = next(((file, item) for file in files for item in file.declarations if item.name == function), None)
     return found or sys.exit(f"no function {function} in crates/{crate}/src/{module}.rt")
 
 
@@ -68,7 +68,7 @@ def call_of(repository: Repository, names: Sequence[str] = ()) -> CodeItem:
     """Returns the contract of the program's own call, or its clauses of these names. Stops where the program does not
     make that call."""
     function = CALL[-1]
-    if not any(f"{function}(" in it.text for it in repository.of_program):
+    if not any(f"{function}(" in file.text for file in repository.of_program):
         says = "CALL in scripts/believed.py names the call that it makes"
         sys.exit(f"crates/{bases.PROGRAM} does not call {function}: {says}")
     return declared.contract_of(*item_of(repository, function), names)
@@ -76,15 +76,15 @@ def call_of(repository: Repository, names: Sequence[str] = ()) -> CodeItem:
 
 def exports(repository: Repository) -> list[CodeItem]:
     """Returns the contracts of the functions that the C library exports."""
-    files = [it for it in repository.code if it.crate == bases.EXPORTS]
-    functions = [(file, it) for file in files for it in file.declarations if it.kind == "fn"]
-    contracts = [declared.contract_of(file, it) for file, it in functions]
-    return [it for it in contracts if "ensures" in it.words]
+    files = [file for file in repository.code if file.crate == bases.EXPORTS]
+    functions = [(file, item) for file in files for item in file.declarations if item.kind == "fn"]
+    contracts = [declared.contract_of(file, item) for file, item in functions]
+    return [contract for contract in contracts if "ensures" in contract.words]
 
 
 def all_bases(repository: Repository) -> dict[str, Base]:
     """Returns what each contract rests on, by its name."""
-    contracts = {it: [call_of(repository, [it])] for it in CLAUSES}
+    contracts = {clause: [call_of(repository, [clause])] for clause in CLAUSES}
     contracts["program"] = [call_of(repository)]
     contracts["library"] = exports(repository)
     return {name: bases.base_of(repository, its) for name, its in contracts.items()}
@@ -111,8 +111,8 @@ def unsaid_lines(repository: Repository) -> int:
 def counts_of(repository: Repository, found: dict[str, Base]) -> Counts:
     """Returns all numbers that the pages give."""
     lines = {name: base.lines for name, base in found.items()}
-    behind = sum(it.lines for it in bases.definitions_of_clap(found["program"].of_clap))
-    count = sum(it.kind == "contract" for it in found["library"].code)
+    behind = sum(definition.lines for definition in bases.definitions_of_clap(found["program"].of_clap))
+    count = sum(item.kind == "contract" for item in found["library"].code)
     unsaid = unsaid_lines(repository)
     rows = [
         ("the clause `shows` of `program`", lines["shows"]),
@@ -130,7 +130,7 @@ def table(counts: Counts) -> Iterator[str]:
     yield "| What has to be read | Definitions | Code | Names | Lines |"
     yield "|---|---|---|---|---|"
     for what, lines in counts.rows:
-        numbers = " | ".join(f"{it:,}" for it in (*lines, lines.all))
+        numbers = " | ".join(f"{number:,}" for number in (*lines, lines.all))
         yield f"| {what} | {numbers} |"
 
 
@@ -154,9 +154,9 @@ def sums_of(repository: Repository, found: dict[str, Base]) -> str:
     """Returns the lines of the file of sums."""
     crates, library = bases.base_of(repository, repository.promises), found["library"]
     lines = set[str]()
-    for one in {*library.definitions, *crates.definitions, *repository.laws}:
-        total = sources.sum_of(token.text for token in one.tokens)
-        lines.add(f"{one.key.crate}/{one.key.module} {one.name} {total}\n")
+    for definition in {*library.definitions, *crates.definitions, *repository.laws}:
+        total = sources.sum_of(token.text for token in definition.tokens)
+        lines.add(f"{definition.key.crate}/{definition.key.module} {definition.name} {total}\n")
     for item in {*library.code, *crates.code}:
         lines.add(f"{item.crate}/{item.file} {item.kind} {item.name} {item.sum}\n")
     return HEAD_OF_SUMS + "".join(sorted(lines))
@@ -166,9 +166,9 @@ def faults_of_names(page: str, base: Base) -> list[str]:
     """Returns which names of std and of clap the page says nothing of, or does not need to."""
     listed = re.findall(r"^\| `(\S+)` \|", page.partition(OF_STD)[2], re.M)
     said = {name.replace("\\|", "|") for name in listed}
-    wanted = base.of_std | {it.name for it in base.of_clap}
-    missing = [f"{PAGE} does not say what {it} means" for it in sorted(wanted - said)]
-    unused = [f"{PAGE} says what {it} means, which is not needed" for it in sorted(said - wanted)]
+    wanted = base.of_std | {key.name for key in base.of_clap}
+    missing = [f"{PAGE} does not say what {name} means" for name in sorted(wanted - said)]
+    unused = [f"{PAGE} says what {name} means, which is not needed" for name in sorted(said - wanted)]
     return missing + unused
 
 
@@ -203,7 +203,7 @@ def compared(top: str, repository: Repository, found: dict[str, Base], writes: b
 def about(file: File) -> list[str]:
     """Returns the texts of the first comment of a file: what it is about, and each `Why: `."""
     texts = list[str]()
-    for line in itertools.takewhile(lambda it: it.startswith("--"), file.text.split("\n")):
+    for line in itertools.takewhile(lambda row: row.startswith("--"), file.text.split("\n")):
         text = line.removeprefix("--").strip()
         if not texts or text.startswith("Why: "):
             texts.append(text)
@@ -226,25 +226,26 @@ def names_in(file: File, why: str) -> set[str]:
 def shown_definitions(repository: Repository, definitions: Iterable[Declaration]) -> Iterator[str]:
     """Yields a list of definitions file by file, crates and files in reading order."""
     groups: dict[str, dict[str, list[Declaration]]] = {crate: {} for crate in repository.crates}
-    for one in definitions:
-        groups[one.key.crate].setdefault(one.key.module, []).append(one)
+    for definition in definitions:
+        groups[definition.key.crate].setdefault(definition.key.module, []).append(definition)
     for crate, modules in groups.items():
         for module, inside in modules.items():
-            file, here = repository.specs[crate, module], {it.name for it in inside}
+            file, here = repository.specs[crate, module], {definition.name for definition in inside}
             what, *whys = about(file)
             whys = [why for why in whys if names_in(file, why) & here]
             yield from ("", f"{file.path}: {what}")
             yield from (text for why in whys for text in textwrap.wrap(why, 100))
-            for one in inside:
-                yield from textwrap.wrap(f"- {one.name}: {one.about}", 100, subsequent_indent="  ")
+            for definition in inside:
+                text = f"- {definition.name}: {definition.about}"
+                yield from textwrap.wrap(text, 100, subsequent_indent="  ")
 
 
 def shown_code(items: Iterable[CodeItem]) -> Iterator[str]:
     """Yields a list of items of code."""
     yield from ("", "Code:")
-    for one in items:
-        where = f"crates/{one.crate}/src/{one.file}.rt"
-        text = f"- {one.kind} {one.name}, {where}, {one.lines} lines: {one.about}"
+    for item in items:
+        where = f"crates/{item.crate}/src/{item.file}.rt"
+        text = f"- {item.kind} {item.name}, {where}, {item.lines} lines: {item.about}"
         yield from textwrap.wrap(text, 100, subsequent_indent="  ")
 
 
@@ -253,7 +254,7 @@ def show(repository: Repository, base: Base) -> None:
     signal.signal(signal.SIGPIPE, signal.SIG_DFL)
     print(*shown_definitions(repository, base.definitions), sep="\n")
     print(*shown_code(base.code), sep="\n")
-    names = sorted(base.of_std | {it.name for it in base.of_clap})
+    names = sorted(base.of_std | {key.name for key in base.of_clap})
     if names:
         said = f"Names of std and of clap ({PAGE}): {', '.join(names)}"
         print("", *textwrap.wrap(said, 100), sep="\n")

@@ -56,18 +56,20 @@ class CodeItem:
 
 def words_of(declarations: Iterable[Declaration]) -> frozenset[str]:
     """Returns the words of declarations, those of a path apart."""
-    return frozenset(word for one in declarations for token in one.stated for word in token.text.split("."))
+    return frozenset(
+        word for declaration in declarations for token in declaration.stated for word in token.text.split(".")
+    )
 
 
 def members_in(declarations: Iterable[Declaration]) -> frozenset[str]:
     """Returns the members of types that declarations name."""
-    texts = (token.text for one in declarations for token in one.stated)
-    return frozenset(it.split(".")[-1] for it in texts if re.match(r"[A-Z]\w*\.", it))
+    texts = (token.text for declaration in declarations for token in declaration.stated)
+    return frozenset(text.split(".")[-1] for text in texts if re.match(r"[A-Z]\w*\.", text))
 
 
 def item_of(kind: str, name: str, file: File, about: str, declarations: Sequence[Declaration]) -> CodeItem:
     """Returns an item made of declarations of a file."""
-    cites = dict.fromkeys(key for one in declarations for key in file.cites(one.stated))
+    cites = dict.fromkeys(key for declaration in declarations for key in file.cites(declaration.stated))
     wanted = ("fn" if kind == "contract" else "struct", name)
     return CodeItem(
         kind=kind,
@@ -75,11 +77,13 @@ def item_of(kind: str, name: str, file: File, about: str, declarations: Sequence
         crate=file.crate,
         file=file.module.replace(".", "/"),
         about=about,
-        lines=sum(one.lines for one in declarations),
+        lines=sum(declaration.lines for declaration in declarations),
         cites=tuple(cites),
-        words=words_of(one for one in file.declarations if (one.kind, one.name) == wanted),
+        words=words_of(
+            declaration for declaration in file.declarations if (declaration.kind, declaration.name) == wanted
+        ),
         members=members_in(declarations),
-        sum=sources.sum_of(token.text for one in declarations for token in one.stated),
+        sum=sources.sum_of(token.text for declaration in declarations for token in declaration.stated),
     )
 
 
@@ -87,26 +91,28 @@ def of_impl(file: File, item: Declaration, types: Container[str], traits: Contai
     """Yields what an `impl` adds: a view of a type, or the members of a trait for a type."""
     trait, _, name = item.name.partition(" for ")
     # A member that a private lemma proves is a law of the trait, and says nothing more.
-    private = (it for it in file.imports if it.target and it.target.module.startswith("Private"))
-    laws = {it.name for it in private}
-    members = [it for it in item.inner if it.kind == "ghost" and not laws & words_of([it])]
+    private = (
+        imported for imported in file.imports if imported.target and imported.target.module.startswith("Private")
+    )
+    laws = {imported.name for imported in private}
+    members = [member for member in item.inner if member.kind == "ghost" and not laws & words_of([member])]
     if name not in types or not members:
         return
     if trait == "Model":
-        value = next(it for it in members if it.name == "Value").tokens
+        value = next(member for member in members if member.name == "Value").tokens
         shown = " ".join(file.text_of(value[4:-2]).split())
         yield item_of("view", name, file, f"what contracts see of `{name}`: `{shown}`", members)
     elif trait in traits:
-        names = ", ".join(f"`{it.name}`" for it in members)
+        names = ", ".join(f"`{member.name}`" for member in members)
         yield item_of("members", item.name, file, names, members)
 
 
 def code_items(code: Sequence[File]) -> Iterator[CodeItem]:
     """Yields the traits, types, views, members and constants of files of code, in their order."""
-    public = {file.crate: {it.name for it in file.passed_on} for file in code if file.module == "lib"}
+    public = {file.crate: {imported.name for imported in file.passed_on} for file in code if file.module == "lib"}
     all_public = set[str]().union(*public.values())
     for file in code:
-        types = public[file.crate] | {it.name for it in file.imports} & all_public
+        types = public[file.crate] | {imported.name for imported in file.imports} & all_public
         for item in file.declarations:
             if item.kind == "impl":
                 yield from of_impl(file, item, types, all_public)
@@ -118,7 +124,7 @@ def keys_of(cited: Iterable[Key]) -> Iterator[Name]:
     """Yields the types and constants of the code that cited names belong to."""
     for crate, _, module, name in cited:
         if module.startswith("declared"):
-            *parts, last = [it for it in module.split(".")[1:] if it != "TheVariants"]
+            *parts, last = [part for part in module.split(".")[1:] if part != "TheVariants"]
             yield crate, "/".join(parts), name if last == "TheConstants" else last
 
 
@@ -127,7 +133,7 @@ def keys_of(cited: Iterable[Key]) -> Iterator[Name]:
 
 def clauses_of(stated: Sequence[Token]) -> tuple[list[Token], dict[str, list[Token]]]:
     """Returns the head of a function, and its clauses by their names, which may be empty."""
-    head = list(itertools.takewhile(lambda it: it.kind != "Head", stated))
+    head = list(itertools.takewhile(lambda token: token.kind != "Head", stated))
     clauses: dict[str, list[Token]] = {}
     current: list[Token] = []
     for token, after in itertools.pairwise([*stated[len(head) :], stated[-1]]):
@@ -141,11 +147,11 @@ def contract_of(file: File, item: Declaration, names: Sequence[str] = ()) -> Cod
     """Returns the contract of a function of a file: its head and its clauses, or those of these names. Stops where it
     has no clause of a name."""
     head, clauses = clauses_of(item.stated)
-    if gone := [it for it in names if it not in clauses]:
+    if gone := [name for name in names if name not in clauses]:
         sys.exit(f"{item.name} in {file.path} has no clause {', '.join(gone)}")
     stated = item.stated
     if names:
-        stated = [*head, *(token for it in names for token in clauses[it])]
+        stated = [*head, *(token for name in names for token in clauses[name])]
     shown = dataclasses.replace(item, stated=stated)
     made = item_of("contract", item.name, file, item.about, [shown])
     return dataclasses.replace(made, words=words_of([shown]))
@@ -155,8 +161,8 @@ def contracts_in(file: File) -> Iterator[CodeItem]:
     """Yields the contracts of the functions of a file that a caller may call, those of traits for a type too."""
     for item in file.declarations:
         inside = item.inner if item.kind == "impl" else [item]
-        for one in inside:
-            is_called = one.is_public or " for " in item.name
-            if one.kind == "fn" and is_called and clauses_of(one.stated)[1]:
-                name = f"{item.name}::{one.name}" if item.inner else one.name
-                yield dataclasses.replace(contract_of(file, one), name=name)
+        for declaration in inside:
+            is_called = declaration.is_public or " for " in item.name
+            if declaration.kind == "fn" and is_called and clauses_of(declaration.stated)[1]:
+                name = f"{item.name}::{declaration.name}" if item.inner else declaration.name
+                yield dataclasses.replace(contract_of(file, declaration), name=name)

@@ -88,7 +88,7 @@ class Found:
     @property
     def holder(self) -> reader.Declaration:
         """The item at the top of the file that it is in, or it itself."""
-        return next(it for it in self.file.declarations if it is self.item or self.item in it.inner)
+        return next(item for item in self.file.declarations if item is self.item or self.item in item.inner)
 
     @property
     def trait(self) -> str:
@@ -115,19 +115,22 @@ def read_bodies(path: str) -> list[Body]:
         if key == "alone":
             alone.append(tuple(text.split()))
     text = f" {last['body']} " if last.get("body") else ""
-    is_whole = all(one.file and one.old for one in changes) and bool(text) != bool(changes)
+    is_whole = all(change.file and change.old for change in changes) and bool(text) != bool(changes)
     if not last.get("refused") or not is_whole:
         sys.exit(
             f"{path}: a wrong body has a line 'refused:', and a line 'body:', or a line 'file:' "
             "and pairs of 'old:' and 'new:'"
         )
     name = name.removesuffix(".edit")
-    one = Body(name, last["refused"], text, tuple(changes), kind == "right-bodies", last.get("clause", ""))
-    wrong = [dataclasses.replace(one, name=f"{name}:{it[-1]}", fields=it) for it in alone]
-    left = {it: (*it.fields[:-1], it.fields[-1].partition(".")[0]) for it in wrong}
-    right = [dataclasses.replace(it, name=f"{it.name}-less", is_right=True, fields=left[it]) for it in wrong]
+    body = Body(name, last["refused"], text, tuple(changes), kind == "right-bodies", last.get("clause", ""))
+    wrong = [dataclasses.replace(body, name=f"{name}:{fields[-1]}", fields=fields) for fields in alone]
+    left = {wrong_body: (*wrong_body.fields[:-1], wrong_body.fields[-1].partition(".")[0]) for wrong_body in wrong}
+    right = [
+        dataclasses.replace(wrong_body, name=f"{wrong_body.name}-less", is_right=True, fields=left[wrong_body])
+        for wrong_body in wrong
+    ]
     # Lines that differ only in the last field leave the same right body, which is tried once.
-    return [*wrong, *{it.fields: it for it in right}.values()] or [one]
+    return [*wrong, *{right_body.fields: right_body for right_body in right}.values()] or [body]
 
 
 def bodies_of(folder: str) -> list[Body]:
@@ -160,11 +163,11 @@ def ghost_text(text: str) -> str:
 def changed(texts: Mapping[str, str], body: Body, folder: str) -> dict[str, str] | None:
     """Returns the texts of files with the changes in them, or None where an old text is not in its file just once."""
     made = dict(texts)
-    for one in body.changes:
-        text = made.get(one.file) or file_at(folder, one.file).text
-        if text.count(one.old) != 1:
+    for change in body.changes:
+        text = made.get(change.file) or file_at(folder, change.file).text
+        if text.count(change.old) != 1:
             return None
-        made[one.file] = text.replace(one.old, one.new)
+        made[change.file] = text.replace(change.old, change.new)
     return made
 
 
@@ -198,7 +201,7 @@ class Block:
         """Returns the fields of a record that later ones speak of: values, and no statements."""
         fields = self.parts("") if self.is_record else {}
         later = [" ".join([*fields.values()][place + 1 :]) for place in range(len(fields))]
-        return {it for it, said in zip(fields, later) if re.search(rf"(?<![\w.]){it}\b", said)}
+        return {field for field, said in zip(fields, later) if re.search(rf"(?<![\w.]){field}\b", said)}
 
     def alone(self, kept: Mapping[str, Collection[str]]) -> str:
         """Returns it with these fields alone and the values that they speak of, or with these cases of a word: in the
@@ -207,7 +210,7 @@ class Block:
         if self.is_record:
             fields = self.parts("")
             wanted = {*kept.get(self.names[0], fields), *self.values()}
-            lines = [f"  pub {it} : {fields[it]}\n" for it in fields if it in wanted]
+            lines = [f"  pub {field} : {fields[field]}\n" for field in fields if field in wanted]
             return text.partition(" where\n")[0] + " where\n" + ("".join(lines) or "  pub nothing : Unit {0}\n")
         for name in {*self.names} & {*kept}:
             for number, case in self.parts(name).items():
@@ -232,8 +235,8 @@ def between(blocks: Mapping[str, Block], wanted: Collection[str], head: str) -> 
     def speaks(block: Block) -> bool:
         if block not in found:
             found[block] = False
-            cited = {blocks[it] for it in re.findall(r"\w+", block.text) if it in blocks} - {block}
-            is_found = any([speaks(it) for it in sorted(cited, key=lambda it: it.text)])
+            named = {blocks[word] for word in re.findall(r"\w+", block.text) if word in blocks} - {block}
+            is_found = any([speaks(other) for other in sorted(named, key=lambda other: other.text)])
             del found[block]
             found[block] = is_found or not {*wanted}.isdisjoint(block.names)
         return found[block]
@@ -248,23 +251,27 @@ def with_fields(fields: Sequence[str], ending: str, folder: str, head: str = "")
     """Returns a file of specs/ that has the words of these fields once more, with these alone, and those by which a
     head speaks of them; and the names that they have there. Stops where one is not there."""
     files = {path: sources.read(path) for path in sources.files_below(f"{folder}/specs", ".antt")}
-    blocks = {name: one for path, text in files.items() for name, one in blocks_in(text, path).items()}
+    blocks = {name: block for path, text in files.items() for name, block in blocks_in(text, path).items()}
     wanted = [name.partition(".")[::2] for name in fields]
-    gone = [f"{name}.{it}" for name, it in wanted if name not in blocks or it not in ("", *blocks[name].parts(name))]
+    gone = [
+        f"{name}.{field}"
+        for name, field in wanted
+        if name not in blocks or field not in ("", *blocks[name].parts(name))
+    ]
     if gone:
         sys.exit(f"{folder}/specs has no {gone[0]}")
-    kept = {name: {it for of, it in wanted if of == name} for name, _ in wanted}
+    kept = {name: {field for other, field in wanted if other == name} for name, _ in wanted}
     chosen = between(blocks, kept, head)
     names = {name: f"{name}_{ending}" for block in chosen for name in block.names}
     uses, texts = ["use Rattle.std.specs.Prelude.{⊤}"], list[str]()
     for block in chosen:
-        texts.append(re.sub(rf"\b({'|'.join(names)})\b", lambda it: names[it[1]], block.alone(kept)))
+        texts.append(re.sub(rf"\b({'|'.join(names)})\b", lambda found: names[found[1]], block.alone(kept)))
         for path, inner in re.findall(r"^use ([\w.]+)\.\{(.*?)\}", files[block.file], re.M | re.S):
-            uses += [f"use {path}.{{{it.strip()}}}" for it in inner.split(",")]
+            uses += [f"use {path}.{{{name.strip()}}}" for name in inner.split(",")]
         module = block.file[len(folder) + 1 : -len(".antt")].replace(os.sep, ".")
         here = {*blocks_in(files[block.file]), *re.findall(r"^pub data (\w+)", files[block.file], re.M)}
         cited = sorted(here & {*re.findall(r"\w+", texts[-1])} - {*block.names})
-        uses += [f"use Rattle.{os.path.basename(folder)}.{module}.{{{it}}}" for it in cited]
+        uses += [f"use Rattle.{os.path.basename(folder)}.{module}.{{{name}}}" for name in cited]
     return "\n".join([*dict.fromkeys(uses), "", *texts]), names
 
 
@@ -275,9 +282,10 @@ def function_in(file: reader.File, path: Sequence[str]) -> reader.Declaration | 
     """Returns the function of a path in a file: a free one, or one of an `impl`."""
     items = file.declarations
     for name in path[:-1]:
-        holders = [it for it in items if it.kind == "impl" and stand_ins.name_of_holder(it.name) == name]
-        items = [one for item in holders for one in item.inner]
-    return next((one for one in items if one.kind == "fn" and [one.name] == [*path[-1:]]), None)
+        holders = [item for item in items if item.kind == "impl" and stand_ins.name_of_holder(item.name) == name]
+        items = [item for holder in holders for item in holder.inner]
+    wanted = path[-1] if path else None
+    return next((item for item in items if item.kind == "fn" and item.name == wanted), None)
 
 
 def found_in(function: str, name: str, folder: str) -> Found | None:
@@ -293,8 +301,8 @@ def found_anywhere(function: str, folder: str) -> Found | None:
     """Returns the function of a path in the file of its module."""
     path = function.split("::")
     names = [f"src/{'/'.join(path[:length])}.rt" for length in range(len(path) - 1, 0, -1)]
-    there = [it for it in (*names, "src/lib.rt") if os.path.isfile(f"{folder}/{it}")]
-    return next((one for it in there if (one := found_in(function, it, folder))), None)
+    there = [name for name in (*names, "src/lib.rt") if os.path.isfile(f"{folder}/{name}")]
+    return next((found for name in there if (found := found_in(function, name, folder))), None)
 
 
 # ---- faults
@@ -302,10 +310,10 @@ def found_anywhere(function: str, folder: str) -> Found | None:
 
 def fault_of_changes(body: Body, folder: str) -> str:
     """Returns what is wrong with a body of changes, or nothing."""
-    for one in body.changes:
-        is_named = re.fullmatch(r"src/[\w/]+\.rt", one.file)
-        if not is_named or not os.path.isfile(f"{folder}/{one.file}"):
-            return f"it changes {one.file}, which is no file of src/"
+    for change in body.changes:
+        is_named = re.fullmatch(r"src/[\w/]+\.rt", change.file)
+        if not is_named or not os.path.isfile(f"{folder}/{change.file}"):
+            return f"it changes {change.file}, which is no file of src/"
     texts = changed({}, body, folder)
     if texts is None:
         return "an old: text is not in its file just once"
@@ -343,7 +351,7 @@ def clauses_of(item: reader.Declaration) -> dict[str, tuple[int, int]]:
     """Returns where the `ensures` clauses of a function begin and end in its file, by their names."""
     heads = [token for token in item.stated if token.kind in ("Head", "End")]
     places = [place for place, token in enumerate(heads) if token.text == "ensures"]
-    ends = [next(it.start + 1 for it in heads[place:] if it.kind == "End") for place in places]
+    ends = [next(token.start + 1 for token in heads[place:] if token.kind == "End") for place in places]
     return {heads[place + 1].text: (heads[place].start, end) for place, end in zip(places, ends)}
 
 
@@ -355,26 +363,27 @@ def copy_of(body: Body, ending: str, folder: str) -> Copy | None:
         return None
     if found.trait and not clauses_of(found.item):
         return None
-    file, one = found.file, found.item
-    begin, end = file.extent(one.tokens)
-    attributes = file.text[one.attributes[0].start : begin] if one.attributes else ""
-    head = re.sub(rf"\bfn {one.name}\b", f"fn {one.name}_{ending}", file.text[begin : found.block[0]], count=1)
-    for name, (start, last) in clauses_of(one).items():
+    file, item = found.file, found.item
+    begin, end = file.extent(item.tokens)
+    attributes = file.text[item.attributes[0].start : begin] if item.attributes else ""
+    head = re.sub(rf"\bfn {item.name}\b", f"fn {item.name}_{ending}", file.text[begin : found.block[0]], count=1)
+    for name, (start, last) in clauses_of(item).items():
         if body.clause not in ("", name):
             head = head.replace(file.text[start:last], "")
     specs, names = with_fields(body.fields, ending, folder, head) if body.fields else ("", {})
-    for name, other in names.items():
-        head = re.sub(rf"\b{name}\b", other, head)
-    margin = " " * one.tokens[0].column
+    for name, new_name in names.items():
+        head = re.sub(rf"\b{name}\b", new_name, head)
+    margin = " " * item.tokens[0].column
     text = f"{margin}{attributes}{head}{{{body.text}}}"
     path = f"{body.function}_{ending}"
     if found.trait:
-        opening = next(it for it in found.holder.tokens if (it.kind, it.text) == ("Code", "{"))
+        opening = next(token for token in found.holder.tokens if (token.kind, token.text) == ("Code", "{"))
         beginning = file.text[found.holder.tokens[0].start : opening.start]
         text = re.sub(rf"\b{found.trait}(<[^>]*>)? for ", "", beginning) + f"{{\n{text}\n}}"
         end, path = file.extent(found.holder.tokens)[1], path.replace(f"{found.trait}::", "::")
     renamed = dataclasses.replace(body, function=path)
-    return Copy(renamed, body.function, found.name, end, text, specs, tuple(it for it in names.values() if it in text))
+    taken = tuple(word for word in names.values() if word in text)
+    return Copy(renamed, body.function, found.name, end, text, specs, taken)
 
 
 def parameters_of(words: Sequence[str]) -> list[str]:
@@ -421,7 +430,7 @@ def copies_of(bodies: Sequence[Body], folder: str) -> list[Copy]:
     """Returns copies of functions with the bodies that are texts, and for each of these functions one that calls
     it."""
     texts = [body for body in bodies if body.text]
-    controls = (calling_itself(it, folder) for it in dict.fromkeys(body.function for body in texts))
+    controls = (calling_itself(function, folder) for function in dict.fromkeys(body.function for body in texts))
     copies = (copy_of(body, str(number), folder) for number, body in enumerate(texts))
     return [copy for copy in (*copies, *controls) if copy]
 
@@ -429,10 +438,10 @@ def copies_of(bodies: Sequence[Body], folder: str) -> list[Copy]:
 def with_copies(copies: Sequence[Copy], folder: str) -> dict[str, str]:
     """Returns the texts of the files with the copies in them, each after its function."""
     texts = {copy.file: file_at(folder, copy.file).text for copy in copies}
-    for copy in sorted(copies, key=lambda it: -it.end):
+    for copy in sorted(copies, key=lambda copy: -copy.end):
         text = texts[copy.file]
         texts[copy.file] = f"{text[:copy.end]}\n\n{copy.text}{text[copy.end:]}"
-    for number, copy in enumerate(it for it in copies if it.specs):
+    for number, copy in enumerate(copy for copy in copies if copy.specs):
         module, crate = f"Alone{number}", os.path.basename(folder)
         use = f"ghost use Rattle.{crate}.specs.{module}.{{{', '.join(copy.names)}}};\n"
         texts[copy.file] = re.sub(r"^(?!//!)", lambda _: use, texts[copy.file], count=1, flags=re.M)

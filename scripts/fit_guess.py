@@ -15,7 +15,8 @@ tools/labeltools/tables/weights.list, and the status is 1 if they differ; --writ
 
 --judge prints what the guess makes of each table that it does not get right at once, and the sums.
 --switch-off switches each fact and each weight off in turn, prints which verdicts change, and names those without
-which none does: they can go. It takes some minutes.
+which none does: they can go. For each other one it writes a table whose verdict changes into needed.txt, by which
+a test holds that none is needless. It takes some minutes.
 """
 
 import importlib

@@ -151,17 +151,22 @@ def run_all(steps: Sequence[str], kept: dict[str, str], writes: bool, pool: Thre
     begun: dict[str, Future[tuple[int, str, float, float]]] = {}
     for count, step in enumerate(steps, 1):
         beside = LAST if step in LAST else (WRONG,) * (step == PROOFS)
-        for one in (step, *(it for it in steps[count:] if it in beside)):
-            if one not in begun:
-                sources.write(path_of(one), "")
-                begun[one] = pool.submit(run, one, command_of(one, step == PROOFS))
+        following = (later for later in steps[count:] if later in beside)
+        for new in (step, *following):
+            if new not in begun:
+                sources.write(path_of(new), "")
+                begun[new] = pool.submit(run, new, command_of(new, step == PROOFS))
         status = judged(step, begun[step], kept, writes)
         failed += [step] if status else []
-        if status and step in NEEDED or failed and NEEDED.get(step):
+        itself_failed = status != 0 and step in NEEDED
+        needs_all = NEEDED.get(step, False)
+        if itself_failed or failed and needs_all:
             break
     print(f"{processor_seconds() / 60:.1f} processor minutes")
     print(f"{max(count - len(failed), 0)} passed, {len(failed)} failed")
-    return (status or 1 if step == PROOFS else 1) if failed else 0
+    if not failed:
+        return 0
+    return status or 1 if step == PROOFS else 1
 
 
 def main() -> int:

@@ -262,9 +262,10 @@ def see_picture(label: Label, theirs: str) -> None:
 def cells_of_call(call: str, name: str) -> list[Callable[[], Cell]]:
     """What counts the cells of a call of our library for a label: instructions, then times, each beside those of other
     libraries if it is compared with them."""
-    calls, label = [call, *(LIBRARIES.values() if call == COMPARED_CALL else ())], OF_LIBRARY[name]
-    counts: list[Callable[[], Cell]] = [partial(of_call, one, label) for one in calls]
-    return [*counts, *(partial(time_of_call, one, label) for one in calls)]
+    others = LIBRARIES.values() if call == COMPARED_CALL else ()
+    calls, label = [call, *others], OF_LIBRARY[name]
+    counts: list[Callable[[], Cell]] = [partial(of_call, library_call, label) for library_call in calls]
+    return [*counts, *(partial(time_of_call, library_call, label) for library_call in calls)]
 
 
 def tables() -> Iterator[tuple[list[str], Rows]]:
@@ -350,7 +351,8 @@ def faults(made: Sequence[Table], page: str) -> list[str]:
         for _, of_table in made
         for name, counts in of_table.items()
     ]
-    ours, theirs = ([*map(shape_of, it)] for it in (rows_of(text_of(made)), rows))
+    ours = [*map(shape_of, rows_of(text_of(made)))]
+    theirs = [*map(shape_of, rows)]
     differing = [line for line in difflib.ndiff(theirs, ours) if line[0] in "+-"]
     found += [f"the page (-) has other rows than are printed (+): {line}" for line in differing]
     return [*filter(None, found)]
@@ -366,7 +368,7 @@ def wrong_cases() -> Iterator[tuple[str, bool]]:
         cases: dict[str, Table] = {
             f"{name}, {count}": (head, {**rows, name: [count]}) for name in rows for count in (940, 1060)
         }
-        cases |= {f"no {name}": (head, {it: rows[it] for it in rows if it != name}) for name in rows}
+        cases |= {f"no {name}": (head, {other: rows[other] for other in rows if other != name}) for name in rows}
         cases["a cell less"] = head[:2], rows
         cases["nothing counted"] = head, {**rows, "two": [None]}
         for name, wrong in cases.items():

@@ -54,7 +54,7 @@ class Copy:
 def with_imports(text: str, new: str) -> str:
     """Returns the text of a file of specs that brings in a new word."""
     name = f"◌{new}◌" if new in SIGNS.values() else new
-    module = next((it for it, words in MODULES.items() if name in words.split()), None)
+    module = next((path for path, words in MODULES.items() if name in words.split()), None)
     is_there = re.search(rf"^use [^\n]*[{{ ]{re.escape(name)}[,}}]", text, re.M)
     if is_there or module is None:
         return text
@@ -73,28 +73,29 @@ def put_copy(room: str, copy: Copy, number: int) -> None:
 
     def reached(text: str) -> set[str]:
         """The files of specs/ that a text brings in, and those that these bring in."""
-        found = reader.reach(named_in(text), lambda it: named_in(texts.get(it, "")))
+        found = reader.reach(named_in(text), lambda module: named_in(texts.get(module, "")))
         return {*found} & {*texts}
 
-    between = {it for it in reached(examples) if changed in reached(texts[it])} | {changed}
-    new = {it: texts[it] for it in between}
+    between = {module for module in reached(examples) if changed in reached(texts[module])} | {changed}
+    new = {module: texts[module] for module in between}
     new |= {changed: with_imports(change.text(), change.new), copy.file.module: examples}
-    for one, text in new.items():
+    for module, text in new.items():
         for other in between:
             text = re.sub(rf"{own}\.{other}\b", f"Rattle.judge.proofs.V{number}.{other}", text)
-        sources.write(f"{room}/proofs/V{number}/{one}.antt", text)
-    sources.write(f"{room}/proofs/V{number}.antt", "".join(f"pub mod {it}\n" for it in new))
+        sources.write(f"{room}/proofs/V{number}/{module}.antt", text)
+    sources.write(f"{room}/proofs/V{number}.antt", "".join(f"pub mod {module}\n" for module in new))
 
 
 def errors_in(rtlib: Any, words: Sequence[str], copies: Sequence[Copy]) -> dict[int, list[tuple[str, str]]]:
     """Checks copies, and returns the errors of each by its number: the file, and the worked value or else what the
     error says."""
     with tempfile.TemporaryDirectory(prefix="believed-rows-") as room:
+        modules = "pub mod Differ\n"
         for number, copy in enumerate(copies):
             put_copy(room, copy, number)
+            modules += f"mod V{number}\n"
         sources.write(f"{room}/proofs/Differ.antt", DIFFER)
-        modules = "".join(f"mod V{it}\n" for it in range(len(copies)))
-        sources.write(f"{room}/proofs/Lib.antt", f"pub mod Differ\n{modules}")
+        sources.write(f"{room}/proofs/Lib.antt", modules)
         said = libraries.check(rtlib, room, words)
     if not re.search(r"^logic=", said, re.M):
         sys.exit("a check of copies did not reach its end:\n" + said[:2000])
@@ -110,20 +111,21 @@ def words_for(rtlib: Any, crates: Sequence[Any], as_left: bool) -> list[str]:
     the words of a check of a crate above them."""
     for crate in crates:
         with open(os.devnull, "w", encoding="utf-8") as nowhere:
-            for one in [*crate.below(), crate]:
-                one.out = nowhere
-            if not_proved := libraries.build([*crate.below(), crate], as_left):
+            needed = [*crate.below(), crate]
+            for built in needed:
+                built.out = nowhere
+            if not_proved := libraries.build(needed, as_left):
                 sys.exit(f"{not_proved} is not proved: run rt check in its folder")
     return libraries.words_above(rtlib, crates)
 
 
 def as_they_are(copies: Sequence[Copy]) -> Iterator[Copy]:
     """Yields for each file a copy of the worked values that are to judge, with no change."""
-    for title in dict.fromkeys(it.title for it in copies):
-        here = [it for it in copies if it.title == title]
+    for title in dict.fromkeys(copy.title for copy in copies):
+        here = [copy for copy in copies if copy.title == title]
         first = here[0].change
         no_change = Change(first.definition, first.file, 0, "", "")
-        values = frozenset().union(*(it.values for it in here))
+        values = frozenset().union(*(copy.values for copy in here))
         yield Copy(no_change, here[0].crate, here[0].file, values)
 
 
@@ -137,12 +139,12 @@ def judge_copies(rtlib: Any, words: Sequence[str], copies: Sequence[Copy]) -> li
         if number in errors:
             value = errors[number][0][1]
             sys.exit(f"{control.title}: {value} fails in a copy: it rests on proofs of its crate")
-    refused = [(it, errors[number]) for number, it in enumerate(copies) if number in errors]
-    for copy, of_one in refused:
+    refused = [(copy, errors[number]) for number, copy in enumerate(copies) if number in errors]
+    for copy, found in refused:
         # Where the changed definition itself is refused, it is none.
-        is_value = all(where == copy.file.module for where, _ in of_one)
-        copy.change.by = copy.change.by or (of_one[0][1] if is_value else NO_DEFINITION)
-    return [it for it, _ in refused]
+        is_value = all(where == copy.file.module for where, _ in found)
+        copy.change.by = copy.change.by or (found[0][1] if is_value else NO_DEFINITION)
+    return [copy for copy, _ in refused]
 
 
 def copies_of(change: Change, crate: Crate, values: dict[str, list[str]] | None) -> Iterator[Copy]:
@@ -167,16 +169,16 @@ def judge(
     the changes of a file, by its title. One check has changes of all crates, each with its first file. Those that are
     left are judged by the next, or by all where they are few."""
     rtlib = libraries.kit()
-    homes = {HOME.get(it.file.crate, it.file.crate) for it in changes}
-    words = words_for(rtlib, [it for it in rtlib.crates_below(top) if it.name in homes], as_left)
-    waiting = [[*copies_of(it, crates[it.file.crate], values)] for it in changes if not it.by]
-    while waiting := [it for it in waiting if it and not it[0].change.by]:
+    homes = {HOME.get(change.file.crate, change.file.crate) for change in changes}
+    words = words_for(rtlib, [crate for crate in rtlib.crates_below(top) if crate.name in homes], as_left)
+    waiting = [[*copies_of(change, crates[change.file.crate], values)] for change in changes if not change.by]
+    while waiting := [copies for copies in waiting if copies and not copies[0].change.by]:
         size = max(map(len, waiting)) if len(waiting) <= FEW else 1
-        now = [copy for it in waiting for copy in it[:size]]
-        waiting = [it[size:] for it in waiting]
-        for at in range(0, len(now), AT_ONCE):
-            part = now[at : at + AT_ONCE]
-            refused = [it.title for it in judge_copies(rtlib, words, part)]
-            for title in dict.fromkeys(it.title for it in part):
-                count = sum(it.title == title for it in part)
+        now = [copy for copies in waiting for copy in copies[:size]]
+        waiting = [copies[size:] for copies in waiting]
+        for first in range(0, len(now), AT_ONCE):
+            part = now[first : first + AT_ONCE]
+            refused = [copy.title for copy in judge_copies(rtlib, words, part)]
+            for title in dict.fromkeys(copy.title for copy in part):
+                count = sum(copy.title == title for copy in part)
                 print(f"{title}: {refused.count(title)} of {count} refused", flush=True)

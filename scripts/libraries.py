@@ -38,7 +38,9 @@ def kit() -> Any:
 def are_left_by_ci(crates: Sequence[Any]) -> bool:
     """Whether `rt ci` built all of these libraries. It leaves them without the stamp by which `rt` would know them;
     those of an earlier session, which it puts back in their place, have one."""
-    return all(os.path.isdir(it.rlib) and not os.path.isfile(f"{os.path.dirname(it.rlib)}/stamp") for it in crates)
+    return all(
+        os.path.isdir(crate.rlib) and not os.path.isfile(f"{os.path.dirname(crate.rlib)}/stamp") for crate in crates
+    )
 
 
 def build(crates: Sequence[Any], as_left: bool) -> str:
@@ -46,9 +48,9 @@ def build(crates: Sequence[Any], as_left: bool) -> str:
     as they are, where `rt` would prove them again. Returns the name of one that is not proved, or nothing."""
     if as_left and are_left_by_ci(crates):
         return ""
-    for it in crates:
-        if it.build_rlib(["--jobs", "1"], anew=False):
-            return str(it.name)
+    for crate in crates:
+        if crate.build_rlib(["--jobs", "1"], anew=False):
+            return str(crate.name)
     return ""
 
 
@@ -58,10 +60,10 @@ def words_above(rtlib: Any, crates: Sequence[Any], top: str = "") -> list[str]:
     found = [("--extern", f"core={rtlib.KIT}/rlibs/core.rlib")] if top else []
     for crate in crates:
         words = crate.words(["--jobs", "1"], keeps=False)
-        uses = ",".join(["core", *crate.of_kit, *(it.name for it in crate.deps)])
+        uses = ",".join(["core", *crate.of_kit, *(other.name for other in crate.deps)])
         root = f"{top}/crates/{crate.name}/{words[2]}"
         found += [("--lib", f"{crate.name}:{uses}={root}") if top else ("--extern", f"{crate.name}={crate.rlib}")]
-        found += [it for it in zip(words, words[1:]) if it[0] in ("--extern", "-L")]
+        found += [pair for pair in zip(words, words[1:]) if pair[0] in ("--extern", "-L")]
     first, links = words.index("--antt-project"), words.index("--links")
     places = [word for place in dict.fromkeys(found) for word in place]
     return ["--crate-name", ABOVE, "src/lib.rt", *places, *words[first:links], "--jobs", "1"]

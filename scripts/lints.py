@@ -109,8 +109,8 @@ def faults_of_layout(text: str, width: int) -> Iterator[str]:
 
 def faults_of_style(path: str, tree: ast.Module, text: str, width: int) -> Iterator[str]:
     """What pyflakes and pycodestyle find in a text."""
-    for it in pyflakes.checker.Checker(tree, path).messages:
-        yield f"{it.lineno}: {type(it).__name__}: {it.message % it.message_args}"
+    for message in pyflakes.checker.Checker(tree, path).messages:
+        yield f"{message.lineno}: {type(message).__name__}: {message.message % message.message_args}"
     given: dict[str, Any] = {"select": "", "ignore": OF_BLACK.split(","), "max_line_length": width}
     style = pycodestyle.StyleGuide(**given, max_doc_length=None, indent_size=4, hang_closing=False)
     checker = pycodestyle.Checker("", text.splitlines(True), style.options)
@@ -128,7 +128,7 @@ def faults_of_size(tree: ast.Module, is_module: bool) -> Iterator[str]:
             count = sum(isinstance(node, ast.stmt) for node in ast.walk(function)) - 1
             count -= ast.get_docstring(function) is not None
             lines = (function.end_lineno or 0) - function.lineno + 1
-            takes = [it.arg for it in ast.walk(function.args) if isinstance(it, ast.arg) and it.arg != "self"]
+            takes = [node.arg for node in ast.walk(function.args) if isinstance(node, ast.arg) and node.arg != "self"]
             counts = {"statements": (count, MOST_STATEMENTS)}
             if is_module:
                 counts |= {"lines": (lines, MOST_LINES), "parameters": (len(takes), MOST_PARAMETERS)}
@@ -149,10 +149,11 @@ def disordered(tree: ast.Module) -> Iterator[int]:
     before, end = (True, ""), -1
     for node in tree.body:
         if isinstance(node, (ast.Import, ast.ImportFrom)):
-            names = [one.name.casefold() for one in node.names]
+            names = [alias.name.casefold() for alias in node.names]
             is_from = isinstance(node, ast.ImportFrom)
             place = (is_from, str(node.module).casefold() if isinstance(node, ast.ImportFrom) else names[0])
-            if names != sorted(names) or node.lineno == end + 1 and place <= before:
+            is_behind = node.lineno == end + 1 and place <= before
+            if is_behind or names != sorted(names):
                 yield node.lineno
             before, end = place, node.end_lineno or 0
 
@@ -178,7 +179,7 @@ def faults_of_python(path: str, text: str) -> Iterator[str]:
 def unseen_in_python() -> Iterator[str]:
     """What is not found in wrong texts."""
     said = "".join(faults_of_python(f"{PACKAGE}wrong.py", WRONG))
-    yield from (f"in a wrong text of Python nothing finds {it}" for it in FINDS if it not in said)
+    yield from (f"in a wrong text of Python nothing finds {fault}" for fault in FINDS if fault not in said)
     if len([*disordered(ast.parse(WRONG_ORDER))]) != 3:
         yield "imports that are out of order are not found"
     if len([*faults_of_names(WRONG_MODULES)]) != 2:
@@ -219,7 +220,7 @@ class Program(Lint):
         command, *words = *self.limits.split(), *self.files, wrong
         said = "".join(mypy.api.run(words)[:2]) if command == "mypy" else sources.run([command, *words])[1]
         of_wrong = "\n".join(line for line in said.splitlines() if wrong in line)
-        unseen = [it for it in self.finds if not of_wrong or it not in of_wrong]
+        unseen = [fault for fault in self.finds if not of_wrong or fault not in of_wrong]
         if unseen or not self.files:
             said += f"{self.limits} {'finds nothing in a wrong file' if unseen else 'reads no file'}: {unseen}"
         return [line for line in said.splitlines() if wrong not in line]
@@ -251,7 +252,7 @@ def defined_in(text: str) -> frozenset[str]:
         if isinstance(node, (ast.ClassDef, ast.FunctionDef)):
             names.add(node.name)
         elif isinstance(node, ast.Assign):
-            names |= {it.id for it in node.targets if isinstance(it, ast.Name) and TYPE.match(it.id)}
+            names |= {target.id for target in node.targets if isinstance(target, ast.Name) and TYPE.match(target.id)}
     return frozenset(name for name in names if not name.startswith("_")) - {ENTRY}
 
 
@@ -302,7 +303,10 @@ def all_lints(files: Mapping[str, Sequence[str]]) -> list[Lint]:
     beside = [SETTINGS, *sources.files_below("lib/python", ".py")]
     return [
         *(Lint(limits, [path], [__file__]) for path in files["python"]),
-        *(Program(TYPES, below(it, files["python"]), beside, "wrong.py", UNTYPED, FINDS_TYPES) for it in TYPED),
+        *(
+            Program(TYPES, below(folders, files["python"]), beside, "wrong.py", UNTYPED, FINDS_TYPES)
+            for folders in TYPED
+        ),
         Program(SHELL, files["shell"], [], "wrong.sh", "#!/bin/sh\nrm $1\n"),
         Program(f"{SHELL} --shell=bash", files["completion"], [], "wrong.bash", "rm $1\n"),
         Program("mandoc -Tlint -W warning", files["manual"], [], "wrong.1", ".TH WRONG 1\n.SH NAME\n.XX\n"),
@@ -313,8 +317,8 @@ def judged(lints: Mapping[str, Lint]) -> dict[str, list[str]]:
     """What lints find, by their sums, in forks of this process: some at a time, but the programs one after the other,
     since mypy keeps for the next run what it has read of the modules that all use. Looking for what can be freed would
     take a third of the time."""
-    programs = {it: lint for it, lint in lints.items() if isinstance(lint, Program)}
-    others = {it: lint for it, lint in lints.items() if it not in programs}
+    programs = {total: lint for total, lint in lints.items() if isinstance(lint, Program)}
+    others = {total: lint for total, lint in lints.items() if total not in programs}
     count = min(len(os.sched_getaffinity(0)), len(lints))
     with ProcessPoolExecutor(count or 1, initializer=gc.disable) as pool:
         of_programs = pool.map(methodcaller("faults"), programs.values(), chunksize=len(programs) or 1)
@@ -333,9 +337,9 @@ def main() -> int:
         faults += [f"{path}:{fault}" for fault in faults_of_remarks(sources.read(path))]
     before = sources.read(KEPT).split() if os.path.exists(KEPT) else []
     lints = {lint.sum(): lint for lint in all_lints(files)}
-    found = judged({it: lint for it, lint in lints.items() if it not in before})
-    sources.write(KEPT, "".join(f"{it}\n" for it in lints if not found.get(it)))
-    faults += [fault for of_one in found.values() for fault in of_one]
+    found = judged({total: lint for total, lint in lints.items() if total not in before})
+    sources.write(KEPT, "".join(f"{total}\n" for total in lints if not found.get(total)))
+    faults += [fault for of_lint in found.values() for fault in of_lint]
     limits = dict.fromkeys(lint.limits for lint in lints.values())
     last = f"{len(limits)} lints with the limits {sources.sum_of([*limits, str(LONGEST), sources.read(SETTINGS)])}"
     return sources.ended(faults, f"{last}, {len(faults)} faults")

@@ -48,8 +48,8 @@ def kinds_of(labels: Iterable[Label]) -> str:
     found: Counter[str] = Counter()
     for label in labels:
         symbology, *settings = label.head.split(",")
-        kinds = [symbology, *(it for it in settings if not it.startswith("height="))]
-        found.update(it.replace("min-version=", "version ").replace("=", " ") for it in kinds)
+        kinds = [symbology, *(setting for setting in settings if not setting.startswith("height="))]
+        found.update(kind.replace("min-version=", "version ").replace("=", " ") for kind in kinds)
     return ", ".join(f"{found[kind]} {kind}" for kind in sorted(found))
 
 

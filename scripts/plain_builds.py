@@ -62,7 +62,7 @@ def fault_of_make() -> str:
 
 def main() -> int:
     sources.parser_of(__doc__).parse_args()
-    crates = {it.name: it for it in libraries.kit().crates_below(sources.TOP)}
+    crates = {crate.name: crate for crate in libraries.kit().crates_below(sources.TOP)}
     program, library = crates["labels"], crates["labels_c"]
     not_proved = libraries.build([*dict.fromkeys([*program.below(), *library.below()])], as_left=True)
     if not_proved:

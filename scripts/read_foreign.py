@@ -177,7 +177,7 @@ def scaled(symbols: list[Symbol]) -> Iterator[tuple[Symbol, int]]:
 def readings(symbols: list[Symbol]) -> list[bytes | None]:
     """What each of the symbols is read as; nothing of another symbology or scale."""
     read = sources.library().read
-    return [read(one.symbology, one.dots(scale) != 0, scale) for one, scale in scaled(symbols)]
+    return [read(symbol.symbology, symbol.dots(scale) != 0, scale) for symbol, scale in scaled(symbols)]
 
 
 def faults(symbols: list[Symbol], are_damaged: bool) -> list[str]:
@@ -203,11 +203,13 @@ def main() -> int:
     symbols = all_symbols()
     turned = [*damaged(symbols, 450)]
     wrong, torn = faults(symbols, False), faults(turned, True)
-    one_of_each = {it.symbology: it for it in symbols}.values()
-    cases = [case for one in one_of_each for case in wrong_cases(one)]
+    one_of_each = {symbol.symbology: symbol for symbol in symbols}.values()
+    cases = [case for symbol in one_of_each for case in wrong_cases(symbol)]
     nothing = readings(turned).count(None)
     last = f"{len(symbols)} symbols: {len(symbols) - len(wrong)} read as asked; {len(turned)} damaged: "
-    looked_at = (part for one, scale in scaled([*symbols, *turned]) for part in (one.data, one.dots(scale).tobytes()))
+    looked_at = (
+        part for symbol, scale in scaled([*symbols, *turned]) for part in (symbol.data, symbol.dots(scale).tobytes())
+    )
     last += f"{len(turned) - len(torn) - nothing} data, {nothing} nothing; sum {sources.sum_of(looked_at)}"
     return sources.ended([*wrong, *torn], last, cases)
 

@@ -60,7 +60,7 @@ KINDS = {"fn", "struct", "enum", "trait", "impl", "mod", "const", "ghost", "use"
 # among their hundreds of thousands of words for what can be freed would take a third of the time.
 FILES_READ: dict[tuple[str, str], "File"] = {}
 gc.disable()
-One = TypeVar("One", bound=Hashable)
+Node = TypeVar("Node", bound=Hashable)
 RELATIONS = {"≡", "≢", "≤", "<", "↔"}
 
 
@@ -161,10 +161,10 @@ class File:
     def targets(self) -> dict[str, list[Key]]:
         """What the names of the file itself, and those that it imports of the logic, stand for."""
         targets: dict[str, list[Key]] = {}
-        for one in self.imports:
-            if one.target:
-                targets.setdefault(one.name, []).append(one.target)
-        return targets | {name: [one.key] for name, one in self.of_name.items()}
+        for imported in self.imports:
+            if imported.target:
+                targets.setdefault(imported.name, []).append(imported.target)
+        return targets | {name: [declaration.key] for name, declaration in self.of_name.items()}
 
     @functools.cached_property
     def operators(self) -> list[str]:
@@ -184,9 +184,9 @@ class File:
                 yield from self.targets[name]
 
     @functools.cache
-    def cited_by(self, one: Declaration) -> Sequence[Key]:
+    def cited_by(self, declaration: Declaration) -> Sequence[Key]:
         """What a declaration of the file cites."""
-        return [*self.cites(one.tokens)]
+        return [*self.cites(declaration.tokens)]
 
     # ---- the logic
 
@@ -199,9 +199,9 @@ class File:
             modifiers = list(itertools.takewhile(MODIFIERS.__contains__, words))
             name = words[len(modifiers)] if len(words) > len(modifiers) else ""
             if words[:2] == ["pub", "use"]:
-                self.passed_on += imported(statement[2:], self.place(statement[0]))
+                self.passed_on += brought_in(statement[2:], self.place(statement[0]))
             if words[0] == "use":
-                self.imports += imported(statement[1:], self.place(statement[0]))
+                self.imports += brought_in(statement[1:], self.place(statement[0]))
             elif name in ("module", "mutual"):
                 inner = words.index("where") + 1 if name == "module" else len(modifiers) + 1
                 self.rest += statement[:inner]
@@ -221,17 +221,17 @@ class File:
                     current.statements.append(statement[len(modifiers) :])
 
     def declare(self, name: str, modifiers: list[str], before: list[Token], statement: list[Token]) -> Declaration:
-        kind = next((it for it in ("data", "record", "ruleset") if it in modifiers), "definition")
+        kind = next((word for word in ("data", "record", "ruleset") if word in modifiers), "definition")
         place, about = self.place(statement[0]), self.about(statement[0], "--", "infix")
         tokens = [*before, *statement]
-        one = Declaration(kind, self.key(name), place, "pub" in modifiers, about, tokens, tokens)
-        self.declarations.append(one)
-        self.of_name[name] = one
+        declaration = Declaration(kind, self.key(name), place, "pub" in modifiers, about, tokens, tokens)
+        self.declarations.append(declaration)
+        self.of_name[name] = declaration
         if kind == "data":
-            after = itertools.dropwhile(lambda it: it.text != "where", tokens)
+            after = itertools.dropwhile(lambda token: token.text != "where", tokens)
             constructors = statements(list(after)[1:])
-            self.of_name.update({part[0].text: one for part in constructors})
-        return one
+            self.of_name.update({constructor[0].text: declaration for constructor in constructors})
+        return declaration
 
     # ---- the code
 
@@ -245,35 +245,39 @@ class File:
             words = [token.text for token in statement]
             pairs = zip(words, [*words[1:], ""])
             kinds = [
-                it for it, after in pairs if it in KINDS and (it, after) not in (("const", "fn"), ("ghost", "use"))
+                word
+                for word, after in pairs
+                if word in KINDS and (word, after) not in (("const", "fn"), ("ghost", "use"))
             ]
             if kinds:
                 yield self.item(kinds[0], statement, attributes)
             attributes = []
 
     def item(self, kind: str, tokens: list[Token], attributes: list[Token]) -> Declaration:
-        braces = [at for at, token in enumerate(tokens) if (token.kind, token.text) == ("Code", "{")]
+        braces = [place for place, token in enumerate(tokens) if (token.kind, token.text) == ("Code", "{")]
         body = braces[0] if braces else len(tokens)
         key = self.key(name_of_item(kind, [token.text for token in tokens[:body]]))
         is_public = tokens[0].text == "pub" and tokens[1].text != "("
         about = self.about(tokens[0], "///", "#[")
-        one = Declaration(kind, key, self.place(tokens[0]), is_public, about, tokens, tokens, attributes)
+        item = Declaration(kind, key, self.place(tokens[0]), is_public, about, tokens, tokens, attributes)
         if kind == "fn":
-            one.stated = tokens[:body]
+            item.stated = tokens[:body]
         if kind in ("trait", "impl", "mod"):
-            one.inner = list(self.items(tokens[body + 1 : -1]))
-            bodies = {token for it in one.inner if it.kind == "fn" for token in it.tokens[len(it.stated) :]}
-            one.stated = [token for token in tokens if token not in bodies]
-        return one
+            item.inner = list(self.items(tokens[body + 1 : -1]))
+            bodies = {
+                token for member in item.inner if member.kind == "fn" for token in member.tokens[len(member.stated) :]
+            }
+            item.stated = [token for token in tokens if token not in bodies]
+        return item
 
     def imports_in(self, item: Declaration) -> Iterator[Import]:
         """The names that an item at the top brings in, or that lines in it bring in for it."""
         scope = self.tokens if item.kind == "use" else item.tokens
-        for at, token in enumerate(item.tokens):
+        for place, token in enumerate(item.tokens):
             if token.text == "use" and token.kind in ("Code", "Head"):
-                line = itertools.takewhile(lambda it: it.text != ";", item.tokens[at + 1 :])
-                for one in imported(line, self.place(token)):
-                    yield one._replace(is_ghost=token.kind == "Head", scope=scope)
+                line = itertools.takewhile(lambda other: other.text != ";", item.tokens[place + 1 :])
+                for imported in brought_in(line, self.place(token)):
+                    yield imported._replace(is_ghost=token.kind == "Head", scope=scope)
 
 
 def statements(tokens: Sequence[Token]) -> list[list[Token]]:
@@ -293,13 +297,14 @@ def is_signature(statement: Sequence[Token]) -> bool:
     return next((token.text for token in statement if token.text in (":", "=")), "") == ":"
 
 
-def imported(tokens: Iterable[Token], place: str) -> Iterator[Import]:
+def brought_in(tokens: Iterable[Token], place: str) -> Iterator[Import]:
     """The names that an import brings in, each with what it names, if it is one of ours: a name of a file, or the file
     as a whole."""
     words = [token.text for token in tokens]
-    for at, word in enumerate(words):
-        if words[at + 1 : at + 2] in ([], [","], ["}"]) and word not in (",", "}", "self", "*"):
-            name = words[at - 2] if words[at - 1] == "as" else word
+    for number, word in enumerate(words):
+        is_end = words[number + 1 : number + 2] in ([], [","], ["}"])
+        if is_end and word not in (",", "}", "self", "*"):
+            name = words[number - 2] if words[number - 1] == "as" else word
             file, inside = (words[0], name) if words[1:2] == ["."] else (name, "")
             of_ours = re.fullmatch(r"Rattle\.(\w+)\.(specs|proofs)\.([\w.+-]+)", file)
             target = Key(of_ours[1], of_ours[2], of_ours[3], inside) if of_ours else None
@@ -313,7 +318,7 @@ def name_of_item(kind: str, words: list[str]) -> str:
         return after[0]
     depth = 0
     kept: list[str] = []
-    for word in itertools.takewhile(lambda it: it != "where", after):
+    for word in itertools.takewhile(lambda other: other != "where", after):
         depth += {"<": 1, ">": -1}.get(word, 0)
         if depth == 0 and word.isidentifier():
             kept.append(word)
@@ -391,12 +396,12 @@ def is_named_in(name: str, names: set[str]) -> bool:
     return all(part in names for part in name.split("◌") if part)
 
 
-def reach(roots: Iterable[One], next_of: Callable[[One], Iterable[One]]) -> list[One]:
+def reach(roots: Iterable[Node], next_of: Callable[[Node], Iterable[Node]]) -> list[Node]:
     """All that roots lead to, step by step, in the order of a walk in breadth."""
     found = dict.fromkeys(roots)
     waiting = list(found)
-    for one in waiting:
-        new = [it for it in dict.fromkeys(next_of(one)) if it not in found]
+    for node in waiting:
+        new = [reached for reached in dict.fromkeys(next_of(node)) if reached not in found]
         found.update(dict.fromkeys(new))
         waiting += new
     return waiting
@@ -417,9 +422,9 @@ def without_uses(tokens: Iterable[Token]) -> Iterator[Token]:
 
 def attributes_in(tokens: Sequence[Token]) -> Iterator[list[Token]]:
     """The tokens of attributes of code, each attribute by itself."""
-    for at, token in enumerate(tokens):
+    for place, token in enumerate(tokens):
         if (token.kind, token.text) == ("Code", "#"):
-            yield list(itertools.takewhile(lambda it: it.text != "]", tokens[at:]))
+            yield list(itertools.takewhile(lambda other: other.text != "]", tokens[place:]))
 
 
 def ghost_tokens(tokens: Sequence[Token], kinds: Sequence[str] = ("Antt", "Text")) -> list[Token]:

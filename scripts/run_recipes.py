@@ -179,8 +179,8 @@ def faults_of(name: str, commands: Sequence[Commands], program: Path) -> Iterato
     with tempfile.TemporaryDirectory() as folder:
         work = Path(folder, "labels")
         environment = prepare(Path(folder), program)
-        for one in commands:
-            yield one.fault(work, environment)
+        for block in commands:
+            yield block.fault(work, environment)
         if name == PICTURED:
             yield DRAWN.fault(work, environment)
             for picture in sorted(PICTURES.iterdir()):
@@ -222,13 +222,13 @@ def faults_of_wrong_pages(folder: Path) -> Iterator[tuple[str, str]]:
         page = folder / name
         page.write_text(text, encoding="utf-8")
         commands = examples_of(page) if name == "wrong.1" else commands_of(f"{page}")
-        first, *_, last = [one.fault(folder, {"PATH": os.defpath}) for one in commands]
+        first, *_, last = [block.fault(folder, {"PATH": os.defpath}) for block in commands]
         yield what, "" if first else last
 
 
 def wrong_cases() -> Iterator[tuple[str, bool]]:
     """Wrong cases before, between and behind right ones, each with whether it is reported alone."""
-    one, another = sorted(PICTURES.glob("*.png"))[:2]
+    picture, another = sorted(PICTURES.glob("*.png"))[:2]
     right = Commands("echo right\n", "right\n")
     with tempfile.TemporaryDirectory() as name:
         folder = Path(name)
@@ -238,9 +238,9 @@ def wrong_cases() -> Iterator[tuple[str, bool]]:
             "no output": replace(right, text="true\n").fault(folder, {}),
             "a failure": replace(right, text="echo right; false").fault(folder, {}),
             "output of another command": session_of(["$ true\n", "right\n", "$ echo right\n"]).fault(folder, {}),
-            "another picture": fault_of_picture(one, another),
-            "another pixel": fault_of_picture(one, with_turned_pixel(one, folder)),
-            "no picture": fault_of_picture(one, folder / one.name),
+            "another picture": fault_of_picture(picture, another),
+            "another pixel": fault_of_picture(picture, with_turned_pixel(picture, folder)),
+            "no picture": fault_of_picture(picture, folder / picture.name),
             **dict(faults_of_wrong_pages(folder)),
         }
     for name, fault in cases.items():

@@ -76,7 +76,7 @@ def tests_in(suite: unittest.TestSuite) -> Iterator[Any]:
 
 def parts_of(suite: unittest.TestSuite) -> list[unittest.TestSuite]:
     """The tests of each file."""
-    of_files = itertools.groupby(tests_in(suite), lambda it: type(it).__module__)
+    of_files = itertools.groupby(tests_in(suite), lambda test: type(test).__module__)
     return [unittest.TestSuite(tests) for _, tests in of_files]
 
 
@@ -87,7 +87,7 @@ def judged(suite: unittest.TestSuite, is_quick: bool, stream: TextIO) -> tuple[i
     result = runner.run(suite)
     assert isinstance(result, Result)
     not_passed = [name for name in names if name not in result.passed]
-    excused = [test.id() for test, why in result.skipped if is_quick and any(it in why for it in LEFT_OUT)]
+    excused = [test.id() for test, why in result.skipped if is_quick and any(reason in why for reason in LEFT_OUT)]
     # Of a class or a file that is skipped as a whole the name is in brackets: setUpClass (test_one.One).
     wholes = tuple(f"{name[:-1].partition('(')[2]}." for name in excused if name.endswith(")"))
     left_out = [name for name in not_passed if name in excused or name.startswith(wholes)]
@@ -186,7 +186,9 @@ def main() -> int:
     if not os.path.isdir(f"{sources.TOP}/{given.folder}"):
         sys.exit(f"there is no folder {given.folder}")
     os.chdir(sources.TOP)
-    os.environ.update({"NO_SKIP": "", "QUICK": "1", "LABELS": "/not/built"} if given.quick else {"NO_SKIP": "1"})
+    # Nothing is built where --quick runs first: what lies there from an earlier build is not seen.
+    unbuilt = {"LABELS": "/not/built", "LABELS_LIBRARY": "/not/built"}
+    os.environ.update({"NO_SKIP": "", "QUICK": "1", **unbuilt} if given.quick else {"NO_SKIP": "1"})
     # Python reads the tests of a folder twice as fast where it has kept them as bytecode.
     sys.dont_write_bytecode = False
     give_time()

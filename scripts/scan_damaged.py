@@ -177,9 +177,9 @@ class Scanners:
         """Pictures of labels in place of those of others, each with whether both scanners are caught."""
         for head, data, others in OTHERS:
             full = [with_check_digit(text) if text.isdigit() else text for text in (data, *others)]
-            one, *rest = pictures(program, [Label(head, text.encode(), text.encode(), SCALE) for text in full])
+            first, *rest = pictures(program, [Label(head, text.encode(), text.encode(), SCALE) for text in full])
             for other in rest:
-                for label, drawn in ((one, other), (other, one)):
+                for label, drawn in ((first, other), (other, first)):
                     found = self.scan(label, drawn.pixels, is_shown=False)
                     yield f"{drawn.label.line()!r} as {label.label.line()!r}", found == ["misread"] * len(SCANNERS)
 
@@ -198,7 +198,7 @@ def main() -> int:
     for picture in pictures(program, labels):
         if "read" not in scanners.scan(picture, picture.pixels):
             faults.append(f"{picture.label.line()!r} is read by no scanner as it is drawn")
-        for pixels, is_guess in [*((it, False) for it in positions(picture.pixels)), *within(picture, draw)]:
+        for pixels, is_guess in [*((turned, False) for turned in positions(picture.pixels)), *within(picture, draw)]:
             found.update(scanners.scan(picture, pixels, is_guess))
             looked_at.append(sources.sum_of([repr(picture.label), pixels.tobytes()]))
             guesses += is_guess

@@ -82,7 +82,7 @@ def put(top: str, crate: str, asked: Collection[str]) -> None:
     that are asked for."""
     folder = f"{top}/crates/{crate}"
     for file in reader.files_at(top, sources.files_below(f"{folder}/src", ".rt")):
-        functions = [it for it in functions_of(file) if it.path not in asked]
+        functions = [function for function in functions_of(file) if function.path not in asked]
         text = file.text
         for function in reversed(functions):
             text = text[: function.begin] + BODY + text[function.end :]

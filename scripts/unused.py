@@ -44,10 +44,12 @@ def checked_for_itself(file: File, cited_files: set[Key]) -> list[Declaration]:
     if file.part == "specs":
         return []
     if "." in file.module and file.module.split(".")[-1] in READ_BY_CHECK:
-        return [one for one in file.declarations if one.is_public]
+        return [definition for definition in file.declarations if definition.is_public]
     if re.search("Examples|Theorems", file.module):
         return file.declarations
-    return [one for one in file.declarations if one.worked_values() and file.key() not in cited_files]
+    return [
+        definition for definition in file.declarations if definition.worked_values() and file.key() not in cited_files
+    ]
 
 
 def unused_definitions(logic: Sequence[File], code: Sequence[File]) -> list[Declaration]:
@@ -57,27 +59,29 @@ def unused_definitions(logic: Sequence[File], code: Sequence[File]) -> list[Decl
     def cited_by(key: Key) -> list[Key]:
         """The definition that has a name, and what it cites."""
         file = files.get(key._replace(name=""))
-        one = file.of_name.get(key.name) if file else None
-        return [one.key, *file.cited_by(one)] if file and one else []
+        definition = file.of_name.get(key.name) if file else None
+        return [definition.key, *file.cited_by(definition)] if file and definition else []
 
     roots = [key for file in code for key in cited_by_code(file)]
-    cited = [*roots, *(one.target for file in logic for one in file.imports if one.target)]
+    cited = [*roots, *(imported.target for file in logic for imported in file.imports if imported.target)]
     cited_files = {key._replace(name="") for key in cited}
     for file in logic:
         roots += file.cites(file.rest)
-        roots += [one.key for one in checked_for_itself(file, cited_files)]
+        roots += [definition.key for definition in checked_for_itself(file, cited_files)]
     reached = {*reader.reach(roots, cited_by)}
-    return [one for file in logic for one in file.declarations if one.key not in reached]
+    return [definition for file in logic for definition in file.declarations if definition.key not in reached]
 
 
 def unused_imports(logic: Sequence[File], code: Sequence[File]) -> Iterator[Import]:
     """The imported names that are not used where they are imported."""
     for file in logic:
-        names = reader.names_in([*file.rest, *(token for one in file.declarations for token in one.tokens)])
-        yield from (one for one in file.imports if not reader.is_named_in(one.name, names))
-    traits = {one.name: one.inner for file in code for one in file.declarations if one.kind == "trait"}
+        names = reader.names_in(
+            [*file.rest, *(token for definition in file.declarations for token in definition.tokens)]
+        )
+        yield from (imported for imported in file.imports if not reader.is_named_in(imported.name, names))
+    traits = {item.name: item.inner for file in code for item in file.declarations if item.kind == "trait"}
     for file in code:
-        for _, imports in itertools.groupby(file.imports, lambda one: id(one.scope)):
+        for _, imports in itertools.groupby(file.imports, lambda imported: id(imported.scope)):
             yield from unused_in_code(list(imports), traits)
 
 
@@ -87,11 +91,12 @@ def unused_in_code(imports: Sequence[Import], traits: dict[str, list[Declaration
     tokens, ghost_names = list(reader.without_uses(scope)), reader.names_in(reader.ghost_tokens(scope))
     names = {token.text for token in tokens}
     called = {token.text for before, token in zip(tokens, tokens[1:]) if before.text in (".", ":")}
-    for one in imports:
-        members = {it.name for it in traits.get(one.name, ()) if it.kind in ("fn", "const")}
-        is_used = one.name in names or members & called
-        if not (reader.is_named_in(one.name, ghost_names) if one.is_ghost else is_used):
-            yield one
+    for imported in imports:
+        members = {member.name for member in traits.get(imported.name, ()) if member.kind in ("fn", "const")}
+        is_called = imported.name in names or bool(members & called)
+        is_used = reader.is_named_in(imported.name, ghost_names) if imported.is_ghost else is_called
+        if not is_used:
+            yield imported
 
 
 def names_of(tokens: Iterable[Token]) -> Counter[str]:
@@ -110,20 +115,25 @@ def functions_of(items: Iterable[Declaration], is_trait: bool = False) -> Iterat
 
 def unused_functions(code: Sequence[File]) -> tuple[list[Declaration], int]:
     """The functions whose names are nowhere but in themselves, and how many were looked at."""
-    functions = [one for file in code for one in functions_of(file.declarations)]
+    functions = [function for file in code for function in functions_of(file.declarations)]
     names: dict[str, Counter[str]] = {file.crate: Counter() for file in code}
     for file in code:
         names[file.crate] += names_of(file.tokens)
-        for one in file.declarations:
-            if one.kind == "use" and one.is_public:
-                names[file.crate] -= names_of(one.tokens)
-    for one, _ in functions:
-        names[one.key.crate][one.name] -= 1  # where it is declared
+        for item in file.declarations:
+            if item.kind == "use" and item.is_public:
+                names[file.crate] -= names_of(item.tokens)
+    for function, _ in functions:
+        names[function.key.crate][function.name] -= 1  # where it is declared
     everywhere = Counter[str]()
     for of_crate in names.values():
         everywhere.update(of_crate)
-    seen = ((one, (everywhere if is_public else names[one.key.crate])[one.name]) for one, is_public in functions)
-    return [one for one, count in seen if count < names_of(one.tokens)[one.name]], len(functions)
+    unused = []
+    for function, is_public in functions:
+        seen = everywhere if is_public else names[function.key.crate]
+        in_itself = names_of(function.tokens)[function.name]
+        if seen[function.name] < in_itself:
+            unused.append(function)
+    return unused, len(functions)
 
 
 def main() -> int:
@@ -133,12 +143,14 @@ def main() -> int:
     logic = [file for file in files if file.part != "src"]
     functions, function_count = unused_functions(code)
     found = []
-    for one in unused_definitions(logic, code):
-        kind = "definition" if one.key.part == "specs" else "lemma"
-        found.append(f"{one.place}: nothing uses the {kind} {one.name}")
-    found += [f"{one.place}: the imported name {one.name} is not used" for one in unused_imports(logic, code)]
-    found += [f"{one.place}: nothing calls the function {one.name}" for one in functions]
-    worked_values = sum(one.worked_values() for file in logic if file.part == "proofs" for one in file.declarations)
+    for definition in unused_definitions(logic, code):
+        kind = "definition" if definition.key.part == "specs" else "lemma"
+        found.append(f"{definition.place}: nothing uses the {kind} {definition.name}")
+    imports = unused_imports(logic, code)
+    found += [f"{imported.place}: the imported name {imported.name} is not used" for imported in imports]
+    found += [f"{function.place}: nothing calls the function {function.name}" for function in functions]
+    proofs = [file for file in logic if file.part == "proofs"]
+    worked_values = sum(declaration.worked_values() for file in proofs for declaration in file.declarations)
     found += [] if function_count else ["nothing to look at"]
     return sources.ended(found, f"{worked_values} worked values: {len(found)} unused")
 

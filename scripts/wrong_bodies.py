@@ -76,21 +76,22 @@ def is_refused(line: str, of_others: tuple[str, ...], form: set[str]) -> bool:
     stands_on = STANDS_ON.match(line)
     if not stands_on:
         return bool(REFUSED.match(line))
-    return any(not it.startswith(of_others) for it in {*re.findall("`([^`]*)`", stands_on[1])} - form)
+    answers = {*re.findall("`([^`]*)`", stands_on[1])} - form
+    return any(not answer.startswith(of_others) for answer in answers)
 
 
 def of_form(crate: str, said: str) -> set[str]:
     """Returns the answers in which nothing is wrong but that they name what the body does not have."""
     errors = re.findall(ERROR.format(crate), said, re.M)
-    found = [(f"Rattle.{crate}.proofs.{file.replace('/', '.')}.{it}", why) for file, it, why in errors]
-    return {it for it, _ in found} - {it for it, why in found if GONE not in why}
+    found = [(f"Rattle.{crate}.proofs.{file.replace('/', '.')}.{name}", why) for file, name, why in errors]
+    return {answer for answer, _ in found} - {answer for answer, why in found if GONE not in why}
 
 
 def outcome(crate: str, body: Body, asked: Sequence[Body], said: str) -> Outcome:
     """Returns what a check of the bodies that were asked for says of one. A copy is refused only for what it is to
     ensure, and not for a step on the way, such as an overflow."""
-    others = [it.function for it in asked if it.function != body.function]
-    of_others = tuple(f"Rattle.{crate}.proofs.{it.replace('::', '.')}." for it in others)
+    others = [other.function for other in asked if other.function != body.function]
+    of_others = tuple(f"Rattle.{crate}.proofs.{function.replace('::', '.')}." for function in others)
     found = re.search(rf"^fn {crate}::{re.escape(body.function)}: (.*)$", said, re.M)
     line = found[1] if found else ""
     if PROVED.match(line):
@@ -116,18 +117,18 @@ class Tried:
     def judge(self, bodies: Sequence[Body], said: str) -> list[Body]:
         """Counts what a check says of bodies, and returns those that it does not judge."""
         found = {body: outcome(self.crate, body, bodies, said) for body in bodies}
-        for body, one in found.items():
-            if one is not Outcome.UNKNOWN:
-                self.count(body, one)
+        for body, verdict in found.items():
+            if verdict is not Outcome.UNKNOWN:
+                self.count(body, verdict)
         if not LAST.search(said):
             self.lines += ["the check did not reach its end:", *said.split("\n")[:6]]
-        return [body for body, one in found.items() if one is Outcome.UNKNOWN]
+        return [body for body, verdict in found.items() if verdict is Outcome.UNKNOWN]
 
-    def count(self, body: Body, found: Outcome) -> None:
+    def count(self, body: Body, verdict: Outcome) -> None:
         """Counts a body that was judged."""
-        if body.is_right and found is Outcome.PROVED:
+        if body.is_right and verdict is Outcome.PROVED:
             self.accepted += 1
-        elif not body.is_right and found is Outcome.REFUSED:
+        elif not body.is_right and verdict is Outcome.REFUSED:
             self.refused.append(body.name)
         elif body.is_right:
             self.lines.append(f"{body.name}: it is right, and not reported as not refused")
@@ -162,13 +163,14 @@ class Trial:
         again = self.tried.judge(self.asked, said)
         chosen = self.asked[len(self.copies) :]
         self.left = [body for body in self.left if body not in chosen]
-        if again == self.asked and (self.copies or len(self.asked) == 1):
+        judged_none = again == self.asked
+        if judged_none and (self.copies or len(self.asked) == 1):
             self.tried.lines += [f"{body.name}: not judged" for body in again]
             self.copies = []
         else:
             self.copies = [copy for copy in self.copies if copy.body in again]
-            self.left += [it for it in chosen if it in again]
-            self.most = 1 if again == self.asked else None
+            self.left += [body for body in chosen if body in again]
+            self.most = 1 if judged_none else None
 
 
 def trial_of(crate: Any) -> Trial:
@@ -193,23 +195,23 @@ def check(rtlib: Any, trials: Sequence[Trial]) -> str:
                 sources.write(f"{room}/{file}", text)
             stand_ins.put(top, trial.crate.name, [body.function for body in trial.asked])
         words = libraries.words_above(rtlib, [trial.crate for trial in trials], top)
-        only = [word for it in asked for word in ("--only", it)]
+        only = [word for function in asked for word in ("--only", function)]
         return libraries.check(rtlib, f"{top}/above", [*words, "--allow-holes", *only])
 
 
 def try_all(rtlib: Any, crates: Sequence[Any]) -> list[Tried]:
     """Tries the wrong and the right bodies of crates of which none uses another."""
     trials = [trial_of(crate) for crate in crates]
-    while waiting := [it for it in trials if it.copies or it.left]:
+    while waiting := [trial for trial in trials if trial.copies or trial.left]:
         for trial in waiting:
             trial.choose()
         said = check(rtlib, waiting)
         for trial in waiting:
             trial.judge(said)
-    tried = [trial.tried for trial in trials]
-    for one in tried:
-        print(f"{one.crate}: {len(one.refused)} refused, {one.accepted} accepted", flush=True)
-    return tried
+    results = [trial.tried for trial in trials]
+    for tried in results:
+        print(f"{tried.crate}: {len(tried.refused)} refused, {tried.accepted} accepted", flush=True)
+    return results
 
 
 def sum_of(crate: Any) -> str:
@@ -238,12 +240,13 @@ def tried_once(rtlib: Any, crates: Sequence[Any]) -> list[Tried]:
     """Returns what comes of the bodies of crates of which none uses another, as it is kept where nothing has
     changed."""
     sums = {crate.name: sum_of(crate) for crate in crates}
-    kept = {it: read_kept(it, total) for it, total in sums.items()}
-    tried = try_all(rtlib, [crate for crate in crates if not kept[crate.name]])
-    for one in tried:
-        if not one.lines:
-            sources.write(path_of(one.crate), " ".join([sums[one.crate], str(one.accepted), *one.refused]))
-    return [*filter(None, kept.values()), *tried]
+    kept = {name: read_kept(name, total) for name, total in sums.items()}
+    results = try_all(rtlib, [crate for crate in crates if not kept[crate.name]])
+    for tried in results:
+        if not tried.lines:
+            counts = [str(tried.accepted), *tried.refused]
+            sources.write(path_of(tried.crate), " ".join([sums[tried.crate], *counts]))
+    return [*filter(None, kept.values()), *results]
 
 
 # ---- all
@@ -252,8 +255,8 @@ def tried_once(rtlib: Any, crates: Sequence[Any]) -> list[Tried]:
 def counts_of(names: Sequence[str]) -> dict[str, int]:
     """Returns how many bodies the crates have that have wrong ones, the most first."""
     bodies = {name: edits.bodies_of(f"{sources.TOP}/crates/{name}") for name in names}
-    with_wrong = [it for it, found in bodies.items() if not all(body.is_right for body in found)]
-    return {it: len(bodies[it]) for it in sorted(with_wrong, key=lambda it: -len(bodies[it]))}
+    with_wrong = [name for name, found in bodies.items() if not all(body.is_right for body in found)]
+    return {name: len(bodies[name]) for name in sorted(with_wrong, key=lambda name: -len(bodies[name]))}
 
 
 def arguments() -> argparse.Namespace:
@@ -305,7 +308,7 @@ def each_once_built(groups: Sequence[Sequence[Any]], path: str, room: str) -> It
             shutil.copytree(below[name].rlib, library, copy_function=linked)
             below[name].rlib = library
             there.add(name)
-        ready = [it for it in waiting if {dep.name for crate in it for dep in crate.below()} <= there]
+        ready = [group for group in waiting if {dep.name for crate in group for dep in crate.below()} <= there]
         waiting = [group for group in waiting if group not in ready]
         yield from ready
         if waiting:
@@ -325,7 +328,7 @@ def try_each(rtlib: Any, groups: Iterable[Sequence[Any]], is_beside: bool = Fals
     """Tries groups of crates as they come, some at a time."""
     with concurrent.futures.ThreadPoolExecutor(at_once(is_beside)) as pool:
         begun = [pool.submit(tried_once, rtlib, group) for group in groups]
-        return [tried for it in begun for tried in it.result()]
+        return [tried for future in begun for tried in future.result()]
 
 
 def judged(results: Sequence[Tried]) -> int:
@@ -346,7 +349,7 @@ def main() -> int:
         return 1
     rtlib = libraries.kit()
     rtlib.guarded()  # once, before the threads call it
-    of_kit = {it.name: it for it in rtlib.crates_below(sources.TOP)}
+    of_kit = {crate.name: crate for crate in rtlib.crates_below(sources.TOP)}
     groups = groups_of([of_kit[name] for name in counts])
     if given.beside:
         os.nice(5)  # `rt ci` waits for nothing

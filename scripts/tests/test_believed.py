@@ -27,7 +27,7 @@ class Judging(unittest.TestCase):
     """What comes of copies, by a stand-in of the kit's check."""
 
     def setUp(self) -> None:
-        (self.crate,) = [it for name, it in changes.read_crates(TOP).items() if name == "gf256"]
+        self.crate = changes.read_crates(TOP)["gf256"]
         self.found = changes.all_changes({"gf256": self.crate})[:3]
         self.rooms: list[dict[str, str]] = []
 
@@ -40,14 +40,14 @@ class Judging(unittest.TestCase):
             return "".join(said)
 
         file = self.crate.examples["Examples"]
-        values = frozenset(one.name for one in file.declarations)
+        values = frozenset(declaration.name for declaration in file.declarations)
         with mock.patch.object(judging.libraries, "check", check):
             copies = [judging.Copy(change, self.crate, file, values) for change in self.found]
             return len(judging.judge_copies(None, [], copies))
 
     def test_what_a_check_says(self) -> None:
         self.assertEqual(self.judged(SAID, "logic=refuted\n"), 2)
-        self.assertEqual([it.by for it in self.found], ["one", "", judging.NO_DEFINITION])
+        self.assertEqual([change.by for change in self.found], ["one", "", judging.NO_DEFINITION])
         for said in (SAID, f"{SAID}./proofs/V3/Examples.antt:1:2: error: `one`: 1 is not 2\nlogic=refuted\n"):
             with self.subTest(said), self.assertRaises(SystemExit):
                 self.judged(said)
@@ -56,7 +56,7 @@ class Judging(unittest.TestCase):
         """Each copy has its own change, and the last one none. It has the files between too: gf256's values rest on
         the products of its polynomials by its field."""
         every = changes.all_changes({"gf256": self.crate})
-        self.found = [it for it in every if it.file.module == "BinaryPolynomial"][:3]
+        self.found = [change for change in every if change.file.module == "BinaryPolynomial"][:3]
         self.judged("logic=proved\n")
         (room,) = self.rooms
         folders = [f"proofs/V{number}/" for number in range(4)]
@@ -90,7 +90,7 @@ class Judging(unittest.TestCase):
         copied: list[str] = []
 
         def judge_copies(_kit: Any, _words: Any, copies: Any) -> list[Any]:
-            copied.extend(it.text for it in copies)
+            copied.extend(copy.text for copy in copies)
             return []
 
         kit = mock.Mock(**{"crates_below.return_value": []})
@@ -104,7 +104,7 @@ class Judging(unittest.TestCase):
         """Each that rests on the definition judges it, or of these just those that are named."""
         file, (first, *_) = self.crate.examples["Examples"], self.found
         resting = self.crate.resting_on(first.definition.name, file)
-        names = [one.name for one in file.declarations if changes.is_worked(one) and one.name in resting]
+        names = [value.name for value in file.declarations if changes.is_worked(value) and value.name in resting]
         self.assertGreater(len(names), 1)
         for values, judging_it in ((names, names), (names[:1], names[:1]), (names[-1:], names[-1:]), (None, names)):
             copied = self.checks_of([first], values and {first.file.title: values})
@@ -114,9 +114,9 @@ class Judging(unittest.TestCase):
     def test_what_judges_is_checked_as_it_is(self) -> None:
         """A copy of no change has all worked values of a file that are to judge, and no other."""
         (file,) = self.crate.examples.values()
-        names = [one.name for one in file.declarations if changes.is_worked(one)]
+        names = [value.name for value in file.declarations if changes.is_worked(value)]
         first, *others = names
-        copies = [judging.Copy(it, self.crate, file, frozenset([first])) for it in self.found]
+        copies = [judging.Copy(change, self.crate, file, frozenset([first])) for change in self.found]
         (control,) = judging.as_they_are(copies)
         self.assertEqual(control.text, changes.with_values(file, [first]))
         self.assertEqual(control.change.text(), self.found[0].file.text)
@@ -160,9 +160,9 @@ class Sample(unittest.TestCase):
         """One ends with refl or with omega arith; what is none stays in each copy."""
         for crate in ("gf256", "labelcore"):
             (file,) = module("reader").files_at(TOP, [f"{TOP}/crates/{crate}/proofs/Examples.antt"])
-            texts = {one.name: file.text_of(one.tokens) for one in file.declarations}
+            texts = {declaration.name: file.text_of(declaration.tokens) for declaration in file.declarations}
             worked = [name for name, text in texts.items() if re.search(r"\b(refl|omega\s+arith)\b", text)]
-            self.assertEqual([one.name for one in file.declarations if changes.is_worked(one)], worked)
+            self.assertEqual([value.name for value in file.declarations if changes.is_worked(value)], worked)
             left = changes.with_values(file, worked[-1:])
             self.assertEqual([name for name, text in texts.items() if text not in left], worked[:-1])
             self.assertEqual((changes.with_values(file, worked), changes.with_values(file, ["gone"])), (file.text, ""))

@@ -22,7 +22,7 @@ def found_in(pattern: str, file: str) -> str:
 def with_more(file: Any) -> str:
     """The text of a file of specs/ with one word more at the end of each definition."""
     text = file.text
-    for end in sorted((file.extent(one.tokens)[1] for one in file.declarations), reverse=True):
+    for end in sorted((file.extent(definition.tokens)[1] for definition in file.declarations), reverse=True):
         text = f"{text[:end]} more{text[end:]}"
     return str(text)
 
@@ -107,15 +107,15 @@ class Believed(InCopy):
         status, said = self.judged("believed.py", "--check")
         self.assertEqual(status, 0, said)
         found = re.findall(r"^(.*): (\d+) lines, (\d+) of definitions, (\d+) of code, (\d+) names$", said, re.M)
-        lines = {what: [int(it) for it in numbers] for what, *numbers in found}
+        lines = {what: [int(number) for number in numbers] for what, *numbers in found}
         clauses = [f"the clause `{name}` of `program`" for name in ("shows", "runs")]
-        both, exports = "both clauses of `program`", "the 10 exports of the C library"
+        program, exports = "both clauses of `program`", "the 10 exports of the C library"
         apart = ["apart: what stands behind the names of `clap`"]
         apart.append("apart: `main` and `arguments_of`, which have no clause")
-        self.assertEqual([*lines], [*clauses, both, exports, *apart])
-        self.assertTrue(all(it[0] == sum(it[1:]) for it in lines.values()), said)
-        shows, runs = (lines[it][0] for it in clauses)
-        self.assertTrue(max(shows, runs) < lines[both][0] < shows + runs, said)
+        self.assertEqual([*lines], [*clauses, program, exports, *apart])
+        self.assertTrue(all(row[0] == sum(row[1:]) for row in lines.values()), said)
+        shows, runs = (lines[clause][0] for clause in clauses)
+        self.assertTrue(max(shows, runs) < lines[program][0] < shows + runs, said)
 
     def test_show(self) -> None:
         """A list has what a clause rests on, with its comment, and says by which clause of a standard."""
@@ -129,24 +129,26 @@ class Believed(InCopy):
             with self.subTest(name):
                 status, said = self.judged("believed.py", "--show", name)
                 self.assertEqual(status, 0, said)
-                self.assertEqual([it for it in has if it not in said], [])
-                self.assertEqual([it for it in has_not if it in said], [])
+                self.assertEqual([line for line in has if line not in said], [])
+                self.assertEqual([line for line in has_not if line in said], [])
 
     @slow
     def test_what_any_crate_promises_is_named(self) -> None:
         """Each definition outside of `Private` that has a word more, and each contract of a function that demands what
         it ensured: all at once. In the files of the crates below too, on which no user relies."""
         repository = module("bases").read_repository(self.path())
-        contracts = [it for it in repository.promises if it.kind == "contract" and "ensures" in it.words]
-        wanted = {f"\n-{it.crate}/{it.file} contract {it.name} " for it in contracts}
+        contracts = [
+            contract for contract in repository.promises if contract.kind == "contract" and "ensures" in contract.words
+        ]
+        wanted = {f"\n-{contract.crate}/{contract.file} contract {contract.name} " for contract in contracts}
         for file in repository.code:
             self.replace(file.path, file.text.replace("ensures ", "requires "))
         for file in repository.specs.values():
             if not file.module.startswith("Private"):
                 self.replace(file.path, with_more(file))
-                wanted |= {f"\n-{file.title} {one.name} " for one in file.declarations}
+                wanted |= {f"\n-{file.title} {definition.name} " for definition in file.declarations}
         status, said = self.judged("believed.py", "--check")
-        self.assertEqual((status, [it for it in wanted if it not in said]), (1, []))
+        self.assertEqual((status, [line for line in wanted if line not in said]), (1, []))
         self.assertGreater(len(wanted), 800)
 
     @slow

@@ -32,8 +32,8 @@ def path_of(name: str) -> str:
 
 def fields_of(name: str, text: str) -> list[str]:
     """The fields of a record that are statements: those that a later one speaks of are values."""
-    one = edits.blocks_in(text)[name]
-    return [f"{name}.{field}" for field in one.parts(name) if field not in one.values()]
+    record = edits.blocks_in(text)[name]
+    return [f"{name}.{field}" for field in record.parts(name) if field not in record.values()]
 
 
 def clauses_of(name: str, text: str) -> list[str]:
@@ -60,8 +60,8 @@ def without_a_body(wanted: Iterable[str], text: str) -> set[str]:
 
 
 # All fields and clauses, the files of all wrong bodies, and these as one text.
-FIELDS = {one for name, file in RECORDS.items() for one in fields_of(name, read(path_of(file)))}
-PROMISED = {one for name, file in FUNCTIONS.items() for one in clauses_of(name, read(path_of(file)))} | FIELDS
+FIELDS = {field for name, file in RECORDS.items() for field in fields_of(name, read(path_of(file)))}
+PROMISED = {clause for name, file in FUNCTIONS.items() for clause in clauses_of(name, read(path_of(file)))} | FIELDS
 BODIES = {path: read(path) for path in glob.glob(path_of("*/wrong-bodies/*.edit"))}
 GIVEN = "\n".join(BODIES.values())
 

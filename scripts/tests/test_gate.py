@@ -115,7 +115,7 @@ class Lints(InFolder):
         lints = module("lints")
         lines = [f"0a1b2c3d {letters * 'x'}" for letters in (lints.LONGEST, lints.LONGEST + 1, 1)]
         with mock.patch.object(lints.sources, "run", lambda _: (0, "\n".join(lines))):
-            self.assertEqual([it.split(": ")[1] for it in lints.faults_of_subjects()], lines[1:2])
+            self.assertEqual([fault.split(": ")[1] for fault in lints.faults_of_subjects()], lines[1:2])
 
     def test_what_is_kept(self) -> None:
         """A lint runs again where one of its files, its command or a package has changed, and where it found
@@ -165,7 +165,7 @@ class Gate(InFolder):
 
     def command(self, steps: Iterable[str], kept: Mapping[str, str], processors: int = 2) -> list[str]:
         """The command of the gate over stand-ins on so many processors, where these lines are kept."""
-        write(self.path("scripts/counts.txt"), "".join(f"{it}: {kept[it]}\n" for it in kept if kept[it]))
+        write(self.path("scripts/counts.txt"), "".join(f"{step}: {kept[step]}\n" for step in kept if kept[step]))
         for name, old, new in (
             ("gate.py", "PROCESSORS = len(os.sched_getaffinity(0))", f"PROCESSORS = {processors}"),
             ("sources.py", f'PYTHON = "{PYTHON}"', 'PYTHON = "/bin/sh"'),  # it starts sooner
@@ -190,7 +190,7 @@ class Gate(InFolder):
             kept = {step: f"{'rt' if step == 'rt ci' else step.split()[0]} is right" for step in gate.ALL} | lines
             with self.subTest(changed=changed, lines=lines):
                 found, printed = self.judged(["all"], kept)
-                self.assertEqual((found, [it for it in said if it not in printed]), (status, []), printed)
+                self.assertEqual((found, [text for text in said if text not in printed]), (status, []), printed)
 
     def test_wrong_bodies_beside_the_proofs(self) -> None:
         """They begin while these are on their way, with the file of what these say, and end where these fail."""
@@ -286,8 +286,8 @@ class Packages(unittest.TestCase):
         os.chdir(TOP)
         paths = module("lints").files_by_kind()["python"]
         own = {re.sub(r"\.py$", "", part) for path in paths for part in path.split(os.sep)}
-        found = [it for path in paths for it in IMPORT.findall(read(path))]
-        names = {name for one, several in found for name in (one, *re.findall(r"(?:^|, )(\w+)", several)) if name}
+        found = [pair for path in paths for pair in IMPORT.findall(read(path))]
+        names = {name for first, several in found for name in (first, *re.findall(r"(?:^|, )(\w+)", several)) if name}
         others = names - own - sys.stdlib_module_names
         self.assertIn("numpy", others)
         files = [spec.origin if (spec := importlib.util.find_spec(name)) else None for name in others]

@@ -224,11 +224,12 @@ class Outcomes(InFolder):
         ):
             tried = wrong_bodies.try_all(None, crates)
         self.assertEqual(
-            [(it.crate, it.refused, it.lines) for it in tried],
+            [(result.crate, result.refused, result.lines) for result in tried],
             [("small", ["one"], []), ("large", ["one", "other"], [])],
         )
         self.assertEqual(
-            [[it.crate.name for it in call.args[1]] for call in check.call_args_list], [["small", "large"], ["large"]]
+            [[trial.crate.name for trial in call.args[1]] for call in check.call_args_list],
+            [["small", "large"], ["large"]],
         )
         self.assertEqual(printed.getvalue(), "small: 1 refused, 0 accepted\nlarge: 2 refused, 0 accepted\n")
 
@@ -335,10 +336,10 @@ class Outcomes(InFolder):
 
     def test_status(self) -> None:
         """What is wrong with a body is printed and makes the status 1."""
-        one = wrong_bodies.Tried
+        tried = wrong_bodies.Tried
         for results, wanted in (
-            ([one("a", ["b", "c"], 1)], (0, "3 passed, 0 failed\n")),
-            ([one("a", ["c"], 1, ["b: NOT REFUSED"])], (1, "a/b: NOT REFUSED\n2 passed, 1 failed\n")),
+            ([tried("a", ["b", "c"], 1)], (0, "3 passed, 0 failed\n")),
+            ([tried("a", ["c"], 1, ["b: NOT REFUSED"])], (1, "a/b: NOT REFUSED\n2 passed, 1 failed\n")),
         ):
             with contextlib.redirect_stdout(io.StringIO()) as printed:
                 self.assertEqual((wrong_bodies.judged(results), printed.getvalue()), wanted)
@@ -386,9 +387,9 @@ class StandIns(InFolder):
         self.assertTrue(read(f"{folder}/src/lib.rt").endswith("\n{ loop {} }\n"))
         self.assertIn("one();", read(f"{folder}/src/main.rt"))
         files = sources.files_below(f"{folder}/proofs", ".antt")
-        proofs = [os.path.relpath(it, f"{folder}/proofs") for it in files]
+        proofs = [os.path.relpath(path, f"{folder}/proofs") for path in files]
         holed = ["one", "part/Counts/is_one", "part/Some/one", "part/Some/three", "part/SomeCounts/count"]
-        holes = [f"{it}/Proof.antt" for it in holed]
+        holes = [f"{path}/Proof.antt" for path in holed]
         self.assertEqual(proofs, sorted([*holes, "part/Some/two/Answers.antt"]))
         hole = read(f"{folder}/proofs/part/SomeCounts/count/Proof.antt")
         self.assertIn("use Rattle.small.proofs.part.SomeCounts.count.Statement.{statement}\n", hole)
@@ -402,7 +403,7 @@ def bars() -> Any:
 
 def readings(found: Callable[[Any], bytes | None]) -> Callable[[Any], Any]:
     """What stands in for the readings of symbols, each by itself."""
-    return lambda symbols: [found(one) for one in symbols]
+    return lambda symbols: [found(symbol) for symbol in symbols]
 
 
 def of_foreign() -> Iterator[tuple[str, bool]]:
@@ -420,8 +421,8 @@ def of_symbols() -> Iterator[tuple[str, bool]]:
 SHOWN = len(compare_symbols.SHOWN)
 # What shows wrong cases, what is put in the place of a part of a judge, and how many cases that one does not report.
 BENT: tuple[tuple[Callable[[], Iterable[tuple[str, bool]]], Any, dict[str, Any], int], ...] = (
-    (of_foreign, read_foreign, {"readings": readings(lambda one: b"73513537")}, 3),
-    (of_foreign, read_foreign, {"readings": readings(lambda one: bytes(one.data))}, 21),
+    (of_foreign, read_foreign, {"readings": readings(lambda symbol: b"73513537")}, 3),
+    (of_foreign, read_foreign, {"readings": readings(lambda symbol: bytes(symbol.data))}, 21),
     (of_symbols, compare_symbols, {"is_as_zint": lambda *_: True, "is_read_back": lambda *_: True}, 6 * SHOWN),
     (of_symbols, compare_symbols, {"is_as_zint": lambda *_: False, "is_read_back": lambda *_: False}, 2 * SHOWN),
     (run_recipes.wrong_cases, run_recipes.Commands, {"fault": lambda *_: ""}, 39),
