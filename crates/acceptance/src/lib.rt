@@ -6,8 +6,6 @@
 #[cfg(test)]
 mod first_path;
 #[cfg(test)]
-mod hostile;
-#[cfg(test)]
 mod lines_and_devices;
 #[cfg(test)]
 mod pictures;
@@ -19,7 +17,6 @@ mod qr;
 mod segments;
 #[cfg(test)]
 mod settings;
-#[cfg(test)]
-mod support;
+pub mod support;
 #[cfg(test)]
 mod symbols;

@@ -1,66 +1,10 @@
-//! QR: products and parity, codewords, the matrix, and whole symbols. Matrices are compared with slow ones (`slow`).
-ghost use Rattle.std.specs.Prelude.{◌≡◌, length};
-ghost use Rattle.qrdata.specs.Versions.{total_codewords};
-
-mod slow;
-
+//! QR: codewords, penalties, and whole symbols.
 use crate::support::{gives_however_cut, options_by, ran_by, text_of};
-use gf256::{Generator, mul, pow_alpha};
 use labelcore::{Fault, Level, Options};
 use qrdata::{Version, Words, choose, codewords};
 use qrmatrix::Matrix;
-use slow::{Square, format_word, modules_under, penalty, version_word};
 use std::alloc::{AllocError, Global};
 use std::test::Fail;
-
-#[test]
-fn products_and_powers(rt: HostRuntime) {
-    for x in 0u8..=255 {
-        assert!(rt; mul(0, x) == 0);
-    }
-    assert!(rt;
-        (mul(2, 128) == 29) & (pow_alpha(8) == 29) & (pow_alpha(255) == 1) & (pow_alpha(256) == 2)
-    );
-}
-
-/// Words, and their parity: one word with 7 and with 10, and the data words of two symbols.
-const PARITIES: &[(&[u8], &[u8])] = &[
-    (&[1], &[127, 122, 154, 164, 11, 68, 117]),
-    (&[1], &[216, 194, 159, 111, 199, 94, 95, 113, 157, 193]),
-    (
-        &[
-            0x10, 0x20, 0x0C, 0x56, 0x61, 0x80, 0xEC, 0x11, 0xEC, 0x11, 0xEC, 0x11, 0xEC, 0x11,
-            0xEC, 0x11,
-        ],
-        &[0xA5, 0x24, 0xD4, 0xC1, 0xED, 0x36, 0xC7, 0x87, 0x2C, 0x55],
-    ),
-    (
-        &[32, 91, 11, 120, 209, 114, 220, 77, 67, 64, 236, 17, 236],
-        &[168, 72, 22, 82, 217, 54, 156, 0, 46, 15, 180, 122, 16],
-    ),
-];
-
-/// Whether words have this parity, which is 1 to 30 words.
-fn has_parity(words: &[u8], want: &[u8]) -> bool {
-    let count = want.len();
-    if (count == 0) | (count > 30) {
-        return false;
-    }
-    let mut parity = [9; 30];
-    Generator::new(count).parity(words, &mut parity[..count]);
-    &parity[..count] == want
-}
-
-#[test]
-fn parities(rt: HostRuntime) {
-    for (words, want) in PARITIES {
-        assert!(rt; has_parity(words, want));
-    }
-    let zeros = [0; 40];
-    for count in 1..31 {
-        assert!(rt; has_parity(&[], &zeros[..count]) & has_parity(&zeros, &zeros[..count]));
-    }
-}
 
 /// A front, and a byte that follows it so often: data that is mostly one byte.
 type Data = (&'static [u8], &'static [u8], usize);
@@ -231,24 +175,6 @@ fn data_that_does_not_fit(rt: HostRuntime) -> Result<(), Fail> {
     Ok(())
 }
 
-/// Format words of some levels and masks, and the version words.
-#[test]
-fn format_and_version_words(rt: HostRuntime) {
-    assert!(rt;
-        (format_word(Level::L, 0) == 0x77C4)
-            & (format_word(Level::M, 0) == 0x5412)
-            & (format_word(Level::M, 2) == 0x5E7C)
-            & (format_word(Level::Q, 0) == 0x355F)
-            & (format_word(Level::H, 0) == 0x1689)
-    );
-    assert!(rt;
-        (version_word(Version::of(7)) == 0x07C94)
-            & (version_word(Version::of(8)) == 0x085BC)
-            & (version_word(Version::of(9)) == 0x09A99)
-            & (version_word(Version::of(10)) == 0x0A4D3)
-    );
-}
-
 /// The penalties of `01234567` at level M under each mask.
 const PENALTIES: [u32; 8] = [297, 533, 397, 452, 570, 637, 419, 406];
 
@@ -272,84 +198,6 @@ fn penalties_choose_the_mask(rt: HostRuntime) -> Result<(), Fail> {
         (rows[0] == 0x1FDA7F) & (rows[6] == 0x1FD57F) & (rows[20] == 0x052F7F) & (rows[21] == 0)
     );
     Ok(())
-}
-
-/// What the words of a symbol are made of.
-#[derive(Clone, Copy)]
-enum Filling {
-    /// All bits are 0.
-    Zeros,
-    /// All bits are 1.
-    Ones,
-    /// Each word is the low byte of its place.
-    Places,
-}
-
-impl Filling {
-    /// So many words with this filling.
-    fn words(self, count: usize) -> Words {
-        let mut words = Words::new();
-        for i in 0..count {
-            let _ = words.try_push(match self {
-                Filling::Zeros => 0,
-                Filling::Ones => 255,
-                Filling::Places => (i % 256) as u8,
-            });
-        }
-        words
-    }
-}
-
-/// Whether the symbol has the modules of the slow form.
-fn has_modules(matrix: &Matrix, slow: &Square) -> bool {
-    let mut are_same = true;
-    for y in 0..matrix.side() {
-        for x in 0..matrix.side() {
-            are_same &= matrix.dark(x, y) == slow.get(x, y);
-        }
-    }
-    are_same
-}
-
-/// Whether the symbols of these words are those of the slow form: under each mask, and under the first mask of the
-/// lowest penalty where none is given.
-fn are_slow(version: Version, level: Level, words: &Words) -> bool
-    requires { length words.now.items ≡ total_codewords version }
-{
-    let chosen = Matrix::draw(version, level, None, words);
-    let mut best = 0;
-    let mut lowest = u64::MAX;
-    let mut are_same = chosen.side() == version.side();
-    for mask in 0..8u8 {
-        let slow = modules_under(version, level, mask, words);
-        let points = penalty(&slow, version.side());
-        let matrix = Matrix::draw(version, level, Some(mask), words);
-        are_same &= has_modules(&matrix, &slow)
-            & (matrix.mask() == mask)
-            & (u64::from(matrix.penalty()) == points);
-        if points < lowest {
-            lowest = points;
-            best = mask;
-        }
-        if chosen.mask() == mask {
-            are_same &= has_modules(&chosen, &slow) & (u64::from(chosen.penalty()) == points);
-        }
-    }
-    are_same & (chosen.mask() == best)
-}
-
-#[test]
-fn every_symbol_is_that_of_the_slow_form(rt: HostRuntime) {
-    for number in 1..11u8 {
-        let version = Version::of(number);
-        for level in [Level::L, Level::M, Level::Q, Level::H] {
-            for filling in [Filling::Zeros, Filling::Ones, Filling::Places] {
-                let words = filling.words(version.total_words());
-                assert!(rt; words.len() == version.total_words());
-                assert!(rt; are_slow(version, level, &words), "version {number}");
-            }
-        }
-    }
 }
 
 /// The pixels of the symbol of `01234567` at level M under mask 2.

@@ -1,4 +1,4 @@
-//! The slow form of a symbol: 57 by 57 truth values, the codewords placed by a cursor, a mask laid on module by module,
+//! The plain form of a symbol: 57 by 57 truth values, the codewords placed by a cursor, a mask laid on module by module,
 //! and the penalty counted module by module. Words of format and version are computed by division.
 ghost use Rattle.std.specs.Prelude.{◌<◌, ◌≤◌, IfSome};
 ghost use Rattle.qrdata.specs.Versions.{side_of};
