@@ -116,5 +116,6 @@ def run_lengths(dots: bytes, size: int) -> bytes:
     text = b"\n".join(again)  # no run goes on from a row to the next
     if sum(map(text.count, OFTEN)) * RARELY >= len(text):
         for run, count in RUNS:
-            text = text.replace(run, count)
+            if len(run) <= 2 * size:  # no row has a longer one
+                text = text.replace(run, count)
     return text.translate(COUNTED, b"\n")
