@@ -3,10 +3,11 @@ use Rattle.std.proofs.Common.{◌≡◌, ℕ, ◌+◌, ◌-◌, ◌*◌, ◌/◌
 use Rattle.std.proofs.Common.{not, ◌&&◌, ◌||◌, inl, inr}
 use Rattle.std.specs.Prelude.{bit_and, bit_or, bit_xor, ◌==◌, nat_le, nat_lt, if◌then◌else◌}
 use Rattle.std.specs.Bool.{beq}
-use Rattle.std.specs.Int.{bit_at, bit_not, w64}
+use Rattle.std.specs.Int.{bit_at, bit_not, Width, w64}
+use mir.Val.{bits}
 use Rattle.std.proofs.lemmas.Bool.{cases_lt}
 use Rattle.std.proofs.lemmas.Bool.Decides.{nat_tests}
-use Rattle.std.proofs.lemmas.Nat.{shr-shr, pow_pos, xor_lt}
+use Rattle.std.proofs.lemmas.Nat.{shr-shr, pow_pos}
 use Rattle.std.proofs.lemmas.Nat.Bits.{bit_at_and, bit_at_or, bit_at_xor, bit_at_not, bit_at-lt, bit_at_above}
 use Rattle.std.proofs.lemmas.Nat.Bits.{bit_at_ones, bit_at_ones_above, bit_at_cat_high, bit_at_cat_low, bit_at-zero}
 use Rattle.std.proofs.Math.Pow.{pow_mono, shl_lt}
@@ -21,12 +22,11 @@ and_bit a b i = grind (arith, nat_tests, bit_at_and a b i, bit_at-lt a i, bit_at
 pub or_bit : (a b i : ℕ) → bit (bit_or a b) i ≡ (bit a i || bit b i)
 or_bit a b i = grind (arith, nat_tests, bit_at_or a b i, bit_at-lt a i, bit_at-lt b i)
 
-pub not_bit : (a i : ℕ) → a < 2 ^ 64 → i < 64 → bit (bit_not w64 a) i ≡ not (bit a i)
-not_bit a i h l = grind (arith, nat_tests, bit_at_not w64 a i h l, bit_at-lt a i)
+pub inverse_bit : (w : Width) (a i : ℕ) → a < 2 ^ bits w → i < bits w → bit (bit_not w a) i ≡ not (bit a i)
+inverse_bit w a i h l = grind (arith, nat_tests, bit_at_not w a i h l, bit_at-lt a i)
 
-pub same_bit : (a b i : ℕ) → a < 2 ^ 64 → b < 2 ^ 64 → i < 64
-    → bit (bit_not w64 (bit_xor b a)) i ≡ beq (bit b i) (bit a i)
-same_bit a b i ha hb l = grind (arith, not_bit (bit_xor b a) i (xor_lt 64 b a hb ha) l, xor_bit b a i)
+pub not_bit : (a i : ℕ) → a < 2 ^ 64 → i < 64 → bit (bit_not w64 a) i ≡ not (bit a i)
+not_bit a i h l = inverse_bit w64 a i h l
 
 -- a row moved down by k places
 pub shr_bit : (a k i : ℕ) → bit (a / 2 ^ k) i ≡ bit a (i + k)
@@ -36,6 +36,10 @@ shr_bit a k i =
 
 pub above_bit : (w k x : ℕ) → w < 2 ^ k → k ≤ x → bit w x ≡ false
 above_bit w k x h g = ap (λ z. z == 1) (bit_at_above w k x h g)
+
+-- the row without ones
+pub zero_bit : (i : ℕ) → bit 0 i ≡ false
+zero_bit i = ap (λ z. z == 1) (bit_at-zero i)
 
 -- the row of n ones
 pub low_bit : (n i : ℕ) → bit (2 ^ n - 1) i ≡ nat_lt i n
@@ -51,13 +55,16 @@ mod_bit k n i h =
     let whole : n ≡ (n / 2 ^ k) * 2 ^ k + n % 2 ^ k = omega arith in
     sym (ap (λ z. z == 1) (ap (λ z. bit_at z i) whole ∙ bit_at_cat_low (n / 2 ^ k) k (n % 2 ^ k) i h))
 
--- a row moved up by k places
-pub up_bit : (w k i : ℕ) → i < 64 → bit (w * 2 ^ k % 2 ^ 64) i ≡ (nat_le k i && bit w (i - k))
-up_bit w k i l =
+-- a row of n bits moved up by k places
+pub moved_up_bit : (n w k i : ℕ) → i < n → bit (w * 2 ^ k % 2 ^ n) i ≡ (nat_le k i && bit w (i - k))
+moved_up_bit n w k i l =
     let p = pow_pos k in
     let e : w * 2 ^ k ≡ w * 2 ^ k + 0 = omega arith in
-    mod_bit 64 (w * 2 ^ k) i l
+    mod_bit n (w * 2 ^ k) i l
     ∙ rw e (grind (arith, nat_tests, bit_at_cat_low w k 0 i, bit_at_cat_high w k 0 i p, bit_at-zero i))
+
+pub up_bit : (w k i : ℕ) → i < 64 → bit (w * 2 ^ k % 2 ^ 64) i ≡ (nat_le k i && bit w (i - k))
+up_bit w k i l = moved_up_bit 64 w k i l
 
 -- a number below 4 moved up
 pub two_bits : (two x a : ℕ) → two < 4 → x + 1 < 64

@@ -1,13 +1,14 @@
 -- Sums and counts of the bits of rows.
-use Rattle.std.proofs.Common.{◌≡◌, ℕ, zero, suc, ◌+◌, ◌*◌, ◌<◌, ◌≤◌, refl, sym, ap, ◌∙◌, arith, Bool, true, false}
+use Rattle.std.proofs.Common.{◌≡◌, ℕ, zero, suc, ◌+◌, ◌-◌, ◌*◌, ◌%◌, ◌<◌, ◌≤◌, refl, sym, ap, ◌∙◌, arith, Bool, true, false}
 use Rattle.std.proofs.Common.{inl, inr}
-use Rattle.std.specs.Prelude.{count_ones, bit_and, nat_lt, ◌^◌, if◌then◌else◌, ◌&&◌}
+use Rattle.std.specs.Prelude.{count_ones, bit_and, ◌^◌, if◌then◌else◌, ◌&&◌}
 use Rattle.std.proofs.lemmas.Bool.{cases_eq}
 use Rattle.std.proofs.lemmas.Bool.Decides.{nat_tests}
-use Rattle.std.proofs.lemmas.Nat.{and_le_r}
+use Rattle.std.proofs.lemmas.Nat.{and_le_r, one_shl, pow_pos}
+use Rattle.std.proofs.Math.Pow.{pow_mono}
 use Rattle.qrmatrix.specs.Bits.{bit}
 use Rattle.qrmatrix.proofs.OnesLaws.{ones_counted}
-use Rattle.qrmatrix.proofs.RowBitsLaws.{and_bit}
+use Rattle.qrmatrix.proofs.RowBitsLaws.{and_bit, low_bit}
 use Rattle.qrmatrix.specs.Private.Counting.{sum_below, count_below, one_if}
 use Rattle.qrmatrix.proofs.SumLaws.{sum_below_same, sum_below_zero}
 
@@ -34,12 +35,13 @@ points_of_place true true = refl
 points_of_place true false = refl
 points_of_place false q = refl
 
--- the points of the places that two words mark
-pub points_counted : (n u b : ℕ) → count_below n (bit u) + 2 * count_below n (bit (bit_and u b))
-    ≡ sum_below n (λ i. if bit u i then 1 + (if bit b i then 2 else 0) else 0)
-points_counted zero u b = refl
-points_counted (suc n) u b =
-    omega (arith, points_counted n u b, ap one_if (and_bit u b n), points_of_place (bit u n) (bit b n))
+-- the points of the places of windows and of those of them that begin a run
+pub points_are : (n : ℕ) (uniform begins both : ℕ → Bool) → ((i : ℕ) → both i ≡ (uniform i && begins i))
+    → count_below n uniform + 2 * count_below n both
+    ≡ sum_below n (λ i. if uniform i then 1 + (if begins i then 2 else 0) else 0)
+points_are zero uniform begins both are_both = refl
+points_are (suc n) uniform begins both are_both =
+    omega (arith, points_are n uniform begins both are_both, ap one_if (are_both n), points_of_place (uniform n) (begins n))
 
 pub sum_added : (n : ℕ) (f g : ℕ → ℕ) → sum_below n (λ i. f i + g i) ≡ sum_below n f + sum_below n g
 sum_added zero f g = refl
@@ -56,11 +58,17 @@ sum_exchanged zero m f = sym (sum_below_zero m (λ y. 0) (λ k l. refl))
 sum_exchanged (suc n) m f = ap (λ z. z + sum_below m (f n)) (sum_exchanged n m f)
     ∙ sym (sum_added m (λ y. sum_below n (λ x. f x y)) (f n))
 
--- the ones of a row below n
-pub ones_below : (w low n : ℕ) → n ≤ 57 → low < 2 ^ 57 → ((i : ℕ) → bit low i ≡ nat_lt i n)
-    → count_ones (bit_and w low) ≡ count_below n (bit w)
-ones_below w low n l small is_low =
-    ones_counted 57 (bit_and w low) (let a = and_le_r w low in omega arith)
-    ∙ count_cut 57 n (bit (bit_and w low)) (bit w) l
-    (λ i h. grind (arith, nat_tests, and_bit w low i, is_low i))
-    (λ i h. grind (arith, nat_tests, and_bit w low i, is_low i))
+-- the ones of a row below n, where a word has k bits
+pub ones_below : (k w n : ℕ) → n < k → count_ones (bit_and w (1 * 2 ^ n % 2 ^ k - 1)) ≡ count_below n (bit w)
+ones_below k w n l =
+    let low = 2 ^ n - 1 in
+    let wide : 2 ^ n ≤ 2 ^ k = pow_mono (omega arith) in
+    let p = pow_pos n in
+    rw (one_shl n k l)
+    (ones_counted k (bit_and w low) (let a = and_le_r w low in omega arith)
+    ∙ count_cut k n (bit (bit_and w low)) (bit w) (omega arith)
+    (λ i h. grind (arith, nat_tests, and_bit w low i, low_bit n i))
+    (λ i h. grind (arith, nat_tests, and_bit w low i, low_bit n i)))
+
+pub few_ones : (k w n : ℕ) → n < k → count_ones (bit_and w (1 * 2 ^ n % 2 ^ k - 1)) ≤ n
+few_ones k w n l = omega (arith, ones_below k w n l, count_small n (bit w))

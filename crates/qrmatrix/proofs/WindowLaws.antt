@@ -1,15 +1,12 @@
 -- Windows of lines by bits of rows.
-use Rattle.std.proofs.Common.{◌≡◌, ℕ, ◌+◌, ◌-◌, ◌*◌, ◌%◌, ◌^◌, ◌<◌, refl, ap, ◌∙◌, arith, Bool, ◌&&◌, add-one}
+use Rattle.std.proofs.Common.{◌≡◌, ℕ, ◌+◌, ◌-◌, ◌<◌, refl, ap, ◌∙◌, arith, Bool, ◌&&◌, add-one}
 use Rattle.std.proofs.Common.{true, false, inl, inr, not}
 use Rattle.std.specs.Bool.{beq}
-use Rattle.std.specs.Int.{bit_not, w64}
 use Rattle.std.specs.Prelude.{if◌then◌else◌, nat_le}
 use Rattle.std.proofs.lemmas.Bool.{cases_eq, le-leb, ne_eqb}
 use Rattle.qrmatrix.specs.Private.Counting.{sum_below, count_below, one_if}
-use Rattle.qrmatrix.specs.Bits.{bit}
 use Rattle.qrmatrix.specs.Penalty.{begins_run, run_penalty, is_uniform, window_points}
 use Rattle.qrmatrix.proofs.PenaltySumLaws.{run_penalty-sum}
-use Rattle.qrmatrix.proofs.RowBitsLaws.{not_bit, up_bit}
 use Rattle.qrmatrix.proofs.SumLaws.{sum_below_same}
 use Rattle.qrmatrix.proofs.RowSumLaws.{sum_exchanged}
 
@@ -40,29 +37,21 @@ not_before line i here =
       ) refl
     ]
 
--- a run begins at each window of one colour that comes after none
-pub first_windows : (line : ℕ → Bool) (u : ℕ) → ((i : ℕ) → i < 64 → bit u i ≡ is_uniform line i 5) → (i : ℕ) → i < 64
-    → is_uniform line i 5 ≡ true → bit (bit_not w64 (u * 2 ^ 1 % 2 ^ 64)) i ≡ begins_run line i
-first_windows line u marks i l here =
-    not_bit (u * 2 ^ 1 % 2 ^ 64) i (omega arith) l
-    ∙ ap not (up_bit u 1 i l ∙ ap (λ b. nat_le 1 i && b) (marks (i - 1) (omega arith)))
-    ∙ not_before line i here
-
 -- equal points, where it matters only in windows of one colour whether a run begins
 same_points : (p b c : Bool) → (p ≡ true → b ≡ c)
     → (if p then 1 + (if b then 2 else 0) else 0) ≡ (if p then 1 + (if c then 2 else 0) else 0)
 same_points true b c h = rw (h refl) refl
 same_points false b c h = refl
 
--- the points of the windows that two words mark: those of one colour, and those of them that begin a run
-pub windows_counted : (n u b : ℕ) (uniform begins : ℕ → Bool) → ((i : ℕ) → i < n → bit u i ≡ uniform i)
-    → ((i : ℕ) → i < n → uniform i ≡ true → bit b i ≡ begins i)
-    → sum_below n (λ i. if bit u i then 1 + (if bit b i then 2 else 0) else 0)
+-- the points of the windows that two lines mark: those of one colour, and those of them that begin a run
+pub windows_counted : (n : ℕ) (u b uniform begins : ℕ → Bool) → ((i : ℕ) → i < n → u i ≡ uniform i)
+    → ((i : ℕ) → i < n → uniform i ≡ true → b i ≡ begins i)
+    → sum_below n (λ i. if u i then 1 + (if b i then 2 else 0) else 0)
     ≡ sum_below n (λ i. if uniform i then 1 + (if begins i then 2 else 0) else 0)
 windows_counted n u b uniform begins is_uniform is_begin =
-    sum_below_same n (λ i. if bit u i then 1 + (if bit b i then 2 else 0) else 0)
+    sum_below_same n (λ i. if u i then 1 + (if b i then 2 else 0) else 0)
     (λ i. if uniform i then 1 + (if begins i then 2 else 0) else 0)
-    (λ i h. rw (is_uniform i h) (same_points (uniform i) (bit b i) (begins i) (is_begin i h)))
+    (λ i h. rw (is_uniform i h) (same_points (uniform i) (b i) (begins i) (is_begin i h)))
 
 -- the penalty of the runs of columns, window by window
 pub columns_summed : (n : ℕ) (m : ℕ → ℕ → Bool)

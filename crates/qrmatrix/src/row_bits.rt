@@ -1,12 +1,13 @@
-//! Rows of modules, 64 bits each: bit i is the module at place i.
+//! What is seen in a row of modules, or in rows side by side, at all its places at once: bit i is the module at place i.
 ghost use Rattle.std.specs.Prelude.{◌≡◌, ℕ, ◌+◌, ◌-◌, ◌*◌, ◌^◌, ◌<◌, ◌≤◌, nat_lt, not, if◌then◌else◌, ◌&&◌};
 ghost use Rattle.std.specs.Bool.{beq};
-ghost use Rattle.qrmatrix.specs.Private.Counting.{sum_below, count_below};
+ghost use Rattle.qrmatrix.specs.Private.Counting.{sum_below};
 ghost use Rattle.qrmatrix.specs.Bits.{bit};
 ghost use Rattle.qrmatrix.specs.Penalty.{is_uniform};
 ghost use Rattle.qrmatrix.specs.Private.PenaltyParts.{finder_from, is_finder, is_light, light_from};
 
 use crate::square::SIDE;
+use crate::word::Word;
 
 /// Returns ones in the lowest `count` places, and zeros above.
 pub fn low_ones(count: usize) -> u64
@@ -18,67 +19,61 @@ pub fn low_ones(count: usize) -> u64
     (1 << count) - 1
 }
 
-/// Returns how many of the lowest `count` places have a one.
-pub fn ones_below(row_bits: u64, count: usize) -> u64
-    requires { count ≤ SIDE }
-    ensures value { result ≡ count_below count (bit row_bits) }
-    ensures bound { result ≤ count }
-{
-    (row_bits & low_ones(count)).count_ones() as u64
-}
-
 /// Returns the places at which two rows have the same colour.
-#[tactic(auto, using(crate::proofs::RowBitsLaws::same_bit))]
-pub fn agreeing(a: u64, b: u64) -> u64
-    ensures { (i : ℕ) → i < 64 → bit result i ≡ beq (bit b i) (bit a i) }
+pub fn agreeing<W: Word>(a: W, b: W) -> W
+    ensures { (i : ℕ) → i < W.width → W.bits result i ≡ beq (W.bits b i) (W.bits a i) }
 {
-    !(b ^ a)
+    b.xor(a).inverse()
 }
 
 /// Returns the places at which five rows have the same colour.
-#[tactic(auto, using(crate::proofs::RowBitsLaws::and_bit))]
-pub fn agreeing_five(a: u64, b: u64, c: u64, d: u64, e: u64) -> u64
-    ensures { (i : ℕ) → i < 64 → bit result i
-        ≡ (((beq (bit b i) (bit a i) && beq (bit c i) (bit a i))
-        && beq (bit d i) (bit a i)) && beq (bit e i) (bit a i)) }
+pub fn agreeing_five<W: Word>(a: W, b: W, c: W, d: W, e: W) -> W
+    ensures { (i : ℕ) → i < W.width → W.bits result i
+        ≡ (((beq (W.bits b i) (W.bits a i) && beq (W.bits c i) (W.bits a i))
+        && beq (W.bits d i) (W.bits a i)) && beq (W.bits e i) (W.bits a i)) }
 {
-    agreeing(a, b) & agreeing(a, c) & agreeing(a, d) & agreeing(a, e)
+    agreeing(a, b)
+        .and(agreeing(a, c))
+        .and(agreeing(a, d))
+        .and(agreeing(a, e))
 }
 
 /// Returns the places of a row whose module differs from the next one.
-#[tactic(auto, using(crate::proofs::RowBitsLaws::xor_bit, crate::proofs::RowBitsLaws::shr_bit))]
-fn changes_in(row_bits: u64) -> u64
-    ensures { (i : ℕ) → bit result i ≡ not (beq (bit row_bits i) (bit row_bits (i + 1))) }
+fn changes_in<W: Word>(row: W) -> W
+    ensures { (i : ℕ) → W.bits result i ≡ not (beq (W.bits row i) (W.bits row (i + 1))) }
 {
-    row_bits ^ (row_bits >> 1)
+    row.xor(row.down(1))
 }
 
 /// Returns the places of a row from which five modules have the same colour.
-pub fn uniform_five(row_bits: u64) -> u64
-    ensures { (i : ℕ) → i < 64 → bit result i ≡ is_uniform (bit row_bits) i 5 }
+pub fn uniform_five<W: Word>(row: W) -> W
+    ensures { (i : ℕ) → i < W.width → W.bits result i ≡ is_uniform (W.bits row) i 5 }
 {
-    let changes = changes_in(row_bits);
-    let changes_of_two = changes | (changes >> 1);
-    !(changes_of_two | (changes_of_two >> 2))
+    let changes = changes_in(row);
+    let changes_of_two = changes.or(changes.down(1));
+    changes_of_two.or(changes_of_two.down(2)).inverse()
 }
 
 /// Returns the places of a row from which seven modules are those of a finder pattern: a dark one, then two changes, two
 /// places without one, and two changes.
-pub fn finders_from(row_bits: u64) -> u64
-    ensures { (i : ℕ) → i < 64 → bit result i ≡ finder_from (bit row_bits) i }
+pub fn finders_from<W: Word>(row: W) -> W
+    ensures { (i : ℕ) → i < W.width → W.bits result i ≡ finder_from (W.bits row) i }
 {
-    let changes = changes_in(row_bits);
-    let two_changes = changes & (changes >> 1);
-    let one_change = changes | (changes >> 1);
-    row_bits & two_changes & !(one_change >> 2) & (two_changes >> 4)
+    let changes = changes_in(row);
+    let moved = changes.down(1);
+    let two_changes = changes.and(moved);
+    let one_change = changes.or(moved);
+    row.and(two_changes)
+        .and(one_change.down(2).inverse())
+        .and(two_changes.down(4))
 }
 
 /// Returns the places of a row from which one of four modules is dark.
-pub fn dark_in_four(row_bits: u64) -> u64
-    ensures { (i : ℕ) → i < 64 → bit result i ≡ not (light_from (bit row_bits) i) }
+pub fn dark_in_four<W: Word>(row: W) -> W
+    ensures { (i : ℕ) → W.bits result i ≡ not (light_from (W.bits row) i) }
 {
-    let dark_in_two = row_bits | (row_bits >> 1);
-    dark_in_two | (dark_in_two >> 2)
+    let dark_in_two = row.or(row.down(1));
+    dark_in_two.or(dark_in_two.down(2))
 }
 
 /// Returns the places at which seven rows, one after the other, have the modules of a finder pattern.
@@ -100,12 +95,14 @@ pub fn light_in(a: u64, b: u64, c: u64, d: u64) -> u64
 
 /// Returns the penalty of runs in the lowest `count` places. `uniform` has the places at which windows of one colour
 /// begin, and `begins` those of them at which a run begins.
-#[tactic(auto, using(crate::proofs::RowSumLaws::points_counted))]
-pub fn run_points(uniform: u64, begins: u64, count: usize) -> u64
-    requires { count ≤ SIDE }
-    ensures value { result
-        ≡ sum_below count (λ i. if bit uniform i then 1 + (if bit begins i then 2 else 0) else 0) }
-    ensures bound { result ≤ 3 * count }
+pub fn run_points<W: Word>(uniform: W, begins: W, count: usize) -> W
+    requires side { count ≤ SIDE }
+    requires width { count < W.width }
+    ensures value { W.number result
+        ≡ sum_below count (λ i. if W.bits uniform i then 1 + (if W.bits begins i then 2 else 0) else 0) }
+    ensures bound { W.number result ≤ 3 * count }
 {
-    ones_below(uniform, count) + 2 * ones_below(uniform & begins, count)
+    let windows = uniform.ones_below(count);
+    let beginnings = uniform.and(begins).ones_below(count);
+    windows.plus(beginnings.plus(beginnings))
 }

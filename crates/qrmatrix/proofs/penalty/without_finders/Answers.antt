@@ -1,4 +1,4 @@
-use Rattle.std.proofs.Common.{arith}
+use Rattle.std.proofs.Common.{◌∙◌, arith}
 use Rattle.qrmatrix.specs.Private.Narrow.{narrow_at}
 use Rattle.qrmatrix.specs.Square.{value_at}
 use Rattle.qrmatrix.proofs.NarrowLaws.{without_finders-same}
@@ -6,6 +6,6 @@ use Rattle.qrmatrix.proofs.penalty.without_finders.Goals as goal
 
 pub returns-then-side-le29-clause-value : goal.returns-then-side-le29-clause-value
 returns-then-side-le29-clause-value c =
-    let narrow = without_finders-same c.args.side (narrow_at c.narrow_rows-rows.result) (value_at c.args.modules.now)
-    (λ x y lx ly. c.narrow_rows-rows.ensures x y (omega arith) (omega arith)) in
-    omega (arith, narrow)
+    c.rows_without_finders.ensures.value
+    ∙ without_finders-same c.args.side (narrow_at c.narrow_rows.result) (value_at c.args.modules.now)
+    (λ x y lx ly. c.narrow_rows.ensures x y (omega arith) (omega arith))

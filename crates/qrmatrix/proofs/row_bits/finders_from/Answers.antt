@@ -1,36 +1,16 @@
-use Rattle.std.proofs.Common.{◌+◌, ◌/◌, ◌^◌, arith}
-use Rattle.std.specs.Int.{bit_not, w64}
-use Rattle.std.specs.Prelude.{bit_and, bit_or}
-use Rattle.std.proofs.lemmas.Nat.{or_lt}
-use Rattle.qrmatrix.proofs.RowBitsLaws.{and_bit, not_bit, or_bit, shr_bit}
+use Rattle.std.proofs.Common.{◌∙◌, ap, ◌&&◌, not}
+use Rattle.qrmatrix.proofs.WordLaws.{finders_are}
 use Rattle.qrmatrix.proofs.row_bits.finders_from.Goals as goal
 
 pub returns : goal.returns
-returns c = λ i l.
-    let w = c.args.row_bits in
-    let changes = c.changes_in-changes.result in
-    let change = c.changes_in-changes.ensures in
-    let two = bit_and changes (changes / 2 ^ 1) in
-    let one = bit_or changes (changes / 2 ^ 1) in
-    let small = or_lt 64 changes (changes / 2 ^ 1) (omega arith) (omega arith) in
-    rw (
-      and_bit _ (two / 2 ^ 4) i,
-      and_bit _ (bit_not w64 (one / 2 ^ 2)) i,
-      and_bit w two i,
-      not_bit (one / 2 ^ 2) i (omega (arith, small)) l,
-      shr_bit one 2 i,
-      shr_bit two 4 i,
-      and_bit changes (changes / 2 ^ 1) i,
-      and_bit changes (changes / 2 ^ 1) (i + 4),
-      or_bit changes (changes / 2 ^ 1) (i + 2),
-      shr_bit changes 1 i,
-      shr_bit changes 1 (i + 2),
-      shr_bit changes 1 (i + 4),
-      change i,
-      change (i + 1),
-      change (i + 2),
-      change (i + 2 + 1),
-      change (i + 4),
-      change (i + 4 + 1),
-    )
-    (grind arith)
+returns g c = λ i l.
+    let bits = g.W.Word.bits in
+    let moved_two = bits c.down-2.result in
+    let both = bits c.and.result in
+    c.and-3.ensures i
+    ∙ ap (λ b. b && moved_two i) (c.and-2.ensures i ∙ ap (λ b. both i && b) (c.inverse.ensures i l)
+    ∙ ap (λ b. b && not (bits c.down.result i)) (c.and.ensures i))
+    ∙ finders_are (bits c.args.row) (bits c.changes_in-changes.result) (bits c.down-moved.result)
+    (bits c.and-two_changes.result) (bits c.or-one_change.result) (bits c.down.result) moved_two
+    c.changes_in-changes.ensures c.down-moved.ensures c.and-two_changes.ensures c.or-one_change.ensures c.down.ensures
+    c.down-2.ensures i

@@ -1,0 +1,7 @@
+use Rattle.std.proofs.Common.{arith}
+use Rattle.std.specs.Int.{w64}
+use Rattle.qrmatrix.proofs.RowBitsLaws.{inverse_bit}
+use Rattle.qrmatrix.proofs.word.U64Word.inverse.Goals as goal
+
+pub returns : goal.returns
+returns c = λ i l. inverse_bit w64 c.args.self i (omega arith) l

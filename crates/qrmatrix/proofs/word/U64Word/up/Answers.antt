@@ -1,0 +1,5 @@
+use Rattle.qrmatrix.proofs.RowBitsLaws.{moved_up_bit}
+use Rattle.qrmatrix.proofs.word.U64Word.up.Goals as goal
+
+pub returns : goal.returns
+returns c = λ i l. moved_up_bit 64 c.args.self c.args.places i l
