@@ -17,7 +17,7 @@ from labeltools.layout.code_boxes import code_boxes
 from labeltools.layout.frame import Frame, HINTING, Need, Needs, styles_from
 from labeltools.layout.frame_search import frame_of
 from labeltools.layout.letters import Letters
-from labeltools.layout.price import price_extent
+from labeltools.layout.price import price_height, price_widths, shape_of
 from labeltools.lines.file import Record
 from labeltools.lines.symbologies import Symbology
 from labeltools.paper.box import Box
@@ -138,7 +138,9 @@ def need_of(label: Record, letters: Letters) -> Need:
         of_details = letters.of(label.was + label.unit)
         was = rounded(of_details.width(label.was, False))
         unit = rounded(of_details.width(label.unit, False))
-    height, (price, raised, narrow, narrow_raised) = price_extent(label.price, letters)
+    shape = shape_of(label.price, letters)
+    height = price_height(shape, letters)
+    price, raised, narrow, narrow_raised = price_widths(shape, letters)
     modules = label.modules
     return Need(
         label.symbology,

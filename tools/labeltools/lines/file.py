@@ -150,6 +150,11 @@ class Record(NamedTuple):
         return symbology.encode("utf-8", "replace") + b" " + escaped(data)
 
     @property
+    def origin_number(self) -> int:
+        """The number of its origin."""
+        return self.row or self.number
+
+    @property
     def origin(self) -> Origin:
         """What messages name: the row of the table, or else the line."""
         if self.row:

@@ -153,7 +153,7 @@ def without_line(lines: LinesFile, only: Selection) -> Iterable[LeftOut]:
     the rows that label-table left out.
     """
     yield from only.missing(lines.records, lines.left_out)
-    named = [place for place in lines.left_out if only.has_row(place)]
+    named = [place for place in lines.left_out if only.has_row(place.number)]
     count = len(named) if only else lines.left_out_count
     reason = Text("skipped by label-table")
     if count > len(named):

@@ -29,22 +29,22 @@ class Selection:
         """Whether labels are chosen."""
         return bool(self.rows or self.codes)
 
-    def has_row(self, place: Origin) -> bool:
-        """Returns whether a row is asked for by its number."""
-        return not self or any(first <= place.number <= last for first, last in self.rows)
+    def has_row(self, number: int) -> bool:
+        """Returns whether a row, or a line, is asked for by its number."""
+        return not self or any(first <= number <= last for first, last in self.rows)
 
     def has(self, record: Record) -> bool:
         """Returns whether the label of a line is asked for."""
         if self.codes and not self.codes.isdisjoint(names_of_code(record)):
             return True
-        return self.has_row(record.origin)
+        return self.has_row(record.origin_number)
 
     def missing(self, records: Iterable[Record], known: Iterable[Origin]) -> Iterator[LeftOut]:
         """Yields what is asked for and not in the input; `known` are rows without a line."""
         rows = {place.number for place in known}
         codes: set[bytes] = set()
         for record in records:
-            rows.add(record.origin.number)
+            rows.add(record.origin_number)
             if self.codes:
                 codes.update(names_of_code(record))
         if lacking := ranges_of(self.lacking(rows)):

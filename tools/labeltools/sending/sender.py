@@ -196,7 +196,7 @@ class Sender:
     @property
     def is_clear(self) -> bool:
         """Whether a number is that of one line: several tables have rows of the same numbers."""
-        return len({record.origin.number for record in self.records}) == len(self.records)
+        return len({record.origin_number for record in self.records}) == len(self.records)
 
     def told(self, error: ToolError, place: Text) -> ToolError:
         """Returns an error at a label with what to do."""

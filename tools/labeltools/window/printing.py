@@ -184,7 +184,7 @@ def of_rows(labels: Prepared, ranges: Ranges) -> Prepared:
 
 def table_row(item: LaidOut) -> int:
     """Returns the row of a label in its table."""
-    return item.record.origin.number
+    return item.record.origin_number
 
 
 def on_sheets(labels: Prepared, ranges: Ranges) -> Prepared:

@@ -62,7 +62,7 @@ class Rows:
         for old in printed:
             before.setdefault(old.key, set()).add(old.shown)
         ranges = ranges_in(typed.replace(" ", ""))
-        records = {item.record.origin.number: item.record for item in prints}
+        records = {item.record.origin_number: item.record for item in prints}
         self.window.widgets.rows.clear()
         for number, record in sorted(records.items()):
             is_marked = any(first <= number <= last for first, last in ranges)
