@@ -5,12 +5,6 @@ evidence speaks for, and what only the keeper knows.
 from collections.abc import Collection, Mapping, Sequence
 
 from labeltools.common.budget import Budget, COMPARED
-from labeltools.tables.amounts import (
-    is_above_costs,
-    is_never_above,
-    is_paid_beside,
-    with_taxes,
-)
 from labeltools.tables.candidates import (
     are_different_texts,
     charged,
@@ -32,6 +26,12 @@ from labeltools.tables.candidates import (
 from labeltools.tables.cell_kinds import FEW, has_unit
 from labeltools.tables.code_readings import CodeReading, is_isbn_10, LEAST
 from labeltools.tables.column_samples import ColumnSample, Plainness
+from labeltools.tables.compared_amounts import (
+    is_above_costs,
+    is_never_above,
+    is_paid_beside,
+    with_taxes,
+)
 from labeltools.tables.evidence import evidences_of
 from labeltools.tables.scores import Decision, probable_choice
 from labeltools.tables.variants import variants_in

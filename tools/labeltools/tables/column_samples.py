@@ -8,7 +8,7 @@ from enum import IntEnum
 from functools import cached_property
 from os.path import commonprefix
 
-from labeltools.tables.cell_kinds import is_money, price_in
+from labeltools.tables.cell_kinds import amount_in, is_money
 from labeltools.tables.code_readings import has_lost_zeros, is_code, LEAST, passing_share
 from labeltools.tables.columns import NAME_WITH_DIGITS
 from labeltools.tables.name_words import column_words, words_in
@@ -58,7 +58,7 @@ class ColumnSample:
     @cached_property
     def amounts(self) -> Sequence[Decimal | None]:
         """The amounts of money in its cells, but for zero."""
-        return [price_in(cell) for cell in self.cells]
+        return [amount_in(cell) for cell in self.cells]
 
     def part(self, test: Callable[[str], object]) -> float:
         """Returns the part of its texts that pass a test; those that it refuses do not."""

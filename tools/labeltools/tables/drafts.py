@@ -15,17 +15,17 @@ from labeltools.tables.codes import Code, code_of, CodeRules, is_in_brackets
 from labeltools.tables.columns import Column
 from labeltools.tables.findings import Findings, HAS_DIGIT
 from labeltools.tables.money import (
-    currency_of,
-    currency_remedy,
+    ARITHMETIC,
     Money,
     MOST_DECIMALS,
+    MOST_LOST,
     NotMoney,
-    parse,
-    parse_unit_price,
-    plain_signs,
+    PROGRAM_DECIMALS,
+    read_price,
+    read_unit_price,
 )
 from labeltools.tables.name_words import column_words, folded
-from labeltools.tables.prices import ARITHMETIC, MOST_LOST, nearest, PROGRAM_DECIMALS
+from labeltools.tables.price_words import currency_of, currency_remedy, plain_signs
 from labeltools.tables.table_options import Columns, TableOptions
 from labeltools.tables.twice import twice_encoded
 from labeltools.tables.variants import Variants
@@ -285,7 +285,7 @@ class DraftReader:
             raise column.error(RowError(what, hint)) from None
         if money is None or number is None:
             return Price(column, text, money, currency)
-        found = Price(column, text, nearest(money, number), currency)
+        found = Price(column, text, money.nearest_to(number), currency)
         self.see_price(found, row.number, number)
         return found
 
@@ -297,7 +297,9 @@ class DraftReader:
                 raise NotMoney(Text("has neither a letter nor a digit"))
             return None
         most = PROGRAM_DECIMALS if rules.pattern else MOST_DECIMALS
-        return parse_unit_price(text, currency, most) if is_unit else parse(text, currency, most)
+        if is_unit:
+            return read_unit_price(text, currency, most)
+        return read_price(text, currency, most)
 
 
 def bare_texts(row: Row) -> Iterator[str]:

@@ -15,8 +15,9 @@ from labeltools.lines.file import Record
 from labeltools.sheets.number_format import DATE_HINT, Formatter
 from labeltools.tables.codes import Code
 from labeltools.tables.columns import Column
-from labeltools.tables.money import Money, WORDS
-from labeltools.tables.prices import CENTS, measure_of, PriceColumn
+from labeltools.tables.money import Money
+from labeltools.tables.price_words import PRICE_WORDS
+from labeltools.tables.prices import IN_CENTS, measure_of, PriceColumn
 from labeltools.tables.summary import rows_text, Totals
 from labeltools.tables.table_options import Columns, TableOptions
 
@@ -25,7 +26,7 @@ ESCAPED = re.compile(r"\\(?:u[0-9a-f]{4}|x[0-9a-f]{2}|[\"'/])|(?<!\w)\"\"\w", re
 HTML = re.compile("</?[a-z][^<>]*>|&(?:[a-z]{2,8}|#[0-9]{1,6});", re.IGNORECASE)
 QUOTES = frozenset("'\"`")
 AS_IT_IS = Text("it is printed as it is")
-SUMS = WORDS["sums"]  # what is in front of a sum below a table
+SUMS = PRICE_WORDS["sums"]  # what is in front of a sum below a table
 HAS_DIGIT = re.compile("[0-9]")
 
 
@@ -139,7 +140,7 @@ class Findings:
                 currencies = ", ".join(sorted(prices.currencies))
                 talk.say(Text("the prices have several currencies: {}", currencies))
             measure = measure_of(column.name) if column else NOTHING
-            is_meant = prices.are_bare if measure is CENTS else column is not columns[1]
+            is_meant = prices.are_bare if measure is IN_CENTS else column is not columns[1]
             if column and measure and is_meant:
                 text = Text(
                     "the name of {} says {}, but its prices are printed as they are",

@@ -12,8 +12,8 @@ from labeltools.tables.codes import Code
 from labeltools.tables.columns import Column
 from labeltools.tables.drafts import Draft, Price
 from labeltools.tables.findings import Findings
-from labeltools.tables.money import Money, NotMoney
-from labeltools.tables.prices import PriceColumn, settled, USUAL_DECIMALS, with_currency
+from labeltools.tables.money import is_above, Money, NotMoney
+from labeltools.tables.prices import PriceColumn, USUAL_DECIMALS, with_currency
 from labeltools.tables.table_options import Columns, TableOptions
 
 LARGEST_OUTPUT = 1 << 27  # bytes
@@ -51,7 +51,7 @@ class LineWriter:
         now, _, was = draft.prices
         for price, column in zip(draft.prices, self.findings.prices):
             if price and price.money:
-                column.add(price.money, price.currency or "")
+                column.add_price(price.money, price.currency or "")
                 if not price.money.value or price.money.decimals not in USUAL_DECIMALS:
                     self.see_price(row, price, price.money)
         if now and was and not is_above(was.money, now.money):
@@ -131,7 +131,7 @@ class LineWriter:
         try:
             if pattern is None:
                 return with_currency(price.money, price.text, price.currency)
-            money = settled(price.money, column)
+            money = column.settled(price.money)
             text = pattern.write(money, price.currency or "")
             if pattern.changes(money.value):
                 said = Text("row {} has {}, which is rounded to {}", row, price.text, text)
@@ -168,13 +168,6 @@ class LineWriter:
                 Text("the table has more than 128 MB of texts"),
                 Text("split it into several tables"),
             )
-
-
-def is_above(price: Money | None, other: Money | None) -> bool:
-    """Returns whether a price is above another price, or both cannot be compared."""
-    if not price or not other or price.is_open or other.is_open:
-        return True
-    return price.value > other.value or price.currency != other.currency
 
 
 def shown_by(lines: LinesFile) -> Older:

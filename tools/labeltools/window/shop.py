@@ -27,10 +27,10 @@ from labeltools.sheets.file_options import CsvOptions
 from labeltools.tables.codes import AUTO
 from labeltools.tables.columns import column_word
 from labeltools.tables.guess import guess_of
-from labeltools.tables.money import NotMoney, parse
+from labeltools.tables.money import NotMoney, PROGRAM_DECIMALS, read_price
 from labeltools.tables.name_words import column_words, words_in
 from labeltools.tables.old_encoding import old_encoding
-from labeltools.tables.prices import PricePattern, PROGRAM_DECIMALS
+from labeltools.tables.prices import PricePattern
 from labeltools.tables.summary import labels_from, sentences
 from labeltools.tables.table import Lines, lines_of_table, ZIP
 from labeltools.tables.table_options import TableOptions
@@ -210,7 +210,7 @@ class Table:
         currency = "" if place is None else self.guess.examples[place]
         for pattern in filter(None, (self.guessed_pattern(price), *patterns)):
             with suppress(NotMoney):
-                money = parse(example, most_decimals=PROGRAM_DECIMALS)
+                money = read_price(example, most_decimals=PROGRAM_DECIMALS)
                 yield PricePattern.of(pattern).write(money, currency), pattern
 
     def made(self, choices: Choices, talk: WindowTalk) -> MadeLabels:
