@@ -22,7 +22,7 @@ class LeftOut:
     hint: Text = NOTHING
 
 
-def report(left_out: Sequence[LeftOut], tables: Iterable[str]) -> Iterator[Text]:
+def left_out_messages(left_out: Sequence[LeftOut], tables: Iterable[str]) -> Iterator[Text]:
     """Yields a message for each reason, those of the most labels first, and one for all further
     reasons; places are named with their table where there are several.
     """

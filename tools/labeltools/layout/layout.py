@@ -119,7 +119,7 @@ def lay_out(labels: Sequence[Record], area: Area, letters: Letters, talk: Talk) 
         is_forced = area.wishes.turn is True
         if is_forced or (found.left_out and counted):
             turned = laid_out_needs(counted, area.turned())
-            if is_forced or turned.count(counted) > found.count(counted):
+            if is_forced or turned.laid_out_count(counted) > found.laid_out_count(counted):
                 found = turned
     return found.of_labels(labels, needs)
 
@@ -177,7 +177,7 @@ class LaidOutNeeds:
     layouts: Mapping[Need, Layout]
     left_out: tuple[Need, ...]
 
-    def count(self, counted: Needs) -> int:
+    def laid_out_count(self, counted: Needs) -> int:
         """Returns how many labels have a layout."""
         return sum(sum(counted[need].values()) for need in self.layouts)
 

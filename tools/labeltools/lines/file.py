@@ -102,7 +102,7 @@ class Record(NamedTuple):
         return Record(self.row, self.title, self.text, price, unit, was, self.copies, self.names)
 
     @property
-    def shown(self) -> tuple[str, tuple[str, ...], str, str, str]:
+    def printed_beside(self) -> tuple[str, tuple[str, ...], str, str, str]:
         """What is printed beside the code: its title, its text and its prices."""
         return self.title, self.text, self.price, self.unit, self.was
 
@@ -144,7 +144,7 @@ class Record(NamedTuple):
         return self.symbology, self.data
 
     @property
-    def code(self) -> bytes:
+    def code_line(self) -> bytes:
         """Its code on one line, with its symbology, as a journal has it."""
         symbology, data = self.key
         return symbology.encode("utf-8", "replace") + b" " + escaped(data)
@@ -224,7 +224,7 @@ def read_lines(
     longest = LINE.most(len(data))
     for number, ended in zip(numbers or count(1), BytesIO(data)):
         if number % LOOKED_AFTER == 0:
-            budget.look()
+            budget.look_at_clock()
         if len(ended) > longest:
             raise budget.refusal(LINE)
         line = ended.removesuffix(b"\n")

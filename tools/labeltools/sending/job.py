@@ -93,7 +93,7 @@ class SentJob:
     title: str = field(default="", compare=False)
 
     @property
-    def key(self) -> str:
+    def name_of_file(self) -> str:
         """A text for the name of a file, from which `job_of` makes it again."""
         return f"{self.number}.{self.created}.{self.queue}"
 
@@ -273,7 +273,7 @@ def job_of(key: str) -> SentJob:
     """Returns the job of a key; raises `ValueError` if it is none.
 
     >>> job = SentJob("till.3", 7, 1764392400)
-    >>> job.key, job_of(job.key) == job
+    >>> job.name_of_file, job_of(job.name_of_file) == job
     ('7.1764392400.till.3', True)
     """
     number, created, queue = key.split(".", 2)

@@ -50,7 +50,7 @@ class Printer:
         return self.state is LOST
 
 
-def printers(known: Known) -> Iterator[Printer]:
+def known_printers(known: Known) -> Iterator[Printer]:
     """Yields the printers, those of CUPS first, if it is there."""
     with suppress(ToolError):
         yield from queues_of_cups(known)

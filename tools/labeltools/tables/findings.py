@@ -9,7 +9,7 @@ from dataclasses import dataclass, field
 from labeltools.common.column_names import said_of_empty
 from labeltools.common.messages import quoted, Talk
 from labeltools.common.report import listed
-from labeltools.common.text import counted, give, NOTHING, Remedy, Text
+from labeltools.common.text import counted, hint_of_remedies, NOTHING, Remedy, Text
 from labeltools.lines.accents import has_accents, said_of_accents
 from labeltools.lines.file import Record
 from labeltools.sheets.number_format import DATE_HINT, Formatter
@@ -82,13 +82,13 @@ class Findings:
         else:
             self.in_quotes.setdefault(column.place, (column, []))[1].append((row, text))
 
-    def add(self, record: Record, code: Code, price: Money | None) -> None:
+    def count_label(self, record: Record, code: Code, price: Money | None) -> None:
         """Counts a label that is written."""
         self.count += 1
         self.filled.update(record.names)
-        self.totals.add(code.symbology, record.copies)
+        self.totals.count_row(code.symbology, record.copies)
         if price:
-            self.totals.add_price(price.value, record.price)
+            self.totals.count_price(price.value, record.price)
         if not HAS_DIGIT.search(code.data):
             self.words[record.row] = code.data
         if has_accents(code.symbology, code.data):
@@ -98,7 +98,7 @@ class Findings:
         if not record.price:
             self.without_price.append(record.row)
 
-    def say(self, talk: Talk, formatter: Formatter) -> None:
+    def say_all(self, talk: Talk, formatter: Formatter) -> None:
         """Says all that there is to say about the whole table."""
         self.say_of_empty(talk)
         self.say_of_prices(talk)
@@ -180,7 +180,7 @@ class Findings:
                 Remedy("decimal", sign, Text("{}", look))
                 for sign, look in zip(("comma", "point"), looks)
             ]
-            talk.say(text, Text("else {}", give(*remedies)))
+            talk.say(text, Text("else {}", hint_of_remedies(*remedies)))
         if formatter.first_date and not formatter.date_as:
             text = Text("dates are printed as {}: is that right?", quoted(formatter.first_date))
             talk.say(text, Text("else {}", DATE_HINT))

@@ -7,7 +7,7 @@ from contextlib import suppress
 from dataclasses import dataclass, field
 from decimal import Decimal, ROUND_HALF_UP
 
-from labeltools.common.text import give, NOTHING, Remedy, Text
+from labeltools.common.text import hint_of_remedies, NOTHING, Remedy, Text
 from labeltools.tables.money import (
     ARITHMETIC,
     Money,
@@ -38,7 +38,7 @@ OF_MANY = re.compile(
 IN_CENTS = Text("cents")
 USUAL_DECIMALS = (0, 2, 3)
 THOUSANDS_OR_DECIMALS = Text("may have thousands or decimals")
-DECIMAL_HINT = give(
+DECIMAL_HINT = hint_of_remedies(
     Remedy("decimal", "comma", Text("The comma, as in 1,50")),
     Remedy("decimal", "point", Text("The point, as in 1.50")),
 )
@@ -162,15 +162,15 @@ class PricePattern:
     end: str
 
     @classmethod
-    def of(cls, text: str) -> "PricePattern":
+    def from_text(cls, text: str) -> "PricePattern":
         """Returns a pattern; raises ValueError. A sign with three zeros behind it and no other is
         one of thousands, but for a currency with three decimals.
 
-        >>> PricePattern.of("0.000,00 €")
+        >>> PricePattern.from_text("0.000,00 €")
         PricePattern(front='', group='.', point=',', decimals=2, dash='', end=' €')
-        >>> PricePattern.of("KD 0.000")
+        >>> PricePattern.from_text("KD 0.000")
         PricePattern(front='KD ', group='', point='.', decimals=3, dash='', end='')
-        >>> PricePattern.of("¥0,000").group, PricePattern.of("0,–").dash
+        >>> PricePattern.from_text("¥0,000").group, PricePattern.from_text("0,–").dash
         (',', '–')
         """
         found = PATTERN.fullmatch(text.translate(dict.fromkeys(map(ord, SPACES[:-1]), " ")))
@@ -205,26 +205,26 @@ class PricePattern:
         `currency` is that of the row, where it has one in a column of its own.
 
         >>> from labeltools.tables.money import read_price
-        >>> write = PricePattern.of("0.000,00 €").write
+        >>> write = PricePattern.from_text("0.000,00 €").write
         >>> write(read_price("7.5")), write(read_price("1,234.565")), write(read_price("99 ct"))
         ('7,50 €', '1.234,57 €', '0,99 €')
-        >>> PricePattern.of("0,– ¤").write(read_price("4.00"), "CHF")
+        >>> PricePattern.from_text("0,– ¤").write(read_price("4.00"), "CHF")
         '4,– CHF'
-        >>> PricePattern.of("¤ 0,00").write(read_price("3 kr."))
+        >>> PricePattern.from_text("¤ 0,00").write(read_price("3 kr."))
         'kr 3,00'
         >>> write(read_price("8.330000000000002 €", most_decimals=17))
         '8,33 €'
         >>> write(read_price("$3"))
         Traceback (most recent call last):
         labeltools.tables.money.NotMoney: has $, and the format of prices has EUR
-        >>> PricePattern.of("0 €").write(read_price("4,99"))
+        >>> PricePattern.from_text("0 €").write(read_price("4,99"))
         Traceback (most recent call last):
         labeltools.tables.money.NotMoney: has decimals, and the format of prices has none
         """
         if price.words:
             raise NotMoney(Text("has words, which the format of prices would lose"))
         self.check_currency(price, currency)
-        shown = self.rounded(price.value)
+        shown = self.rounded_value(price.value)
         if self.decimals < 2 and shown != price.value:
             raise NotMoney(Text("has decimals, and the format of prices has none"))
         if not shown and price.value:
@@ -232,25 +232,25 @@ class PricePattern:
         if abs(shown - price.value) > price.value * MOST_LOST:
             raise NotMoney(Text("would be rounded by more than 1 %"))
         own = currency or SIGN_OF.get(price.currency, price.currency)
-        number = (self.front + self.number(shown) + self.end).replace("¤", own)
+        number = (self.front + self.number_text(shown) + self.end).replace("¤", own)
         unit = f" {price.unit}".replace(" /", "/") if price.unit else ""
         return f"{price.basis}{number}{unit}{price.end}"
 
-    def rounded(self, value: Decimal) -> Decimal:
+    def rounded_value(self, value: Decimal) -> Decimal:
         """Returns a value with the decimals of the pattern."""
         return value.quantize(Decimal(1).scaleb(-self.decimals), ROUND_HALF_UP)
 
-    def changes(self, value: Decimal) -> bool:
+    def changes_amount(self, value: Decimal) -> bool:
         """Returns whether rounding makes another amount of a value, and not only takes away what a
         program's arithmetic has left.
 
-        >>> changes = PricePattern.of("0.00").changes
+        >>> changes = PricePattern.from_text("0.00").changes_amount
         >>> changes(Decimal("1.859")), changes(Decimal("8.330000000000002"))
         (True, False)
         """
-        return abs(self.rounded(value) - value) > ARITHMETIC
+        return abs(self.rounded_value(value) - value) > ARITHMETIC
 
-    def number(self, shown: Decimal) -> str:
+    def number_text(self, shown: Decimal) -> str:
         """Returns a rounded number with the signs of the pattern."""
         whole, _, decimals = f"{shown:,f}".partition(".")
         behind = self.point + (self.dash or decimals) if self.point else ""

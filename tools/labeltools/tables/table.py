@@ -10,7 +10,7 @@ from labeltools.common.budget import Budget
 from labeltools.common.messages import BAD_ARGUMENTS, quoted, RowError, Talk, ToolError
 from labeltools.common.text import Remedy, Text
 from labeltools.lines.symbologies import CODE128
-from labeltools.sheets.cells import seen
+from labeltools.sheets.cells import seen_text
 from labeltools.sheets.csv_table import csv_table
 from labeltools.sheets.file_options import CsvOptions
 from labeltools.sheets.number_format import Formatter, local_date, local_signs
@@ -87,7 +87,7 @@ def lines_of_table(data: bytes, name: str, options: TableOptions, talk: Talk) ->
     if work.unmarked and not writer.taken:
         raise nothing_marked(columns, name)
     output = writer.finish()
-    findings.say(talk, start.formatter)
+    findings.say_all(talk, start.formatter)
     left_out = tuple(writer.left_out)
     return Lines(output, findings.count, left_out, findings.hidden, findings.totals)
 
@@ -140,7 +140,7 @@ def table_rows(
             raise ToolError(what, Text("leave out {}", remedy), BAD_ARGUMENTS)
     if is_csv:
         how = CsvOptions(options.file, options.columns.asked, options.codes.is_free)
-        return csv_table(data, how, budget).rows()
+        return csv_table(data, how, budget).read_rows()
     return rows_of_workbook(data, options.file.sheet, formatter, talk, budget)
 
 
@@ -193,15 +193,15 @@ class TableRun:
             if row.is_hidden and not self.options.file.hidden:
                 self.findings.hidden += 1
             else:
-                self.take(row)
+                self.take_row(row)
 
-    def take(self, row: Row) -> None:
+    def take_row(self, row: Row) -> None:
         """Takes one row that is not blank, or leaves it out."""
         try:
             draft = self.reader.draft(row)
         except RowError as problem:
             place = self.columns.code.place if problem.column is None else problem.column
-            cell = seen(row.cells[place] if place < len(row.cells) else "")
+            cell = seen_text(row.cells[place] if place < len(row.cells) else "")
             self.wrong_digits += isinstance(problem, WrongDigit)
             self.held.append((row.number, cell, problem))
             if not self.is_holding or len(self.held) > MOST_HELD:
@@ -211,7 +211,7 @@ class TableRun:
             self.unmarked += 1
             return
         self.leave_out_held()
-        self.writer.take(draft)
+        self.writer.take_draft(draft)
 
     def leave_out_held(self) -> None:
         """Leaves out the rows that are held, and holds no more: one message is not for all."""

@@ -75,9 +75,9 @@ class Preview:
         if job.form.is_drawn:
             self.press.draw(canvas, page)
         else:
-            self.draw_dots(canvas, page)
+            self.draw_seen_dots(canvas, page)
 
-    def draw_dots(self, canvas: Any, page: Page) -> None:
+    def draw_seen_dots(self, canvas: Any, page: Page) -> None:
         """Draws the dots that are seen, on a canvas whose unit is a dot."""
         left, top, right, bottom = (math.floor(side) for side in canvas.clip_extents())
         size = right - left + 1, bottom - top + 1

@@ -10,7 +10,7 @@ from urllib.parse import quote
 
 from labeltools.common.language import _, ngettext
 from labeltools.common.report import Ranges
-from labeltools.common.text import whole
+from labeltools.common.text import whole_sentence
 from labeltools.layout.layout import LaidOut
 from labeltools.printing.press import Prepared
 from labeltools.printing.selection import ranges_in
@@ -60,7 +60,9 @@ class Printing:
         self.rows = Rows(window)
         self.printer = ""
 
-    def ask(self, printer: Printer, labels: Prepared, options: Options) -> Printout | None:
+    def ask_what_is_printed(
+        self, printer: Printer, labels: Prepared, options: Options
+    ) -> Printout | None:
         """Asks what is to be printed; returns nothing if that is cancelled."""
         window = self.window
         self.labels, self.printer = labels, printer.key
@@ -74,14 +76,14 @@ class Printing:
         window.widgets.print_what.set_active_id("rows")
         window.widgets.print_what.set_visible(not is_roll)
         window.widgets.print_some.set_label(_("_Only rows") if is_roll else _("_Only"))
-        self.fill(options)
+        self.fill_options(options)
         self.show_what()
         window.widgets.print_yes.grab_focus()  # Enter prints
         answer = window.widgets.printing.run()
         window.widgets.printing.hide()
         return self.wanted() if answer == Gtk.ResponseType.OK else None
 
-    def fill(self, options: Options) -> None:
+    def fill_options(self, options: Options) -> None:
         """Fills the choices of a driver, with those of the last time."""
         kept = PRINTERS.all().get(self.printer, {})
         for name, choice in ((TRAY, self.window.widgets.tray), (MEDIA, self.window.widgets.media)):
@@ -97,7 +99,7 @@ class Printing:
 
     def on_choose(self, _button: Any) -> None:
         """Asks for the rows in a list."""
-        chosen = self.rows.choose(self.labels, self.window.widgets.print_rows.get_text())
+        chosen = self.rows.ask_for_rows(self.labels, self.window.widgets.print_rows.get_text())
         if chosen is not None:
             self.window.widgets.print_what.set_active_id("rows")
             self.window.widgets.print_rows.set_text(chosen)
@@ -125,7 +127,7 @@ class Printing:
         is_sheet = not (job.form.is_roll or job.plan.sheet.is_single)
         put = text.format(count=count, stock=stock) if is_sheet else ""
         count = self.window.made.left_out
-        left_out = whole(skipped(count)) if count else ""
+        left_out = whole_sentence(skipped(count)) if count else ""
         self.window.widgets.print_put.set_text("\n".join(filter(None, (put, left_out))))
 
     def wanted(self) -> Printout:
