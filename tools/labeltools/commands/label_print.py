@@ -31,6 +31,7 @@ from labeltools.designs.svg_design import is_file
 from labeltools.drawing.forms import FORMS, PBM
 from labeltools.layout.area import PURPOSES
 from labeltools.lines.file import Record
+from labeltools.paper.sizes import A4
 from labeltools.paper.stock import forget_glabels, list_stock, Size
 from labeltools.printing.job import AS_GIVEN, DRAWING_DPI, Job, planned, PrintOptions, refuse
 from labeltools.printing.press import check_count, labels_of, Prepared
@@ -198,7 +199,7 @@ OPTIONS: Mapping[str, Sequence[Option]] = {
         ),
         Option("--columns", "N", "cells side by side", from_one),
         Option("--rows", "N", "cells below one another", from_one),
-        Option("--page", "WxH", "the size of the page (210x297)", width_and_height),
+        Option("--page", "WxH", "the size of the page ({:g}x{:g})".format(*A4), width_and_height),
         Option(
             "--margin",
             "LEFTxTOP",

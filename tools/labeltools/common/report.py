@@ -73,6 +73,11 @@ def ranges_text(ranges: Ranges, unit: str = "row") -> Text:
     return Text("{} .. ({} in all)", text, count) if len(ranges) > MOST_RANGES else text
 
 
+def is_in_ranges(number: int, ranges: Ranges) -> bool:
+    """Returns whether a number is in one of some ranges."""
+    return any(first <= number <= last for first, last in ranges)
+
+
 def range_words(ranges: Ranges) -> Iterator[str]:
     """Yields ranges as they are typed, such as `2` and `5-9`."""
     return (f"{first}" if first == last else f"{first}-{last}" for first, last in ranges)

@@ -9,7 +9,14 @@ from typing import Iterable, Iterator
 
 from labeltools.common.messages import Origin, ToolError
 from labeltools.common.process import read_file
-from labeltools.common.report import few, LeftOut, Ranges, ranges_of, ranges_text
+from labeltools.common.report import (
+    few,
+    is_in_ranges,
+    LeftOut,
+    Ranges,
+    ranges_of,
+    ranges_text,
+)
 from labeltools.common.text import Text
 from labeltools.lines.file import Record
 
@@ -31,7 +38,7 @@ class Selection:
 
     def has_row(self, number: int) -> bool:
         """Returns whether a row, or a line, is asked for by its number."""
-        return not self or any(first <= number <= last for first, last in self.rows)
+        return not self or is_in_ranges(number, self.rows)
 
     def has_label(self, record: Record) -> bool:
         """Returns whether the label of a line is asked for."""

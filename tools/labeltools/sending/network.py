@@ -57,6 +57,11 @@ def address_of(name: str) -> tuple[str, int]:
     raise ToolError(what, status=BAD_ARGUMENTS)
 
 
+def is_in_network(printer: str) -> bool:
+    """Returns whether a printer is one in the network, which is named as tcp://HOST."""
+    return printer.startswith(SCHEME)
+
+
 class NetworkPrinter(Outlet):
     """A printer named as tcp://HOST[:PORT]; `stuck` are seconds in which it may take nothing."""
 

@@ -15,7 +15,7 @@ from labeltools.lines.file import Record
 from labeltools.printing.press import Batch, Prepared, Press
 from labeltools.printing.selection import FILE
 from labeltools.sending.journal import Entry, Journal, SENDING
-from labeltools.sending.network import NetworkPrinter, SCHEME
+from labeltools.sending.network import is_in_network, NetworkPrinter
 from labeltools.sending.outlets import (
     Broken,
     Collected,
@@ -336,7 +336,7 @@ def expected(error: Exception, kind: type[ToolError]) -> ToolError:
 
 def direct_outlet(printer: str) -> Outlet:
     """Returns the way to a printer in the network, or to one that is a file."""
-    if printer.startswith(SCHEME):
+    if is_in_network(printer):
         return NetworkPrinter(printer)
     return Device(printer)
 

@@ -10,7 +10,13 @@ from typing import Any, TYPE_CHECKING
 from labeltools.common.language import _
 from labeltools.common.messages import ToolError
 from labeltools.common.text import translated
-from labeltools.printing.job import is_direct, planned, PrintOptions
+from labeltools.printing.job import (
+    DRAWING_DPI,
+    is_direct,
+    LABELS_DPI,
+    planned,
+    PrintOptions,
+)
 from labeltools.printing.press import labels_of
 from labeltools.sending.network import address_of, SCHEME
 from labeltools.sending.printers import (
@@ -35,8 +41,6 @@ if TYPE_CHECKING:
 ADD, FILE, NONE = "add", "file", "-"  # rows of the list that are no printers
 ICONS = {QUEUE: "printer-symbolic", USB: "printer-symbolic"}
 LANGUAGES = ("zpl", "escpos")  # of printers that take labels one by one
-USUAL_DPI = 203  # of these printers
-DRAWING_DPI = 600
 PDF = ("pdf", DRAWING_DPI)  # a form, and its dots an inch
 NAMES = {"pdf": "PDF", "zpl": "ZPL", "escpos": "ESC/POS"}
 TEST = b'#{"title":"Test","price":"1,00"}\ncode128 TEST-123\n'
@@ -122,7 +126,7 @@ class Printers:
         if not key and kept.get("to") in LANGUAGES and kept.get("address"):
             key = SCHEME + kept["address"].removeprefix(SCHEME)
             name = key.removeprefix(SCHEME)
-            known = {"name": name, "to": kept["to"], "dpi": str(kept.get("dpi", USUAL_DPI))}
+            known = {"name": name, "to": kept["to"], "dpi": str(kept.get("dpi", LABELS_DPI))}
             PRINTERS.keep(key, known)
             self.all |= {
                 printer.key: printer
@@ -132,7 +136,7 @@ class Printers:
         self.is_decided = bool(kept.get("to"))
         form, is_roll = kept.get("to"), kept.get("roll")
         if is_roll and form in LANGUAGES:
-            self.of_files[True] = form, int(kept.get("dpi") or USUAL_DPI)
+            self.of_files[True] = form, int(kept.get("dpi") or LABELS_DPI)
         if key:
             self.settle(key)
         if key == FILE:
@@ -186,7 +190,7 @@ class Printers:
         elif not printer.form:
             self.ask_language(printer)
         elif printer.form in LANGUAGES:
-            self.of_files[True] = printer.form, printer.dpi or USUAL_DPI
+            self.of_files[True] = printer.form, printer.dpi or LABELS_DPI
             self.decide(*self.of_files[True], True)
         else:
             self.window.has_labels = False  # they are for another printer
@@ -249,8 +253,7 @@ class Printers:
         """
         printer = self.chosen
         if printer is None:
-            usual = USUAL_DPI if form in LANGUAGES else DRAWING_DPI
-            self.of_files[self.window.choices().roll] = form, usual
+            self.of_files[self.window.choices().roll] = form, usual_dpi(form)
             self.show_button()
         if printer is None or printer.way == QUEUE:
             return False
@@ -330,6 +333,11 @@ class Printers:
         elif error is not None:
             text = str(error)
         self.window.widgets.new_said.set_text(text)
+
+
+def usual_dpi(form: str) -> int:
+    """Returns the dots an inch that printers of a form mostly have."""
+    return LABELS_DPI if form in LANGUAGES else DRAWING_DPI
 
 
 def show_rows(model: Any, rows: Sequence[Shown]) -> None:

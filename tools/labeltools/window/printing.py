@@ -9,9 +9,10 @@ from typing import Any, TYPE_CHECKING
 from urllib.parse import quote
 
 from labeltools.common.language import _, ngettext
-from labeltools.common.report import Ranges
+from labeltools.common.report import is_in_ranges, Ranges
 from labeltools.common.text import whole_sentence
 from labeltools.layout.layout import LaidOut
+from labeltools.printing.job import is_direct
 from labeltools.printing.press import Prepared
 from labeltools.printing.selection import ranges_in
 from labeltools.sending.printers import MEDIA, Printer, TRAY
@@ -95,7 +96,7 @@ class Printing:
             choice.set_active_id(kept[name] if is_known else "")
             for part in (choice, *choice.list_mnemonic_labels()):
                 part.set_visible(name in options)
-        self.window.widgets.print_queue.set_visible("/" not in self.printer)
+        self.window.widgets.print_queue.set_visible(not is_direct(self.printer))
 
     def on_choose(self, _button: Any) -> None:
         """Asks for the rows in a list."""
@@ -172,15 +173,10 @@ def all_text(labels: Prepared, is_roll: bool) -> str:
     return f"{text}, {sheets}"
 
 
-def is_in(number: int, ranges: Ranges) -> bool:
-    """Returns whether a number is in one of some ranges."""
-    return any(first <= number <= last for first, last in ranges)
-
-
 def of_rows(labels: Prepared, ranges: Ranges) -> Prepared:
     """Returns the labels of some rows of the table."""
     return replace(
-        labels, prints=[item for item in labels.prints if is_in(table_row(item), ranges)]
+        labels, prints=[item for item in labels.prints if is_in_ranges(table_row(item), ranges)]
     )
 
 
@@ -193,8 +189,8 @@ def on_sheets(labels: Prepared, ranges: Ranges) -> Prepared:
     """Returns the labels that are on some sheets; only the first one may begin at a later cell."""
     job = labels.job
     pages = enumerate(labels.prints, 1)
-    prints = [item for number, item in pages if is_in(job.pages_of(number), ranges)]
-    first = job.options.first if is_in(1, ranges) else 1
+    prints = [item for number, item in pages if is_in_ranges(job.pages_of(number), ranges)]
+    first = job.options.first if is_in_ranges(1, ranges) else 1
     return replace(
         labels, prints=prints, job=replace(job, options=replace(job.options, first=first))
     )

@@ -6,7 +6,7 @@ from collections.abc import Sequence
 from typing import Any, TYPE_CHECKING
 
 from labeltools.common.language import ngettext
-from labeltools.common.report import range_words, ranges_of
+from labeltools.common.report import is_in_ranges, range_words, ranges_of
 from labeltools.layout.layout import LaidOut
 from labeltools.lines.file import Record
 from labeltools.printing.press import Prepared
@@ -65,7 +65,7 @@ class Rows:
         records = {item.record.origin_number: item.record for item in prints}
         self.window.widgets.rows.clear()
         for number, record in sorted(records.items()):
-            is_marked = any(first <= number <= last for first, last in ranges)
+            is_marked = is_in_ranges(number, ranges)
             is_new = record.printed_beside not in before.get(record.key, ())
             code = record.data.decode("utf-8", "replace")
             shown = (code, record.title, record.price)

@@ -53,7 +53,7 @@ from labeltools.window.gtk import (
 )
 from labeltools.window.presets import Presets
 from labeltools.window.preview import Preview
-from labeltools.window.printers import Printers
+from labeltools.window.printers import Printers, usual_dpi
 from labeltools.window.questions import Answers, asked_at, CENTS, Questions, reason_and_hint, which
 from labeltools.window.shop import MadeLabels, skipped, Table
 from labeltools.window.ways import WaysOut
@@ -73,7 +73,6 @@ RANGES = {"header_row": (0, 1000), "first": (1, 10_000), "width": (5, 500), "hei
 MOST_NOTES = 2000
 MOST_HELPS = 3  # buttons above the notes
 LOW = 700  # pixels of a window in which the list of notes is closed at first
-USUAL_DPI = {"zpl": "203", "escpos": "203"}  # of the printers of these languages
 LISTED = 400  # milliseconds after a letter in which GTK shows the list of what fits
 LEAST_WRAP = 150  # pixels in which reasons are wrapped
 WRAP_MARGIN = 20  # pixels of the list beside the reasons
@@ -552,7 +551,7 @@ class Window(ApplicationWindow):
         form = language.get_active_id()
         if not self.is_filling and not self.of_printers.take_language(form):
             with self.filling():
-                self.take_values(dpi=USUAL_DPI.get(form, "600"))
+                self.take_values(dpi=str(usual_dpi(form)))
             self.make()
 
     def offer_resolution(self, dpi: str) -> None:
