@@ -112,9 +112,8 @@ class Pdf:
         if head is None:
             raise ValueError("a page without content")
         high, content = head.groups()
-        before, *pictures, end = self.stream(self.object_start(int(content))).rsplit(
-            b" Do\n", codes
-        )
+        drawn = self.stream(self.object_start(int(content)))
+        before, *pictures, end = drawn.rsplit(b" Do\n", codes)
         if len(pictures) != codes - 1 or not END.fullmatch(end):
             raise ValueError("a page that does not end in its codes")
         first = before.rindex(b"q\n") + len(b"q\n")

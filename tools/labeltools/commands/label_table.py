@@ -405,10 +405,8 @@ def propose(words: Sequence[str], arguments: argparse.Namespace) -> None:
 
 def is_given(arguments: argparse.Namespace) -> bool:
     """Returns whether it was said how the codes are read."""
-    return (
-        record_of_arguments(CodeRules, arguments) != CodeRules()
-        or arguments.symbology_column is not None
-    )
+    rules = record_of_arguments(CodeRules, arguments)
+    return rules != CodeRules() or arguments.symbology_column is not None
 
 
 def commands_for(

@@ -272,8 +272,9 @@ class _Reader:
     def take_object(self, number: int, line: bytes) -> None:
         """Takes a remark that is an object."""
         found = object_of(line, self.name, number)
-        count = len(self.records) - self.first if self.first >= 0 else -1
-        is_early = "labels" in found and self.first >= 0
+        is_in_table = self.first >= 0
+        count = len(self.records) - self.first if is_in_table else -1
+        is_early = "labels" in found and is_in_table
         is_short = "end" in found and found.get("lines", -2) != count
         if self.waiting or is_early or is_short:
             self.torn = self.torn or Text("before line {}", number)
@@ -335,7 +336,8 @@ def object_of(line: bytes, name: str, number: int) -> dict[str, Any]:
     wrong = [key for key, value in found.items() if key not in KEYS or not is_of(value, KEYS[key])]
     wrong += [key for key in ONE_LINE if "\n" in str(found.get(key, ""))]
     is_known = found.get("labels", found.get("end", VERSION)) == VERSION
-    if is_known and found and not wrong and found.get("copies", 0) <= MOST_COPIES:
+    is_right = bool(found) and not wrong and found.get("copies", 0) <= MOST_COPIES
+    if is_known and is_right:
         return found
     where = Text("{}: line {}", name, number)
     if not is_known:

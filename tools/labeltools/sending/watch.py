@@ -55,9 +55,12 @@ class Watch:
         while self.question is not None:
             self.answer = self.answer_now()
             answer = self.answer
-            if answer is None or answer.left is None or answer.is_empty or answer.troubles:
+            if answer is None or answer.left is None:  # nobody knows how many it has left
                 return
-            if before is None or answer.left != before.left:
+            if answer.is_empty or answer.troubles:
+                return
+            has_moved = before is None or answer.left != before.left
+            if has_moved:
                 before = answer
                 end = time.monotonic() + IDLE
             if answer.left < least:
@@ -75,7 +78,9 @@ class Watch:
         if self.question is None:
             return None
         answer = self.outlet.ask(self.question)
-        if answer is None or not answer.left or answer.troubles or self.more is None:
+        if answer is None or not answer.left or answer.troubles:
+            return answer
+        if self.more is None:
             return answer
         more = self.outlet.ask(self.more)
         if more is None:

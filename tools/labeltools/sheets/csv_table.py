@@ -176,11 +176,8 @@ def delimiter_of(text: str, begin: int, given: str | None, options: CsvOptions) 
     is_cut = fits[best].is_cut
     if given:
         if is_cut and given != ONE_COLUMN and not fits[given].is_cut:
-            what = Text(
-                "row 1 has {} between cells, and not {}",
-                named_character(best),
-                named_character(given),
-            )
+            signs = map(named_character, (best, given))
+            what = Text("row 1 has {} between cells, and not {}", *signs)
             remedy = Remedy("delimiter", says=Text("Find what is between cells"), is_less=True)
             hint = Text("leave out {}", remedy)
             raise ToolError(what, hint, BAD_ARGUMENTS)
@@ -208,9 +205,8 @@ def refuse_delimiter(text: str, begin: int, marks: Sequence[str]) -> None:
                     Remedy("delimiter", "tab" if mark == "\t" else mark, BETWEEN),
                     Remedy("delimiter", "none", Text("It is data")),
                 )
-                raise ToolError(
-                    Text("row {} has {}", row.number, named_character(mark)), hint, BAD_ARGUMENTS
-                )
+                what = Text("row {} has {}", row.number, named_character(mark))
+                raise ToolError(what, hint, BAD_ARGUMENTS)
 
 
 def delimiter_of_names(text: str, begin: int, options: CsvOptions) -> str:

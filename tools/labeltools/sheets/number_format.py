@@ -126,9 +126,7 @@ class Formatter:
     first_number: str = field(default="", init=False)
     first_date: str = field(default="", init=False)
 
-    def number_as_shown(
-        self, number_format: str, value: Decimal, is_from_1904: bool = False
-    ) -> str:
+    def formatted(self, number_format: str, value: Decimal, is_from_1904: bool = False) -> str:
         """Returns a number as its format shows it; raises `RowError` for a format that is not
         understood.
         """

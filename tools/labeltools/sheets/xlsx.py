@@ -235,9 +235,7 @@ class XlsxNumber(Special):
         """Returns the number as its format shows it."""
         if not self.text:
             book = self.book
-            shown = book.formatter.number_as_shown(
-                self.number_format, self.exact, book.is_from_1904
-            )
+            shown = book.formatter.formatted(self.number_format, self.exact, book.is_from_1904)
             self.text = shown
         return self.text
 

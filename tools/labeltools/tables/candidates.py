@@ -36,7 +36,8 @@ def may_be_code(column: ColumnSample) -> bool:
     share is none.
     """
     texts = column.texts
-    if not texts or len(texts) > 1 == len(set(texts)):
+    is_shared = len(texts) > 1 and len(set(texts)) == 1
+    if not texts or is_shared:
         return False
     if column.has_codes:
         return True
@@ -48,9 +49,9 @@ def may_be_code(column: ColumnSample) -> bool:
         return False
     if column.mostly_pass(ARTICLE.fullmatch):
         return True
-    is_named = column.mostly_pass(DIGITS.search) or not column.says("articles")
-    is_named = is_named and bool(column.says("numbers", *CODES))
-    return is_named and not column.mostly_pass(SPACE.search)
+    is_named = bool(column.says("numbers", *CODES))
+    may_be_number = column.mostly_pass(DIGITS.search) or not column.says("articles")
+    return is_named and may_be_number and not column.mostly_pass(SPACE.search)
 
 
 def is_of_other(column: ColumnSample) -> bool:
@@ -74,7 +75,8 @@ def may_be_title(column: ColumnSample) -> bool:
     others = column.says("others", "stock", "numbers", "own-numbers")
     if others - column.says("articles", "beside-titles"):
         return False
-    if column.says("prices") and not column.says("titles") or column.mostly_pass(TAG.fullmatch):
+    is_price = column.says("prices") and not column.says("titles")
+    if is_price or column.mostly_pass(TAG.fullmatch):
         return False
     differs = column.differing >= LEAST and column.mostly_pass(LETTERS.search)
     return column.mostly_pass(has_letters) and (differs or bool(column.says("titles", "articles")))
@@ -109,7 +111,8 @@ def may_be_amounts(column: ColumnSample) -> bool:
     has_price = any(map(ABOVE_ZERO.search, column.texts)) and column.passing_part(is_amount) > 0
     if column.says("prices", "priced"):
         is_plain = column.plainness(*PAID) is Plainness.PLAIN
-        return has_price or is_plain and (not column.texts or column.mostly_pass(ERROR.fullmatch))
+        has_no_amounts = not column.texts or column.mostly_pass(ERROR.fullmatch)
+        return has_price or is_plain and has_no_amounts
     is_number = column.says("others", "numbers", "codes", "own-numbers", "copies")
     is_named = column.says("paid", "sold", "taxed", "currencies", "cost", "net", "old", "sale")
     may_be = bool(is_named) or column.mostly_pass(is_money)

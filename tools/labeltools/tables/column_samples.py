@@ -88,9 +88,8 @@ class ColumnSample:
         >>> sorted(ColumnSample("Einkaufspreis netto, VK, Aktion").says("cost", "net"))
         ['einkaufspreis', 'netto']
         """
-        return frozenset().union(
-            *(self.words_by_kind[kind] for kind in kinds if kind in self.words_by_kind)
-        )
+        known = self.words_by_kind
+        return frozenset().union(*(known[kind] for kind in kinds if kind in known))
 
     @cached_property
     def words_by_kind(self) -> Mapping[str, frozenset[str]]:
@@ -122,8 +121,7 @@ def samples_of(names: Sequence[str], cells: Iterable[Sequence[str]]) -> list[Col
     found = [ColumnSample(name[len(start) :], texts) for name, texts in zip(names, cells)]
     stocks = (column for column in found if column.says("stock"))
     shop = frozenset().union(*(stock.name_words - stock.says(*column_words()) for stock in stocks))
-    costs = (
-        cost for cost in found if cost.texts and cost.says("cost") and cost.mostly_pass(is_money)
-    )
+    named = (column for column in found if column.texts and column.says("cost"))
+    costs = (column for column in named if column.mostly_pass(is_money))
     shop = shop.union(*(cost.name_words - cost.says("cost") for cost in costs))
     return [replace(column, shared=shop & column.name_words, parts={}) for column in found]

@@ -111,13 +111,10 @@ class Column:
         if self.compared_text(row).casefold() == value.casefold():
             return True
         cell = row.cell(self.place)
-        if (
-            isinstance(cell, str)
-            or cell.cell_kind is not CellKind.NUMBER
-            or not NUMBER.fullmatch(value)
-        ):
+        if isinstance(cell, str) or not NUMBER.fullmatch(value):
             return False
-        return Decimal(value.replace(",", ".")) == cell.number()
+        is_number = cell.cell_kind is CellKind.NUMBER
+        return is_number and Decimal(value.replace(",", ".")) == cell.number()
 
 
 @dataclass(frozen=True)

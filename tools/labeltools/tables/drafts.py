@@ -96,14 +96,13 @@ class DraftReader:
         place = self.columns.code.place
         cell = row.cells[place] if place < len(row.cells) else ""
         typed = cell if isinstance(cell, str) else cell.value
-        if not typed.isdigit() or typed == self.code_name or self.other_names:  # but most rows
+        may_be_names = not typed.isdigit() or typed == self.code_name
+        if may_be_names or self.other_names:  # few rows
             self.refuse_names(row)
         if self.columns.variants_of:
             self.variants.see_title(row)
         columns = self.columns
-        if columns.where and not all(
-            column.has_value(row, value) for column, value in columns.where
-        ):
+        if not all(column.has_value(row, value) for column, value in columns.where):
             return None
         code = self.row_code(row)
         self.right_codes += 1
@@ -148,10 +147,14 @@ class DraftReader:
         ]
         place = self.columns.code.place
         code, *others = (*texts[place : place + 1], *texts[:place], *texts[place + 1 :])
-        if self.names and code and (code == self.code_name or is_name_of_codes(code)):
+        if not self.names:
+            return False
+        is_name = bool(code) and (code == self.code_name or is_name_of_codes(code))
+        if is_name:
             return any(others) and not any(map(HAS_DIGIT.search, others))
         named = sum(text in self.names for text in texts if text)
-        if not self.names or named < 2 or 2 * named < sum(map(bool, texts)):
+        are_few = named < 2 or 2 * named < sum(map(bool, texts))
+        if are_few:
             return False
         for column in self.columns.asked:
             name = self.names[column.place] if column.place < len(self.names) else ""
@@ -237,11 +240,11 @@ class DraftReader:
         if lost <= ARITHMETIC:  # most prices, at once
             return
         value = format(round(number, SHOWN_DECIMALS).normalize(), "f")
-        if lost > min(abs(number) * MOST_LOST, HALF.scaleb(-money.decimals) + ARITHMETIC):
+        most = min(abs(number) * MOST_LOST, HALF.scaleb(-money.decimals) + ARITHMETIC)
+        if lost > most:
             what = Text("is shown as {}, and its value is {}", quoted(price.text), value)
-            raise price.column.cell_error(
-                RowError(what, Text("give it a number format of two decimals"))
-            )
+            hint = Text("give it a number format of two decimals")
+            raise price.column.cell_error(RowError(what, hint))
         if money.decimals < 2:
             said = Text("row {} shows the price {}, and its value is {}", row, price.text, value)
             self.findings.see(("rounded", price.column), said)
@@ -317,9 +320,8 @@ def is_name_of_codes(text: str) -> bool:
     """
     if KIND_OF_CODES.fullmatch(text):
         return True
-    return not HAS_DIGIT.search(text) and column_words()["codes"].knows(
-        folded(text).replace(" ", "")
-    )
+    word = folded(text).replace(" ", "")
+    return not HAS_DIGIT.search(text) and column_words()["codes"].knows(word)
 
 
 def symbology_in(column: Column, row: Row, default: str) -> str:

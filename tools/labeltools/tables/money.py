@@ -24,7 +24,7 @@ from labeltools.common.text import NOTHING, Remedy, Text
 from labeltools.tables.price_words import (
     currency_of,
     currency_remedy,
-    may_be_same_currency,
+    is_same_currency,
     plain_signs,
     PRICE_WORDS,
     WITHOUT_DECIMALS,
@@ -375,9 +375,7 @@ def currencies_and_words(before: str, behind: str, own: str) -> tuple[set[str], 
                 raise NotMoney(OTHER_WORDS, hint_for(side))
             if code is None:
                 words += [word] if word else []
-            elif code == "cent" or all(
-                may_be_same_currency(code, currency) for currency in currencies
-            ):
+            elif code == "cent" or all(is_same_currency(code, currency) for currency in currencies):
                 currencies.add(code)
             else:
                 raise NotMoney(Text("has two currencies"), Text("write only one of them"))

@@ -93,10 +93,10 @@ def currency_of_cell(text: str) -> str:
     return currency_of(plain, plain) or ""
 
 
-def may_be_same_currency(currency: str, other: str) -> bool:
+def is_same_currency(currency: str, other: str) -> bool:
     """Returns whether two currencies, each a sign or a code, may be one.
 
-    >>> may_be_same_currency("$", "CAD"), may_be_same_currency("EUR", "CHF")
+    >>> is_same_currency("$", "CAD"), is_same_currency("EUR", "CHF")
     (True, False)
     """
     return currency == other or (currency, other) in PAIRS or (other, currency) in PAIRS

@@ -21,8 +21,8 @@ from labeltools.tables.money import (
 from labeltools.tables.price_words import (
     currency_of,
     currency_of_cell,
+    is_same_currency,
     LOOKS,
-    may_be_same_currency,
     plain_signs,
     PRICE_WORDS,
     SPACES,
@@ -264,7 +264,7 @@ class PricePattern:
         found = currency_of_row(price, currency) or price.currency
         wanted = currency_of(plain_signs(own)) if own not in ("", "¤") else ""
         has_one = found not in ("", "cent")
-        if has_one and wanted and not may_be_same_currency(found, wanted):
+        if has_one and wanted and not is_same_currency(found, wanted):
             raise NotMoney(Text("has {}, and the format of prices has {}", found, wanted))
         if "¤" in own and not has_one:
             raise NotMoney(Text("has no currency, and the format of prices wants one"))
@@ -277,11 +277,8 @@ def currency_of_row(price: Money, currency: str) -> str:
     price has another one.
     """
     row = currency_of_cell(currency)
-    if (
-        currency
-        and price.currency not in ("", "cent")
-        and not may_be_same_currency(price.currency, row)
-    ):
+    has_own = price.currency not in ("", "cent")
+    if currency and has_own and not is_same_currency(price.currency, row):
         what = Text("has {}, and its row has {}", price.currency, currency)
         raise NotMoney(what, Text("write the same currency in both"))
     return row

@@ -102,21 +102,28 @@ def head_of(
     formatter = Formatter(local_signs(options.file.decimal), options.file.date_as, local_date())
     rows = table_rows(data, options, formatter, talk, budget)
     wanted = options.file.header_row
-    below = (row for row in rows if wanted or not row.is_blank())
-    first = next((row for row in below if row.number >= (wanted or 0)), None)
-    if first is None or wanted and (first.number != wanted or first.is_blank()):
-        what = (
-            Text("{} has nothing in row {}", name, wanted)
-            if wanted
-            else Text("{} has only empty cells", name)
-        )
-        raise ToolError(what)
+    first = row_with_names(rows, wanted)
+    if first is None and wanted:
+        raise ToolError(Text("{} has nothing in row {}", name, wanted))
+    if first is None:
+        raise ToolError(Text("{} has only empty cells", name))
     if first.problem:
         problem = first.problem
         raise ToolError(Text("{}: row {}: {}", name, first.number, problem.what), problem.hint)
     if options.file.has_header is False:
         return Start(Head(first, ()), chain([first], rows), formatter)
     return Start(Head(first, column_names(first)), rows, formatter)
+
+
+def row_with_names(rows: Iterator[Row], wanted: int | None) -> Row | None:
+    """Returns the row of a number, or else the first one that is not blank; None where there is
+    none, or where that of the number is blank.
+    """
+    if not wanted:
+        return next((row for row in rows if not row.is_blank()), None)
+    found = next((row for row in rows if row.number >= wanted), None)
+    is_there = found is not None and found.number == wanted and not found.is_blank()
+    return found if is_there else None
 
 
 def table_rows(

@@ -271,9 +271,8 @@ class WaysOut:
         def way(labels: Prepared, talk: WindowTalk) -> Sent:
             sent, _text = print_by_cups(labels, queue, talk, wanted.options)
             count = len(labels.prints)
-            parts = whole_sentence(sent_to(count, name)), whole_sentence(
-                windowed(queue.resolution_doubt(labels.job))
-            )
+            doubt = windowed(queue.resolution_doubt(labels.job))
+            parts = whole_sentence(sent_to(count, name)), whole_sentence(doubt)
             return Sent(sent, joined(" ", filter(None, parts)), count)
 
         self.send_out(way, wanted.labels, not wanted.is_trial)
