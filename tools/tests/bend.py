@@ -181,7 +181,7 @@ def judge_answer(data: bytes) -> None:
     """Reads the answers of a printer."""
     for query in (MORE, *QUERIES.values()):
         query.read(data)
-    with mock.patch.object(ipp, "asked", return_value=data):
+    with mock.patch.object(ipp, "ipp_answer", return_value=data):
         ipp.state_at_printer("ipp://a", "a")
 
 

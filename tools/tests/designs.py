@@ -77,7 +77,7 @@ def prepared(
 def dots_of(found: Prepared, number: int = 0) -> jobs.Dots:
     """The dots of a label on its page, as they go out."""
     press = found.press(Silence())
-    document = press.document(press.part([found.labels[number]]))
+    document = press.document(press.batch_of_same([found.labels[number]]))
     return jobs.pictures_of_pbm(document)[0]
 
 

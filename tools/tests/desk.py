@@ -145,7 +145,7 @@ class Desk(unittest.TestCase):
 
     def is_doubtful(self, journal: Journal, number: int) -> bool:
         """Whether the label of a line of TICKETS, from 0, is in doubt."""
-        return self.records[number].code in journal.doubtful()
+        return self.records[number].code_line in journal.doubtful()
 
     # ---- programs
 

@@ -114,7 +114,7 @@ def bars_of(words: Sequence[str], lines: bytes) -> Iterator[Bars]:
     options = print_options(words)
     prepared = labels_of(planned(options), "lines", lines, Silence())
     press = prepared.press(Silence())
-    (part,) = press.parts(prepared.prints)
+    (part,) = press.batches(prepared.prints)
     for number, page in enumerate(part.pages):
         for item, (left, top) in page:
             box, modules = item.layout.boxes["bars"], item.record.modules

@@ -13,7 +13,7 @@ from unittest import mock
 
 from guess_tables import FOLDER, small_tables, Table, tables, Verdict, verdict_of
 from labeltools.common.budget import Budget
-from labeltools.tables import amounts, candidates, choices, evidence, guess, scores
+from labeltools.tables import candidates, choices, compared_amounts, evidence, guess, scores
 from labeltools.tables.candidates import CODE, PRICE, ROLES, Samples
 from labeltools.tables.evidence import Evidences, evidences_of
 from labeltools.tables.guess import samples_from
@@ -184,7 +184,8 @@ def never(*_: Any) -> bool:
     return False
 
 
-FACTS = (candidates, choices, amounts, evidence)  # the modules whose functions are switched off
+# the modules whose functions are switched off
+FACTS = (candidates, choices, compared_amounts, evidence)
 CALLERS = (*FACTS, guess)
 # what other functions than facts return that are switched off; those that are not here only name
 # what others decide

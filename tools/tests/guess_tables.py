@@ -7,9 +7,9 @@ from collections.abc import Collection, Iterator, Mapping, Sequence
 from contextlib import suppress
 from dataclasses import dataclass, replace
 from enum import StrEnum
-from pathlib import Path
 from typing import Any
 
+from folders import TESTS
 from labeltools.common.budget import Budget
 from labeltools.common.messages import Silence, ToolError
 from labeltools.common.text import remedies_of
@@ -18,7 +18,7 @@ from labeltools.tables.guess import guess, Guess, guess_of, table_columns
 from labeltools.tables.old_encoding import old_encoding
 from labeltools.tables.table_options import TableOptions
 
-FOLDER = Path(__file__).with_name("tables")
+FOLDER = TESTS / "tables"
 ROLES = ("code", "title", "price", "unit-price", "old-price", "copies")
 # what belongs to these, by its names in the truth and in a guess
 BESIDE = {"second-title": "title", "variants-of": "variants-of"}

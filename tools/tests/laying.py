@@ -73,7 +73,7 @@ def laid_out(data: bytes, cell: tuple[float, float], dpi: int = 300, **options: 
 def documents_of(found: Prepared) -> list[bytes]:
     """What goes out of labels: files that are whole by themselves."""
     press = found.press(Silence())
-    parts = enumerate(press.parts(found.prints))
+    parts = enumerate(press.batches(found.prints))
     return [press.document(part, number == 0) for number, part in parts]
 
 

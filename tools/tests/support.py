@@ -25,9 +25,9 @@ from pathlib import Path
 from typing import Any, NoReturn, Sequence
 from unittest import mock
 
-TESTS = Path(__file__).resolve().parent
-TOP = TESTS.parent.parent
-OURS = TOP / "tools"
+import folders
+
+TESTS, OURS, TOP = folders.TESTS, folders.OURS, folders.TOP
 TOOLS = Path(os.environ.get("TOOLS") or OURS)
 LOCALES = ("C", "C.UTF-8")
 SECONDS = 600  # that a program may take on a busy machine: one that hangs is ended
@@ -42,9 +42,6 @@ os.environ["LC_ALL"] = "C.UTF-8"  # of these too: their dates are those of the l
 for ending in (signal.SIGHUP, signal.SIGINT, signal.SIGTERM):
     if signal.getsignal(ending) == signal.SIG_IGN:
         signal.signal(ending, lambda *_: None)
-
-if str(OURS) not in sys.path:
-    sys.path.insert(0, str(OURS))
 
 Finished = subprocess.CompletedProcess
 # A test that takes seconds of a processor: `make quick` leaves it to the gate, which runs all.

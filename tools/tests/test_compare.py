@@ -16,7 +16,7 @@ import zxingcpp
 import jobs
 import support
 from labeltools.checking import compare, decode
-from labeltools.checking.read_pdf import pages_of
+from labeltools.checking.read_pdf import drawn_pages
 from labeltools.common.messages import Silence, ToolError
 from labeltools.designs import svg_layout as own_layout
 from labeltools.drawing import dots, escpos, pen, zpl
@@ -150,7 +150,7 @@ def is_refused(wanted: compare.Wanted, rows: Sequence[bytes]) -> bool:
     """Whether dots of a page are not those of a symbol."""
     page = Picture(8 * len(rows[0]), len(rows), b"".join(rows))
     try:
-        compare.check_dots(wanted, page, 0.125)
+        compare.check_symbol_dots(wanted, page, 0.125)
     except compare.Different:
         return True
     return False
@@ -267,7 +267,7 @@ RUN_LENGTHS = zpl.run_lengths
 DRAW_MODULES = pen.Pen.draw_modules
 DRAW_WHITE = pen.Pen.draw_white
 DRAWN = engine.drawn
-ENGINE_DRAW: Callable[..., Any] = engine.Engine.draw
+ENGINE_DRAW: Callable[..., Any] = engine.Engine.modules_of_line
 PAGE = press.Press.page
 IMAGE = escpos.image
 FIELDS_OF = zpl.graphic_fields
@@ -309,8 +309,8 @@ FAULTS = {
     "bits of bytes exchanged": Fault(PEN + "REVERSED", bytes(range(256)), ("pdf",)),
     "guards too short": Fault(PEN + "GUARD", 4, FORMS, PAIR),
     "a dot to the right": Fault(
-        PEN + "scaled",
-        changed(pen.scaled, box=lambda box: box._replace(left=box.left + 1)),
+        PEN + "picture_matrix",
+        changed(pen.picture_matrix, box=lambda box: box._replace(left=box.left + 1)),
         ("pdf",),
     ),
     "a dot to the right in dots": Fault(
@@ -319,8 +319,8 @@ FAULTS = {
         ("svg", *DOTS),
     ),
     "a row of bars short": Fault(
-        PEN + "scaled",
-        changed(pen.scaled, box=lambda box: box._replace(height=box.height - 1)),
+        PEN + "picture_matrix",
+        changed(pen.picture_matrix, box=lambda box: box._replace(height=box.height - 1)),
         ("pdf",),
     ),
     "a row of bars short in dots": Fault(
@@ -332,7 +332,7 @@ FAULTS = {
     "a code twice in its place": Fault(PEN + "Pen.draw_modules", twice, ("pdf",)),
     "lines mixed up": Fault("labeltools.lines.file.drawn", mixed, FORMS, PAIR),
     "a quiet zone a module short": Fault(
-        "labeltools.lines.engine.Engine.draw", without_zone, FORMS
+        "labeltools.lines.engine.Engine.modules_of_line", without_zone, FORMS
     ),
     "a title over the code": Fault(PEN + "Pen.texts", moved_text(False, 0, 110), FORMS),
     "a price over the code": Fault(PEN + "Pen.texts", moved_text(True, -150, 40), FORMS),
@@ -388,10 +388,14 @@ FAULTS = {
         "labeltools.drawing.escpos.image", lambda rows: IMAGE(rows[:-1]), ("escpos",)
     ),
     "pages exchanged": Fault(
-        "labeltools.printing.press.Press.told", lambda self, part: part.pages[::-1], ("pdf",)
+        "labeltools.printing.press.Press.pages_of_batch",
+        lambda self, part: part.pages[::-1],
+        ("pdf",),
     ),
     "a page lost": Fault(
-        "labeltools.printing.press.Press.told", lambda self, part: part.pages[1:], ("pdf",)
+        "labeltools.printing.press.Press.pages_of_batch",
+        lambda self, part: part.pages[1:],
+        ("pdf",),
     ),
     "a row of a pbm blank": Fault(
         "labeltools.printing.press.pbm",
@@ -499,7 +503,7 @@ class OwnDesigns(unittest.TestCase):
         for form, (number, line) in product(FORMS, enumerate(lines)):
             with self.subTest(form=form, line=line):
                 found = self.found(form, None, form in ("svg", "png"))
-                wrong = drawn_wrong(number, engine.Engine(False).draw(line))
+                wrong = drawn_wrong(number, engine.Engine(False).modules_of_line(line))
                 with mock.patch(PEN + "Pen.draw_modules", wrong):
                     with self.assertRaisesRegex(ToolError, "^row 2: its code is wrong"):
                         documents_of(found)
@@ -535,8 +539,8 @@ class OwnDesigns(unittest.TestCase):
         """In dots it is seen; in a drawing symbols are over it."""
         for form in DOTS:
             found = self.found(form, None, form in ("svg", "png"))
-            shown = changed(pen.Pen.show, corner=lambda corner: (corner[0], corner[1] + 150))
-            with self.subTest(form=form), mock.patch(PEN + "Pen.show", shown):
+            shown = changed(pen.Pen.show_text, corner=lambda corner: (corner[0], corner[1] + 150))
+            with self.subTest(form=form), mock.patch(PEN + "Pen.show_text", shown):
                 with self.assertRaisesRegex(ToolError, "^row 2: its code is wrong"):
                     documents_of(found)
 
@@ -585,7 +589,7 @@ class LongTexts(unittest.TestCase):
 
     def test_a_fault_is_seen(self) -> None:
         """The code of another label."""
-        other = engine.Engine(False).draw(b"code128 A-1")
+        other = engine.Engine(False).modules_of_line(b"code128 A-1")
         for script, is_sheet in product(self.SCRIPTS, (False, True)):
             found = self.in_own_design(self.SCRIPTS[script], is_sheet)
             with self.subTest(script=script, is_sheet=is_sheet):
@@ -633,7 +637,7 @@ def whites_of(symbol: Any, scale: int, quarters: int, corner: tuple[int, int]) -
     found = [Box(0, 0, len(rows[0]), high)]
     for first, last in compare.GUARDS.get(symbol.symbology, ()):
         found.append(Box(symbol.quiet_zones[0] + first, high, last - first, 5))
-    boxes = [compare.turned(box, (len(rows[0]), len(rows)), quarters) for box in found]
+    boxes = [compare.turned_box(box, (len(rows[0]), len(rows)), quarters) for box in found]
     dots = [[scale * side for side in box] for box in boxes]
     return tuple(Box(left + corner[0], top + corner[1], *size) for left, top, *size in dots)
 
@@ -714,7 +718,7 @@ class Read(unittest.TestCase):
         pen.bar_boxes.cache_clear()  # of boxes by another test, whose guards are short
         found = found_of(options_of("pdf"), PAIR[:1])
         comparison = found.press(Silence()).comparison
-        (page,) = pages_of(documents_of(found)[0], 203, 1, [1])
+        (page,) = drawn_pages(documents_of(found)[0], 203, 1, [1])
         (code,) = page.codes
         wanted = [*comparison.wanted_on([(found.labels[0], found.job.plan.places[0])])]
         corners = tuple((x + 0.5, y) for x, y in code.corners)

@@ -33,7 +33,7 @@ class Chosen(Desk):
     def rows(self, rows: str, *codes: str) -> list[int]:
         only = selection_of(ranges_in(rows), codes)
         records = read_lines(b"ean13 4006381333931\n" + TICKETS, "lines").records
-        return [record.number for record in records if only and only.has(record)]
+        return [record.number for record in records if only and only.has_label(record)]
 
     def test_rows_and_codes(self) -> None:
         self.assertEqual(self.rows("2,29-"), [2, 29, 30, 31])
@@ -302,7 +302,7 @@ class Journals(Desk):
         """
         journal = Journal(self.path, "tcp://a")
         journal.claim(self.records[0])
-        journal.take(self.records[0])
+        journal.write_taken(self.records[0])
         journal.claim(self.records[1])
         head, line, mark, other = Path(self.path).read_bytes().splitlines(keepends=True)
         for before, last, number in ((head + line + mark, other, 1), (head + line, mark, 0)):

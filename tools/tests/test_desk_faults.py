@@ -291,7 +291,7 @@ class Editors(Desk):
         old = Path(self.path).read_bytes()
         for record in self.records[:2]:
             journal.claim(record)
-            journal.take(record)
+            journal.write_taken(record)
         Path(self.folder, "new").write_bytes(old)
         os.rename(f"{self.folder}/new", self.path)
         with self.assertRaisesRegex(ToolError, "it lacks line 1, line 2, which the same command"):
@@ -356,7 +356,7 @@ class Lanes(Desk):
 
     def test_too_many_lanes(self) -> None:
         free = journals.FAR  # the byte that is locked to read and write
-        busy = mock.patch.object(Journal, "is_free", lambda _, byte: byte == free)
+        busy = mock.patch.object(Journal, "lock_if_free", lambda _, byte: byte == free)
         with busy, self.assertRaisesRegex(ToolError, "64 runs print with it already"):
             Journal(self.path, "tcp://a")
 

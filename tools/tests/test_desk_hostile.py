@@ -385,7 +385,7 @@ class Ends(Desk):
                 file.write(b"new")
                 with path.open("ab") as other:
                     other.write(added)
-                files.take_back(file.fileno(), 3, 3)
+                files.take_out_last(file.fileno(), 3, 3)
                 self.assertEqual(path.read_bytes(), left)
                 if not added:
                     file.write(b"later")

@@ -514,8 +514,8 @@ class Guesses(unittest.TestCase):
             (("short",), ("long",)),
         ):
             for kind, other in itertools.product(kinds, others):
-                shared = {word for word in words[kind].all if words[other].has(word)}
-                shared |= {word for word in words[other].all if words[kind].has(word)}
+                shared = {word for word in words[kind].all if words[other].knows(word)}
+                shared |= {word for word in words[other].all if words[kind].knows(word)}
                 self.assertEqual(shared, set(), f"{kind} and {other}")
 
     def check_proposals(self, folder: Path) -> None:

@@ -24,7 +24,7 @@ def lines_of(name: str) -> list[str]:
 def outcome(text: str) -> object:
     """The price of a text, or why it is none."""
     try:
-        return money.parse.__wrapped__(text)
+        return money.read_price.__wrapped__(text)
     except money.NotMoney as error:
         return str(error.what)
 
@@ -36,14 +36,14 @@ class Prices(unittest.TestCase):
             cell, bar, value = line.translate(SPACES).rpartition("|")
             if value and bar:
                 with self.subTest(cell):
-                    price = money.parse(cell)
+                    price = money.read_price(cell)
                     readings = [price.value, price.value / 1000] if price.is_open else [price.value]
                     self.assertIn(Decimal(value), readings)
                     self.assertEqual(price.text, cell.strip())
                     count += 1
             elif bar:
                 with self.assertRaises(money.NotMoney, msg=cell):
-                    money.parse(cell)
+                    money.read_price(cell)
         self.assertGreater(count, 500)
 
     @support.slow
@@ -69,7 +69,7 @@ class Prices(unittest.TestCase):
         for line in lines:
             cell = line.replace("\\n", "\n").replace("\\ufffd", "\ufffd")
             with self.subTest(cell), self.assertRaises(money.NotMoney):
-                money.parse(cell)
+                money.read_price(cell)
 
 
 if __name__ == "__main__":

@@ -50,8 +50,8 @@ class Pages(unittest.TestCase):
     def test_a_page_by_its_number(self) -> None:
         press = self.found.press(Silence())
         prints = self.found.prints
-        (whole,) = press.parts(prints)
-        self.assertEqual(whole.count, len(prints))
+        (whole,) = press.batches(prints)
+        self.assertEqual(whole.label_count, len(prints))
         self.assertEqual(len(whole.pages[0]), 21 - 4)
         for number, page in enumerate(whole.pages):
             self.assertEqual(press.page(number, prints), page, number)

@@ -119,7 +119,7 @@ class Drivers(unittest.TestCase):
         job = planned(PrintOptions(stock="Avery L7160", dpi=300))
         for common, is_doubted in ((300, False), (600, False), (360, True), (0, True)):
             queue = Queue("office", 0, {}, common=common)
-            self.assertEqual(bool(queue.doubt(job)), is_doubted, common)
+            self.assertEqual(bool(queue.resolution_doubt(job)), is_doubted, common)
 
     def test_dots_of_a_driver(self) -> None:
         """What is told last counts, the fewer of those across and down; none that do not fit."""
@@ -320,7 +320,7 @@ class Queues(unittest.TestCase):
                     queue.options(sheet)
             elif on_sheets == 600:
                 self.assertEqual(queue.options(sheet).get("Resolution"), word, name)
-                self.assertEqual(bool(queue.doubt(sheet)), not dpi, name)
+                self.assertEqual(bool(queue.resolution_doubt(sheet)), not dpi, name)
 
     def test_what_is_chosen_for_a_job(self) -> None:
         self.assertEqual(queue_of("hplip", {"OutputMode": "Best"}).dpi, 600)
@@ -641,7 +641,7 @@ class Queues(unittest.TestCase):
         done = self.printed(*self.SHEET, "--print", "gives-up")
         self.assertRegex(done.stderr.decode(), "some labels may be on paper: .*job [0-9]+")
         self.assertEqual(done.returncode, 1)
-        (job,) = ipp.groups_of(ipp.asked(device))
+        (job,) = ipp.groups_of(ipp.ipp_answer(device))
         name = job[ipp.NAME].decode()
         self.assertRegex(name, "^labels [0-9:.]+ [0-9a-f]+-[0-9]+$")
         self.assertEqual(ipp.state_at_printer(device, name), ABORTED)

@@ -91,7 +91,7 @@ class LinesFile(unittest.TestCase):
 
     def test_what_is_written_is_read(self) -> None:
         found = read_lines(self.file(), "x")
-        label = attrgetter("row", "shown", "copies", "names")
+        label = attrgetter("row", "printed_beside", "copies", "names")
         self.assertEqual([*map(label, found.records)], [*map(label, self.LABELS)])
         places = [record.origin for record in found.records]
         self.assertEqual(places, [Origin("articles.xlsx", "row", row) for row in (2, 4)])

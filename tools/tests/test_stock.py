@@ -35,7 +35,7 @@ class Stock(unittest.TestCase):
             self.assertEqual((done.returncode, done.stdout), (2, b""))
             self.assertIn(reason, done.stderr.decode(), name)
         names: dict[str, set[str]] = {}
-        for brand, part in stock.parts():
+        for brand, part in stock.glabels_parts():
             names.setdefault(stock.bare_name(part), set()).add(brand)
         shared = next(name for name, brands in names.items() if len(brands) > 1)
         with self.assertRaisesRegex(Exception, "several makers have it; name one of "):
@@ -54,15 +54,15 @@ class Stock(unittest.TestCase):
         self.assertGreater(len(list(stock.list_stock(""))), 1400)
 
     def test_lengths_namespaces_and_chains(self) -> None:
-        self.assertGreater(sum(brand == "Hama" for brand, _ in stock.parts()), 3)
+        self.assertGreater(sum(brand == "Hama" for brand, _ in stock.glabels_parts()), 3)
         self.assertAlmostEqual(stock.stock_sheet("Herma 4464").cell[0], 199 / 72 * 25.4)
-        element = stock.parts()["Connect", "KF10647"]
+        element = stock.glabels_parts()["Connect", "KF10647"]
         layout = next(element.iterfind(".//{*}Layout"))
         self.assertLess(stock.lengths_of(layout, "x0", "y0")[0], 1e-9)
-        followed = [key for key, part in stock.parts().items() if part.get("equiv")]
+        followed = [key for key, part in stock.glabels_parts().items() if part.get("equiv")]
         self.assertGreater(len(followed), 500)
         several = stock.glabels_sheet(("JAC", "F-3070"))
-        layouts = list(stock.parts()["JAC", "F-3070"].iterfind(".//{*}Layout"))
+        layouts = list(stock.glabels_parts()["JAC", "F-3070"].iterfind(".//{*}Layout"))
         self.assertGreater(len(layouts), 1)
         self.assertEqual(
             len(several.places),
@@ -75,7 +75,7 @@ class Stock(unittest.TestCase):
         with tempfile.TemporaryDirectory() as folder, unittest.mock.patch.object(
             stock, "TEMPLATES", Path(folder)
         ):
-            for clear in (stock.parts.cache_clear, stock.brands.cache_clear):
+            for clear in (stock.glabels_parts.cache_clear, stock.brands.cache_clear):
                 clear()
                 self.addCleanup(clear)
             with self.assertRaisesRegex(Exception, "apt-get install glabels-data"):

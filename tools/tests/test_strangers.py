@@ -43,7 +43,7 @@ from labeltools.sending.queue import lp_line
 from labeltools.sending.sender import by_code, may_be_on_paper
 from labeltools.sheets.encoding import OTHER_BYTES, OTHER_LINE, OTHER_WORD
 from labeltools.sheets.rows import Row
-from labeltools.sheets.workbook import chosen, Worksheet
+from labeltools.sheets.workbook import rows_of_chosen, Worksheet
 from labeltools.tables.code_readings import CodeReading
 from labeltools.tables.codes import CodeRules
 from labeltools.tables.columns import column_word
@@ -118,7 +118,7 @@ class Words(unittest.TestCase):
         for value in VALUES:
             sheets = [Worksheet(name, True, iter([Row(1, ["x"])])) for name in ("A", value)]
             with self.assertRaises(ToolError) as caught:
-                list(chosen(sheets, None))
+                list(rows_of_chosen(sheets, None))
             said.append(caught.exception.hint)
         options = [Remedy("sheet", value).words for value in VALUES]
         wanted = [("give", "--sheet", "A", "or", words[-1]) for words in options]
@@ -306,13 +306,13 @@ class Bombs(unittest.TestCase):
 
     def test_a_budget(self) -> None:
         budget = Budget("a.csv", 10)
-        budget.take(CELLS, 4_000_020)
+        budget.take_share(CELLS, 4_000_020)
         with self.assertRaisesRegex(TooMuch, "^a.csv takes too much, more than 4,000,020 cells"):
-            budget.take(CELLS, 1)
-        budget.look()
+            budget.take_share(CELLS, 1)
+        budget.look_at_clock()
         with mock.patch("time.thread_time", lambda: budget.begin + SECONDS.most(10) + 1):
             with self.assertRaisesRegex(TooMuch, "more than 20 seconds of the processor"):
-                budget.look()
+                budget.look_at_clock()
 
 
 class Inputs(unittest.TestCase):
@@ -381,7 +381,7 @@ class Inputs(unittest.TestCase):
             "    def read(self, _):\n"
             "        print(os.listdir(sys.argv[1]), flush=True)\n"
             "        os.kill(os.getpid(), signal.SIGKILL)\n"
-            "files.save(Ended(), Path(sys.argv[1], 'a.pdf'))\n"
+            "files.save_file(Ended(), Path(sys.argv[1], 'a.pdf'))\n"
         )
         command = [sys.executable, "-c", code, str(self.path.parent)]
         done = subprocess.run(command, capture_output=True, cwd=support.OURS)
@@ -389,8 +389,8 @@ class Inputs(unittest.TestCase):
         self.assertEqual(os.listdir(self.path.parent), [])
         before = os.umask(0o027)
         try:
-            files.save(BytesIO(b"1"), self.path)
-            files.save(BytesIO(b"22"), self.path)
+            files.save_file(BytesIO(b"1"), self.path)
+            files.save_file(BytesIO(b"22"), self.path)
         finally:
             os.umask(before)
         self.assertEqual(self.path.read_bytes(), b"22")
@@ -406,7 +406,7 @@ class Inputs(unittest.TestCase):
             "    def read(self, _):\n"
             "        os.kill(os.getpid(), signal.SIGKILL)\n"
             "data = Ended() if sys.argv[2] == 'ended' else BytesIO(b'22')\n"
-            "files.save(data, Path(sys.argv[1], 'a.pdf'))\n"
+            "files.save_file(data, Path(sys.argv[1], 'a.pdf'))\n"
         )
         for word, status in (("ended", -signal.SIGKILL), ("whole", 0)):
             command = [sys.executable, "-c", code, str(self.path.parent), word]
@@ -556,7 +556,7 @@ class Printers(Desk):
         watcher = watch.Watch(outlet, "zpl", Silence())
         watcher.more = None
         with mock.patch.multiple(watch, IDLE=0.2, LOOKS=(0.001, 0.001), LONGEST=0.3):
-            watcher.end()
+            watcher.wait_until_printed()
         self.assertTrue(watcher.is_stuck)
 
     def test_a_line_without_an_end(self) -> None:
@@ -604,14 +604,17 @@ class Printers(Desk):
             "from labeltools.sending import watch\n"
             "def end(self):\n"
             "    raise ValueError\n"
-            "watch.Watch.end = end\n"
+            "watch.Watch.wait_until_printed = end\n"
         )
         done = self.begin("--print", printer.name, code=broken).done()
         self.said(done, UNEXPECTED, "report it as ValueError in line .*: it took 30 labels whole")
 
     def test_one_of_a_stream(self) -> None:
         """Each line has its answer."""
-        for place, word in (("Sender.send", "unsent"), ("outlets.StandardOutput.send", "doubtful")):
+        for place, word in (
+            ("Sender.send_batch", "unsent"),
+            ("outlets.StandardOutput.send", "doubtful"),
+        ):
             with mock.patch(
                 f"labeltools.sending.{'sender.' if 'Sender' in place else ''}{place}",
                 side_effect=KeyError("a"),
@@ -676,7 +679,7 @@ class Drawings(unittest.TestCase):
         job = planned(print_options(words))
         found = labels_of(job, "a", TICKETS[:10], Silence())
         press = found.press(Silence())
-        for part in press.parts(found.prints):
+        for part in press.batches(found.prints):
             press.document(part)
 
     def test_pictures_of_other_kinds_are_not_opened(self) -> None:

@@ -178,7 +178,7 @@ def named(widget: Any) -> Any:
 
 def cut_texts(widget: Any) -> Iterator[str]:
     """Yields the texts in a widget that have less room than they need."""
-    for one in gtk.within(widget):
+    for one in gtk.widgets_within(widget):
         if isinstance(one, Gtk.Label) and one.get_mapped():
             layout, room = one.get_layout(), one.get_allocation()
             width, height = layout.get_pixel_size()
@@ -197,22 +197,24 @@ def show_cut_texts(path: Path) -> None:
     one = window.Window()
     one.present()
     one.resize(1024, 554)
-    one.open(path)
+    one.open_table(path)
     while not one.has_labels:
         settle(0.1)
     for fold in (one.widgets.more_of_table, one.widgets.more_of_paper, one.widgets.fold):
         (fold.set_active if fold is one.widgets.fold else fold.set_expanded)(True)
     with one.filling():
         given = "--variants-of Handle --encoding cp1252 --decimal point --fill-zeros --links"
-        one.take(given_table=given, given_print="--edge 1 --paper-as-given")
+        one.take_values(given_table=given, given_print="--edge 1 --paper-as-given")
     for name in questions.BELOW:
-        one.questions.ask(name, questions.which("copies"), [("Preis A  –  19,57", bool)] * 2)
+        one.questions.ask_below(name, questions.which("copies"), [("Preis A  –  19,57", bool)] * 2)
     settle(0.5)
     print([*cut_texts(one.get_child())])
     long = Text(
         "it is not clear how the letters of {} are stored", "Price list of the old till.csv"
     )
-    one.questions.ask_of_file(questions.said(long), questions.said(long), [("Füller", bool)] * 4)
+    one.questions.ask_of_file(
+        questions.reason_and_hint(long), questions.reason_and_hint(long), [("Füller", bool)] * 4
+    )
     settle(0.5)
     print([*cut_texts(one.get_child())])
 
@@ -280,13 +282,13 @@ class Keeper(unittest.TestCase):
         if text is not None:
             self.table.write_bytes(text if isinstance(text, bytes) else text.encode())
         self.window.events.hide()
-        self.window.open(path or self.table)
+        self.window.open_table(path or self.table)
         self.until(lambda: self.window.has_labels or self.problem())
 
     def closed(self) -> None:
         """Leaves the table, for a file that is not there."""
         self.window.table = self.window.before = None
-        self.window.open(self.folder / "none.csv")
+        self.window.open_table(self.folder / "none.csv")
         self.until(self.problem)
         self.window.events.hide()
 
@@ -304,7 +306,7 @@ class Keeper(unittest.TestCase):
     def change(self, **choices: Any) -> None:
         """Changes choices, and waits for the labels; for other words the table is read again."""
         self.has_typed = self.has_typed or bool({"for_table", "for_print"}.intersection(choices))
-        self.remade(lambda: [self.window.take(**{name: choices[name]}) for name in choices])
+        self.remade(lambda: [self.window.take_values(**{name: choices[name]}) for name in choices])
         words = choices.get("for_table", self.window.further.typed)
         self.until(lambda: self.window.further.typed == words)
         self.until(lambda: self.window.has_labels or self.problem())
@@ -375,7 +377,7 @@ class Keeper(unittest.TestCase):
     def chosen(self, key: str) -> None:
         """Chooses a printer, of those that are there now."""
         kept = printers.PRINTERS.all()
-        self.window.of_printers.fill([*sending.printers(kept)])
+        self.window.of_printers.fill_list([*sending.known_printers(kept)])
         self.remade(lambda: self.window.of_printers.choose(key))
 
     def answered(self, printer: str, kind: str = "", which: str = "") -> Any:
@@ -661,7 +663,7 @@ class Sentences(unittest.TestCase):
         try:
             make(words)
         except ToolError as error:
-            return str(questions.said(error.what, error.hint))
+            return str(questions.reason_and_hint(error.what, error.hint))
         return ""
 
     def test_what_controls_and_buttons_give_together(self) -> None:
@@ -811,9 +813,9 @@ class WindowTest(Keeper):
         self.chosen("tcp://10.0.0.1")
         for act, form, dpi, label in (
             (lambda: self.window.of_printers.choose(printers.FILE), "zpl", "300", "Sa_ve ZPL…"),
-            (lambda: self.window.take(sheet=True), "pdf", "600", "Sa_ve PDF…"),
-            (lambda: self.window.take(roll=True), "zpl", "300", "Sa_ve ZPL…"),
-            (lambda: self.window.take(to="pdf"), "pdf", "600", "Sa_ve PDF…"),
+            (lambda: self.window.take_values(sheet=True), "pdf", "600", "Sa_ve PDF…"),
+            (lambda: self.window.take_values(roll=True), "zpl", "300", "Sa_ve ZPL…"),
+            (lambda: self.window.take_values(to="pdf"), "pdf", "600", "Sa_ve PDF…"),
         ):
             self.remade(act)
             chosen = self.window.choices()
@@ -838,7 +840,7 @@ class WindowTest(Keeper):
             for key in (first, then):
                 self.chosen(key)
             if then == printers.FILE and self.window.choices().roll:
-                self.remade(lambda: self.window.take(sheet=True))
+                self.remade(lambda: self.window.take_values(sheet=True))
             chosen = self.window.choices()
             found = (chosen.roll, chosen.to, chosen.dpi)
             self.assertEqual(found, wanted.get(then, (False, "pdf", "600")), (first, then))
@@ -894,7 +896,7 @@ class WindowTest(Keeper):
         chosen = self.window.choices()
         path = self.folder / "photo.xls"
         path.write_bytes(b"\xd0\xcf\x11\xe0")
-        self.window.open(path)
+        self.window.open_table(path)
         self.until(self.problem)
         self.until(lambda: self.window.has_labels)
         self.assertIn("photo.xls", self.problem())
@@ -987,7 +989,7 @@ class WindowTest(Keeper):
 
     def waiting(self) -> Any:
         """The jobs that are not known to be printed."""
-        return self.window.table.waiting()
+        return self.window.table.waiting_jobs()
 
     def test_a_job_that_cups_has_forgotten_is_asked_for(self) -> None:
         scheduler.add("forgets", "both")
@@ -1068,14 +1070,18 @@ class WindowTest(Keeper):
 
         faults: list[tuple[str, Any, int]] = [
             ("labeltools.sending.network.NetworkPrinter.push", push, 2),
-            ("labeltools.sending.watch.Watch.end", mock.Mock(side_effect=ValueError), 6),
+            (
+                "labeltools.sending.watch.Watch.wait_until_printed",
+                mock.Mock(side_effect=ValueError),
+                6,
+            ),
         ]
         for place, fault, count in faults:
             with self.subTest(place):
                 self.open(table.replace("Pen", f"Pen {count}"))
                 if count == 2:  # these choices are kept
                     self.change(roll=True, to="zpl", dpi="203")
-                self.window.table.printed.unlink(missing_ok=True)
+                self.window.table.last_printed.unlink(missing_ok=True)
                 printer = Printer().start()
                 self.addCleanup(printer.off)
                 with mock.patch(place, fault):
@@ -1136,20 +1142,20 @@ class WindowTest(Keeper):
         self.assertIn("Till", [row[0] for row in self.widgets.printers])
         with mock.patch.object(self.widgets.printers, "clear", create=True) as clear:
             kept = printers.PRINTERS.all()
-            self.window.of_printers.fill([*sending.printers(kept)])
+            self.window.of_printers.fill_list([*sending.known_printers(kept)])
             clear.assert_not_called()  # an open list stays open
-        self.window.take(to="pdf")  # it understands nothing else
+        self.window.take_values(to="pdf")  # it understands nothing else
         self.assertEqual(self.window.choices().to, "escpos")
         self.window.of_printers.settle("was-here")
         states = {row[3]: row[2] for row in self.widgets.printers}
         self.assertEqual(states["was-here"], "not found")
-        self.assertIn("was-here is not found", self.said_after(self.window.ways.ask))
+        self.assertIn("was-here is not found", self.said_after(self.window.ways.ask_and_print))
 
     def test_a_paused_queue_says_so_in_the_list(self) -> None:
         scheduler.add("idle", "both")
         scheduler.add("held", "both")
         subprocess.run(["cupsdisable", "held"], check=True)
-        found = {one.key: one for one in sending.printers({})}
+        found = {one.key: one for one in sending.known_printers({})}
         self.assertEqual(
             (str(found["idle"].state), str(found["held"].state)), ("ready", "it is paused")
         )
@@ -1216,7 +1222,7 @@ class WindowTest(Keeper):
         with (
             mock.patch.object(sys, "argv", list(map(str, words))),
             mock.patch.object(sys, "excepthook", sys.excepthook),
-            mock.patch.object(window.Window, "open", open_and_end),
+            mock.patch.object(window.Window, "open_table", open_and_end),
         ):
             self.assertEqual(application.run(), 0)  # Ctrl+Q ends it
         ((path, program),) = opened
@@ -1290,7 +1296,7 @@ class WindowTest(Keeper):
         for one in (printer, other):
             self.addCleanup(one.off)
         scheduler.add("roll", device=other.name.replace("tcp", "socket"))
-        self.window.of_printers.fill([*sending.printers({})])
+        self.window.of_printers.fill_list([*sending.known_printers({})])
         for key in (str(device), "roll"):
             self.window.of_printers.choose(key)
             self.assertEqual(self.problem(), "What does this printer print?")
@@ -1355,7 +1361,7 @@ class WindowTest(Keeper):
         keys = [row[3] for row in self.widgets.printers]
         self.assertEqual(keys, ["add", "file"])
         with mock.patch.object(sending, "connection", side_effect=ToolError(NOTHING)):
-            found = [*sending.printers({"tcp://10.0.0.1": {"to": "zpl"}})]
+            found = [*sending.known_printers({"tcp://10.0.0.1": {"to": "zpl"}})]
         self.assertEqual([one.key for one in found if one.way == "network"], ["tcp://10.0.0.1"])
 
     def test_older_choices_keep_their_printer(self) -> None:
@@ -1381,7 +1387,7 @@ class WindowTest(Keeper):
         self.saved("labels.pdf")
         later = self.folder / "next week.csv"
         later.write_text(TABLE.replace("Pencil", "Pen"))
-        self.window.take(price="4", sheet=True)
+        self.window.take_values(price="4", sheet=True)
         self.open(path=later)
         chosen = self.window.choices()
         self.assertEqual((chosen.price, chosen.roll, chosen.sheet), ("", True, False))
@@ -1516,7 +1522,7 @@ class WindowTest(Keeper):
         self.widgets.preset_name.set_text("shelf roll")
         self.window.lookup_action("keep-preset").activate(None)
         self.change(sheet=True, to="pdf", width=60)
-        self.window.presets.fill()
+        self.window.presets.fill_menu()
         self.assertEqual(self.in_menu()[0], "shelf roll")
         preset = GLib.Variant("s", "shelf roll")
         self.remade(lambda: self.window.lookup_action("preset").activate(preset))
@@ -1524,7 +1530,7 @@ class WindowTest(Keeper):
         self.assertEqual((chosen.roll, chosen.width, chosen.to), (True, 50, "zpl"))
         self.assertEqual(self.window.made.labels.job.plan.sheet.page, (50, 25))
         self.window.lookup_action("forget-preset").activate(preset)
-        self.window.presets.fill()
+        self.window.presets.fill_menu()
         self.assertNotIn("shelf roll", self.in_menu())
 
     def in_menu(self, model: Any = None) -> Any:
@@ -1690,7 +1696,7 @@ class WindowTest(Keeper):
         with mock.patch.object(work.GLib, "timeout_add", wait):
             self.open()
         self.assertEqual({call.args[0] for call in wait.mock_calls}, {work.PATIENCE})
-        self.window.work.start(
+        self.window.work.begin_work(
             lambda talk: settle_until(lambda: talk.stops), bool, "reading a.csv…"
         )
         self.window.work.talk.go_on(1200, 0)  # how many rows a table has is not known
@@ -1703,7 +1709,7 @@ class WindowTest(Keeper):
         self.assertFalse(self.widgets.working.get_visible())
 
     def test_stop_while_a_table_is_read_says_so(self) -> None:
-        self.window.work.start(lambda talk: settle_until(lambda: talk.stops), bool)
+        self.window.work.begin_work(lambda talk: settle_until(lambda: talk.stops), bool)
         self.widgets.stack.set_visible_child_name("work")
         self.window.on_stop(None)
         self.assertEqual(self.widgets.stack.get_visible_child_name(), "empty")
@@ -1813,7 +1819,7 @@ class WindowTest(Keeper):
 
     def focus_of(self, choice: Any) -> Any:
         """The button of a choice, which has the focus for it."""
-        return next(one for one in gtk.within(choice) if isinstance(one, Gtk.ToggleButton))
+        return next(one for one in gtk.widgets_within(choice) if isinstance(one, Gtk.ToggleButton))
 
     def test_what_a_button_chose_is_in_words_and_is_taken_back(self) -> None:
         """Options have only what is typed; what an older window kept of buttons is no longer
@@ -1894,15 +1900,17 @@ class WindowTest(Keeper):
         """The last twenty; what is good does not take the place of what went wrong with another."""
         self.open()
         for number in range(25):
-            self.window.events.show(bar.Event("info", str(number), about=number))
-        self.window.events.show(bar.Event("error", "broke off", about=1))
-        self.window.events.show(bar.Event("success", "printed", about=2))
+            self.window.events.show_event(bar.Event("info", str(number), about=number))
+        self.window.events.show_event(bar.Event("error", "broke off", about=1))
+        self.window.events.show_event(bar.Event("success", "printed", about=2))
         self.assertEqual(self.said(), "broke off")
         self.assertEqual(self.happened()[:3], ["printed", "broke off", "24"])
         self.assertEqual(len(self.happened()), 20)
-        self.window.events.show(bar.Event("success", "printed after all", about=1))
+        self.window.events.show_event(bar.Event("success", "printed after all", about=1))
         self.assertEqual(self.said(), "printed after all")
-        closing = [one for one in gtk.within(self.widgets.bar) if isinstance(one, Gtk.Button)]
+        closing = [
+            one for one in gtk.widgets_within(self.widgets.bar) if isinstance(one, Gtk.Button)
+        ]
         self.assertEqual(
             [one.get_accessible().get_name() for one in closing if one.get_visible()], ["Close"]
         )
@@ -1934,7 +1942,7 @@ class WindowTest(Keeper):
         self.widgets.more_of_table.set_expanded(True)
         self.window.resize(800, 500)
         settle(0.3)
-        self.window.questions.ask("printer", "What?", [("Labels", bool), ("Receipts", bool)])
+        self.window.questions.ask_below("printer", "What?", [("Labels", bool), ("Receipts", bool)])
         settle(0.3)
         scroll = self.widgets.panel.get_ancestor(Gtk.ScrolledWindow).get_vadjustment()
         area = self.widgets.ask_printer.get_allocation()
@@ -1980,9 +1988,7 @@ class WindowTest(Keeper):
         """In each language, with a question; 1024 by 600 pixels leave 554 for it."""
         code = "import test_window as t; t.load(); t.gtk.add_style(); one = t.window.Window(); "
         code += "one.widgets.stack.set_visible_child_name('work'); one.present(); t.settle(0.3); "
-        code += (
-            "one.questions.ask('price', t.questions.which('price'), [('VK – 19,57', bool)] * 2); "
-        )
+        code += "one.questions.ask_below('price', t.questions.which('price'), [('VK – 19,57', bool)] * 2); "
         code += "t.settle(0.3); print(one.widgets.panel.get_preferred_height()[1], end=' '); "
         code += "print(one.widgets.panel.get_preferred_width()[1])"
         for language in ("en", "de", "fr"):
@@ -2003,7 +2009,7 @@ class WindowTest(Keeper):
         code += "t.gtk.add_style(); settings = t.Gtk.Settings.get_default(); "
         code += "settings.set_property('gtk-xft-dpi', 144 * 1024); "
         code += "one = t.window.Window(); one.present(); one.widgets.roll.set_active(True); "
-        code += "one.open(Path(sys.argv[1])); t.settle(3); assert one.has_labels; "
+        code += "one.open_table(Path(sys.argv[1])); t.settle(3); assert one.has_labels; "
         code += (
             "one.widgets.fold.set_active(True); t.settle(0.3); print(one.get_preferred_width()[0], "
         )
@@ -2046,7 +2052,7 @@ class WindowTest(Keeper):
                 return False
 
             GLib.timeout_add(BEAT, act)
-            return rows.choose(self.window.made.labels, typed)
+            return rows.ask_for_rows(self.window.made.labels, typed)
 
         def look_for(text: str) -> Callable[[], Any]:
             return lambda: (self.widgets.rows_search.set_text(text), rows.found.refilter())
@@ -2171,7 +2177,7 @@ class WindowTest(Keeper):
         self.until(lambda: "2 labels from 1 row" in self.counted())
         self.assertEqual(self.window.choices().price, "")
         with redirect_stdout(StringIO()):
-            self.window.take(for_table="--help")
+            self.window.take_values(for_table="--help")
             settle(0.5)
 
     def test_a_wrong_picture_stops_the_print(self) -> None:
@@ -2209,7 +2215,7 @@ class WindowTest(Keeper):
         self.assertNotIn(threading.main_thread(), threads)
         self.assertEqual(list(self.folder.glob("*.pdf")), [])
         self.assertTrue(self.widgets.print_button.is_sensitive())
-        self.window.take(price="")
+        self.window.take_values(price="")
         self.window.on_stop(None)  # the labels that are there are not those that are chosen
         self.assertFalse(self.widgets.print_button.is_sensitive())
 
@@ -2226,7 +2232,7 @@ class WindowTest(Keeper):
         self.window.ways.send_to(printer.name, self.window.made.labels)
         self.until(lambda: len(printer.labels) > 1)
         self.assertFalse(self.widgets.stack.is_sensitive())
-        self.window.open(self.table)
+        self.window.open_table(self.table)
         self.window.on_stop(None)
         printer.told.set()
         self.until(self.problem)

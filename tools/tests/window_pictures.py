@@ -106,7 +106,7 @@ class Camera:
         """Opens a table."""
         path = Path(tempfile.mkdtemp(dir=os.environ["XDG_CONFIG_HOME"]), name)
         path.write_bytes(text.encode() if isinstance(text, str) else text)
-        self.window.open(path)
+        self.window.open_table(path)
         self.until(lambda: self.window.has_labels or self.is_asking() or self.has_failed())
         self.settle(0.5)
 
@@ -281,12 +281,12 @@ def show_printers(camera: Camera) -> None:
         MEDIA: {"Plain": "Plain paper", "Labels": "Labels"},
     }
     printer, labels = window.of_printers.all["laser"], window.made.labels
-    ask = window.ways.printing.ask
+    ask = window.ways.printing.ask_what_is_printed
     camera.while_asked("dialog", lambda: ask(printer, labels, options))
-    camera.while_asked("adding", window.of_printers.add)
+    camera.while_asked("adding", window.of_printers.ask_for_printer)
     rows = window.ways.printing.rows
-    camera.while_asked("rows", lambda: rows.choose(labels, "2-4, 9"))
-    camera.while_asked("naming", window.presets.ask)
+    camera.while_asked("rows", lambda: rows.ask_for_rows(labels, "2-4, 9"))
+    camera.while_asked("naming", window.presets.ask_for_name)
     window.widgets.stock.grab_focus()
     window.widgets.stock.set_text("")
     camera.type("Avery L71")
@@ -313,7 +313,7 @@ def show_events(camera: Camera) -> None:
         ("given-up", JobState(Text("the printer gave up job {}", 12), "", True)),
     ):
         window.events.hide()
-        window.events.show(event_of(job, 49, state, "HP LaserJet 400"))
+        window.events.show_event(event_of(job, 49, state, "HP LaserJet 400"))
         camera.shot(name)
     zebra = camera.zebra
     window.of_printers.choose(zebra.name)
@@ -331,7 +331,7 @@ def show_events(camera: Camera) -> None:
     camera.shot("failed")
     camera.while_asked("in-doubt", window.events.act)
     design = support.TOP / "designs/shelf-60x40.svg"
-    window.take(design=str(design))
+    window.take_values(design=str(design))
     camera.until(lambda: window.has_labels)
     camera.shot("own-design")
     camera.while_popped("happened", window.widgets.history_button)

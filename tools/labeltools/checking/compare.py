@@ -15,7 +15,7 @@ from operator import itemgetter, mul
 from typing import Any, Iterator, NamedTuple, Sequence
 
 from labeltools.checking.decode import NotDecoded, read_dots
-from labeltools.checking.read_pdf import DrawnPage, is_at, pages_of
+from labeltools.checking.read_pdf import drawn_pages, DrawnPage, is_at
 from labeltools.checking.read_svg import dots_of_svg
 from labeltools.common.messages import FAULT, Talk, ToolError
 from labeltools.common.text import Text
@@ -151,7 +151,7 @@ class Comparison:
         wanted, again = tee([*self.wanted_on(labels)] for labels in document.pages)
         dpi = self.plan.dpi
         if self.form == "pdf":
-            pages = pages_of(document.data, dpi, len(document.pages), map(len, again))
+            pages = drawn_pages(document.data, dpi, len(document.pages), map(len, again))
             for labels, symbols in zip(document.pages, wanted):
                 self.talk.go_on(0, 0)
                 try:
@@ -167,7 +167,7 @@ class Comparison:
             self.check_size(page, copies, document.copies)
             self.check_drawn(page, document)
         for symbol in next(wanted):
-            check_dots(symbol, page, self.plan.dot)
+            check_symbol_dots(symbol, page, self.plan.dot)
 
     def check_size(self, page: Picture, found: int, copies: int) -> None:
         """Raises `Different` where a page has not its size, or not its copies."""
@@ -247,10 +247,10 @@ class Comparison:
         page.
         """
         size = (room.height, room.width) if quarters % 2 else (room.width, room.height)
-        found = turned(box, size, quarters)
+        found = turned_box(box, size, quarters)
         found = found._replace(left=found.left + room.left, top=found.top + room.top)
         if self.is_turned:
-            found = turned(found, (self.area.width, self.area.height), 1)
+            found = turned_box(found, (self.area.width, self.area.height), 1)
         return found._replace(left=found.left + at[0], top=found.top + at[1])
 
     def check_cell(self, at: tuple[int, int], box: Box) -> None:
@@ -271,7 +271,7 @@ def first_record(labels: Labels) -> Record:
     return labels[0][0].record
 
 
-def check_dots(wanted: Wanted, page: Picture, dot: float) -> None:
+def check_symbol_dots(wanted: Wanted, page: Picture, dot: float) -> None:
     """Raises `Different` where dots of a page are not those of a symbol."""
     box = wanted.where.picture
     if box.left < 0 or box.right > page.width or not 0 <= box.top <= box.bottom <= page.height:
@@ -360,14 +360,14 @@ def check_codes(symbols: Sequence[Wanted], page: DrawnPage, dot: float) -> None:
     whites = iter(page.whites)
     for wanted, code in zip(symbols, page.codes):
         where = wanted.where
-        is_same = (code.width, code.height, code.modules) == modules_of(wanted)
+        is_same = (code.width, code.height, code.modules) == modules_with_guards(wanted)
         is_there = is_at(code.corners, where.picture, where.quarters)
         is_on_white = where.whites == tuple(islice(whites, len(where.whites)))
         if not (is_same and is_there and is_on_white):
             raise wrong(wanted, dot)
 
 
-def modules_of(wanted: Wanted) -> tuple[int, int, bytes]:
+def modules_with_guards(wanted: Wanted) -> tuple[int, int, bytes]:
     """Returns how many modules a symbol with its longer guards has across and down, and these in
     rows of whole bytes, as it is read.
     """
@@ -428,7 +428,7 @@ def compared_name(name: str) -> str:
     return BETWEEN.sub(" ", unicodedata.normalize("NFC", name)).strip().casefold()
 
 
-def turned(box: Box, size: tuple[int, int], quarters: int) -> Box:
+def turned_box(box: Box, size: tuple[int, int], quarters: int) -> Box:
     """Returns where a box is in a room of a size that is turned to the right by some quarters."""
     width, height = size
     for _ in range(quarters):

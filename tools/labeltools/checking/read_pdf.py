@@ -88,7 +88,7 @@ class Pdf:
         self.table = table.end()
         self.white = lru_cache(KNOWN)(self.new_white)
 
-    def start(self, number: int) -> int:
+    def object_start(self, number: int) -> int:
         """Returns where an object begins."""
         at = self.table + ENTRY * number
         return int(self.data[at : at + 10])
@@ -104,15 +104,16 @@ class Pdf:
         kids = self.data[start : self.data.index(b"]", start)]
         return [int(kid) for kid in kids.split()[::3]]
 
-    def page(self, number: int, codes: int) -> DrawnPage:
+    def codes_of_page(self, number: int, codes: int) -> DrawnPage:
         """Returns the codes of a page that ends in so many; raises `ValueError` where it does not,
         or does not begin as it has to.
         """
-        head = PAGE.match(self.data, self.start(number))
+        head = PAGE.match(self.data, self.object_start(number))
         if head is None:
             raise ValueError("a page without content")
         high, content = head.groups()
-        before, *pictures, end = self.stream(self.start(int(content))).rsplit(b" Do\n", codes)
+        drawn = self.stream(self.object_start(int(content)))
+        before, *pictures, end = drawn.rsplit(b" Do\n", codes)
         if len(pictures) != codes - 1 or not END.fullmatch(end):
             raise ValueError("a page that does not end in its codes")
         first = before.rindex(b"q\n") + len(b"q\n")
@@ -122,12 +123,12 @@ class Pdf:
         if {round(float(number) * self.scale, 4) for number in whites.groups()[:2]} != {1}:
             raise ValueError("white that is not in dots")
         require_matrix(before[: whites.start()], high)
-        found = [self.code(text) for text in (before[first:], *pictures)]
+        found = [self.code_of_picture(text) for text in (before[first:], *pictures)]
         return DrawnPage(found, self.white(int(whites[3])))
 
     def new_white(self, number: int) -> tuple[Box, ...]:
         """Returns the white rectangles of a drawing."""
-        start = self.data.index(b" R\n", self.start(number))  # behind its length
+        start = self.data.index(b" R\n", self.object_start(number))  # behind its length
         form = FORM.match(self.data, start)
         path = WHITE.fullmatch(self.stream(start))
         if form is None or path is None:
@@ -139,12 +140,12 @@ class Pdf:
                 raise ValueError("white that is cut off")
         return boxes
 
-    def code(self, text: bytes) -> DrawnCode:
+    def code_of_picture(self, text: bytes) -> DrawnCode:
         """Returns a picture that is drawn in a matrix."""
         drawn = PICTURE.fullmatch(text)
         if drawn is None:
             raise ValueError("something behind a code")
-        start = self.data.index(b" R\n", self.start(int(drawn[2])))  # behind its length
+        start = self.data.index(b" R\n", self.object_start(int(drawn[2])))  # behind its length
         mask = MASK.match(self.data, start)
         if mask is None:
             raise ValueError("a picture that is no code")
@@ -219,7 +220,7 @@ def is_at(corners: Corners, box: Box, quarters: int) -> bool:
     return all(abs(x - u) < NEAR and abs(y - v) < NEAR for (x, y), (u, v) in pairs)
 
 
-def pages_of(data: bytes, dpi: float, count: int, codes: Iterable[int]) -> Iterator[DrawnPage]:
+def drawn_pages(data: bytes, dpi: float, count: int, codes: Iterable[int]) -> Iterator[DrawnPage]:
     """Yields the codes of each page of a document, of which there are so many; raises `NotDecoded`
     where there are not so many pages, or codes.
     """
@@ -229,6 +230,6 @@ def pages_of(data: bytes, dpi: float, count: int, codes: Iterable[int]) -> Itera
         if len(pages) != count:
             raise NotDecoded(Text("the output has {} pages instead of {}", len(pages), count))
         for number, several in zip(pages, codes):
-            yield pdf.page(number, several) if several else DrawnPage((), ())
+            yield pdf.codes_of_page(number, several) if several else DrawnPage((), ())
     except (ValueError, LookupError, TypeError, zlib.error) as error:
         raise NotDecoded(Text("the output is not PDF as Cairo writes it: {}", error)) from error

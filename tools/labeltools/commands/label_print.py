@@ -24,14 +24,15 @@ from labeltools.common.process import (
     read_input,
     standard_output,
 )
-from labeltools.common.report import places_text, Ranges, report
+from labeltools.common.report import left_out_messages, places_text, Ranges
 from labeltools.common.signals import hold_signals
 from labeltools.common.text import counted, joined, shell_line, Text
 from labeltools.designs.svg_design import is_file
 from labeltools.drawing.forms import FORMS, PBM
 from labeltools.layout.area import PURPOSES
 from labeltools.lines.file import Record
-from labeltools.paper.stock import forget, list_stock, Size
+from labeltools.paper.sizes import A4
+from labeltools.paper.stock import forget_glabels, list_stock, Size
 from labeltools.printing.job import AS_GIVEN, DRAWING_DPI, Job, planned, PrintOptions, refuse
 from labeltools.printing.press import check_count, labels_of, Prepared
 from labeltools.printing.selection import ranges_in, selection_of
@@ -74,13 +75,13 @@ def lengths(argument: str, between: str, example: str, least: float = 0.0) -> li
     return found
 
 
-def size(argument: str) -> Size:
+def width_and_height(argument: str) -> Size:
     """Returns a width and a height."""
     width, height = lengths(argument, "x", "63x38", SMALLEST)
     return width, height
 
 
-def point(argument: str) -> Size:
+def left_and_top(argument: str) -> Size:
     """Returns how far something is from the left and from the top."""
     left, top = lengths(argument, "x", "7x15")
     return left, top
@@ -141,7 +142,7 @@ def design_of(argument: str) -> str:
     return next((str(path) for path in paths if path.exists()), argument)
 
 
-def rows(argument: str) -> Ranges:
+def row_ranges(argument: str) -> Ranges:
     """Returns rows such as 2,7-9 or 7-."""
     if found := ranges_in(argument):
         return found
@@ -186,26 +187,26 @@ OPTIONS: Mapping[str, Sequence[Option]] = {
             "--paper",
             "WxH",
             "one label on each page of this size, as on a roll",
-            size,
+            width_and_height,
             apart="sheet",
         ),
         Option(
             "--cell",
             "WxH",
             "a grid, with --columns and --rows: the size of a cell",
-            size,
+            width_and_height,
             apart="sheet",
         ),
         Option("--columns", "N", "cells side by side", from_one),
         Option("--rows", "N", "cells below one another", from_one),
-        Option("--page", "WxH", "the size of the page (210x297)", size),
+        Option("--page", "WxH", "the size of the page ({:g}x{:g})".format(*A4), width_and_height),
         Option(
             "--margin",
             "LEFTxTOP",
             "where the first cell begins (by default the grid is centred)",
-            point,
+            left_and_top,
         ),
-        Option("--gap", "XxY", "the distance between two cells (0x0)", point),
+        Option("--gap", "XxY", "the distance between two cells (0x0)", left_and_top),
         Option(
             "--edge",
             "MM",
@@ -250,7 +251,7 @@ OPTIONS: Mapping[str, Sequence[Option]] = {
             "--only",
             "ROWS",
             "print only these rows of the table, such as 2,7-9, or 7- for all from 7 on",
-            rows,
+            row_ranges,
             target="rows_only",
         ),
         Option(
@@ -382,7 +383,7 @@ def run() -> int:
 
         return print_on_queue(options)
     job = planned(options)
-    forget()
+    forget_glabels()
     check_way(job)
     if options.is_stream:
         from labeltools.sending import stream
@@ -396,7 +397,7 @@ def labels_in(job: Job, talk: CommandTalk) -> Prepared:
     gc.disable()  # no label leaves a cycle behind, and to look for them takes time
     found = all_labels(job, talk)
     for message in [
-        *report(found.left_out, found.tables),
+        *left_out_messages(found.left_out, found.tables),
         *(remark.reason for remark in found.remarks),
     ]:
         write_message(TOOL, message)
@@ -496,7 +497,7 @@ def give_out(found: Prepared, talk: CommandTalk) -> int:
     try:
         send_labels(sender, found, talk)
     finally:
-        doubtful = sender.doubtful()
+        doubtful = sender.doubtful_codes()
         for message in sender.doubts(doubtful):
             write_message(TOOL, message)
     known = len(sender.known - doubtful.keys())

@@ -33,7 +33,7 @@ from labeltools.common.process import CommandTalk, read_file, read_input, standa
 from labeltools.common.report import listed
 from labeltools.common.text import (
     either,
-    give,
+    hint_of_remedies,
     joined,
     remedies_of,
     Remedy,
@@ -50,7 +50,7 @@ from labeltools.tables.columns import column_word
 from labeltools.tables.guess import Guess, guess_of
 from labeltools.tables.old_encoding import old_encoding
 from labeltools.tables.prices import PricePattern
-from labeltools.tables.summary import summary
+from labeltools.tables.summary import summary_line
 from labeltools.tables.table import lines_of_table
 from labeltools.tables.table_options import Columns, PriceRules, TableOptions
 
@@ -110,12 +110,12 @@ class TableTalk(CommandTalk):
 
     def note(self, origin: Origin, cell: str, reason: Text, hint: Text) -> None:
         """Writes why a row is left out."""
-        rows = self.rows.setdefault((reason.kind, hint.kind), [])
+        rows = self.rows.setdefault((reason.wording, hint.wording), [])
         rows.append(origin.number)
         if len(rows) <= MOST_ALIKE:
             super().note(origin, cell, reason, hint)
 
-    def finish(self) -> None:
+    def report_rest(self) -> None:
         """Writes how many more rows were left out for each reason."""
         for rows in self.rows.values():
             more = rows[MOST_ALIKE:]
@@ -143,7 +143,7 @@ def dates(text: str) -> str:
     return text
 
 
-pattern = reported(PricePattern.of)
+pattern = reported(PricePattern.from_text)
 
 
 def condition(text: str) -> tuple[str, str]:
@@ -302,7 +302,7 @@ def table_parser() -> Parser:
     return parser
 
 
-def made(kind: type[Read], arguments: argparse.Namespace, **more: Any) -> Read:
+def record_of_arguments(kind: type[Read], arguments: argparse.Namespace, **more: Any) -> Read:
     """Returns a record whose fields are the arguments of these names, or what is given beside
     them; a field keeps its default if there is no such argument.
     """
@@ -317,12 +317,14 @@ def table_options(arguments: argparse.Namespace) -> TableOptions:
     """
     several = {name: tuple(getattr(arguments, name)) for name in ("title", "text", "where")}
     older = arguments.new_since
-    return made(
+    return record_of_arguments(
         TableOptions,
         arguments,
-        columns=made(Columns, arguments, symbology=arguments.symbology_column, **several),
-        file=made(FileOptions, arguments),
-        codes=made(CodeRules, arguments),
+        columns=record_of_arguments(
+            Columns, arguments, symbology=arguments.symbology_column, **several
+        ),
+        file=record_of_arguments(FileOptions, arguments),
+        codes=record_of_arguments(CodeRules, arguments),
         prices=PriceRules(bool(arguments.price_text), arguments.price_as, arguments.currency_name),
         new_since=None if older is None else older_lines(older),
         table="" if arguments.table in (None, "-") else arguments.table,
@@ -338,13 +340,13 @@ def understood(
     arguments = read_beside(chosen, table_parser(), OPTIONS, words)
     if arguments.code is None:
         raise BadArguments(Text("the following arguments are required: --code"))
-    check(arguments)
+    check_arguments(arguments)
     return arguments
 
 
-def check(arguments: argparse.Namespace) -> None:
+def check_arguments(arguments: argparse.Namespace) -> None:
     """Raises `BadArguments` for arguments that are wrong, or do not go together."""
-    rules = made(CodeRules, arguments)
+    rules = record_of_arguments(CodeRules, arguments)
     is_free = rules.is_free and arguments.symbology_column is None
     given = [
         remedy
@@ -380,7 +382,7 @@ def propose(words: Sequence[str], arguments: argparse.Namespace) -> None:
     whole and on a line of its own; raises `ToolError` if it cannot be read, or has no codes.
     """
     name, data = read_input(arguments.table, TABLE)
-    options = TableOptions(file=made(FileOptions, arguments))
+    options = TableOptions(file=record_of_arguments(FileOptions, arguments))
     budget = Budget(name, len(data))
     old = None if arguments.encoding else old_encoding(data, name, options, budget)
     if old:
@@ -403,7 +405,8 @@ def propose(words: Sequence[str], arguments: argparse.Namespace) -> None:
 
 def is_given(arguments: argparse.Namespace) -> bool:
     """Returns whether it was said how the codes are read."""
-    return made(CodeRules, arguments) != CodeRules() or arguments.symbology_column is not None
+    rules = record_of_arguments(CodeRules, arguments)
+    return rules != CodeRules() or arguments.symbology_column is not None
 
 
 def commands_for(
@@ -442,7 +445,7 @@ def guess_of_sheets(data: bytes, options: TableOptions, budget: Budget) -> tuple
             return found.popitem()
         if not found:
             raise
-        right = give(*(Remedy("sheet", name) for name in found))
+        right = hint_of_remedies(*(Remedy("sheet", name) for name in found))
         raise ToolError(error.what, right, error.status) from error
 
 
@@ -582,8 +585,8 @@ def run() -> int:
     name, data = read_input(arguments.table, TABLE)
     talk = TableTalk()
     lines = lines_of_table(data, name, options, talk)
-    talk.finish()
+    talk.report_rest()
     if arguments.is_summed or sys.stderr.isatty():
-        talk.say(summary(lines.totals))
+        talk.say(summary_line(lines.totals))
     output.write(lines.output)
     return 1 if lines.left_out else 0

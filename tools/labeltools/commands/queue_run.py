@@ -7,11 +7,11 @@ from labeltools.common.messages import write_message
 from labeltools.common.process import CommandTalk
 from labeltools.common.signals import hold_signals
 from labeltools.common.text import joined, Text
-from labeltools.paper.stock import forget
+from labeltools.paper.stock import forget_glabels
 from labeltools.printing.job import form_of, planned, PrintOptions
 from labeltools.sending.job import SentJob, Unseen
 from labeltools.sending.marks import unmark
-from labeltools.sending.on_queue import print_on
+from labeltools.sending.on_queue import print_by_cups
 from labeltools.sending.queue import queue_of
 
 
@@ -24,22 +24,22 @@ def print_on_queue(options: PrintOptions) -> int:
         is_sheet = bool(options.stock or options.cell) and not form_of(options).is_roll
         options = replace(options, dpi=queue.dpi_for(is_sheet) or None)
     job = planned(options)
-    forget()
+    forget_glabels()
     check_given(job, is_queue=True)
     queue.options(job)  # which refuses a job before its labels are laid out
     talk = CommandTalk(TOOL)
     found = labels_in(job, talk)
-    is_printed = follow(*print_on(found, queue, talk, is_once=True), talk)
+    is_printed = report_until_over(*print_by_cups(found, queue, talk, is_once=True), talk)
     return 1 if found.left_out or not is_printed else 0
 
 
-def follow(sent: SentJob, text: Text, talk: CommandTalk) -> bool:
+def report_until_over(sent: SentJob, text: Text, talk: CommandTalk) -> bool:
     """Reports what became of a job of CUPS, and returns whether it was printed. A signal ends only
     the watching: the job goes on.
     """
     with hold_signals() as came:
         try:
-            state = sent.follow(talk.wait, came)
+            state = sent.follow(talk.show_waiting, came)
         except Unseen as error:
             write_message(TOOL, joined("; ", (text, error.what, error.hint)))
             return False

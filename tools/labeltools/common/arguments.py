@@ -69,7 +69,7 @@ class Option(NamedTuple):
         """The field that it sets."""
         return self.target or self.name.removeprefix("--").replace("-", "_")
 
-    def is_in(self, values: Mapping[str, Any]) -> bool:
+    def is_given_by(self, values: Mapping[str, Any]) -> bool:
         """Returns whether the values of fields are such that it was given."""
         value = values.get(self.field)
         return value is not None if self.value else value == self.sets
@@ -110,10 +110,10 @@ def read_beside(
     """
     found = parser.parse_args(words, argparse.Namespace(**chosen))
     apart = [option for options in groups.values() for option in options if option.apart]
-    before = {option.apart: option for option in apart if option.is_in(chosen)}
+    before = {option.apart: option for option in apart if option.is_given_by(chosen)}
     for option in apart:
         other = before.get(option.apart, option)
-        if option.is_in(vars(found)) and option.name != other.name:
+        if option.is_given_by(vars(found)) and option.name != other.name:
             message = translated(NOT_ALLOWED) % other.name
             names = {"argument_name": option.name, "message": message}
             parser.error(translated(ABOUT_ARGUMENT) % names)

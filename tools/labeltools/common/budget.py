@@ -85,9 +85,9 @@ class Budget:
         self.kind = kind
         self.taken: dict[Share, int] = {}
         self.begin = time.thread_time()
-        self.take(kind.bytes, size)
+        self.take_share(kind.bytes, size)
 
-    def take(self, share: Share, count: int) -> None:
+    def take_share(self, share: Share, count: int) -> None:
         """Takes so much of something; raises `TooMuch` if that is not left."""
         taken = self.taken[share] = self.taken.get(share, 0) + count
         if taken > share.most(self.size):
@@ -107,7 +107,7 @@ class Budget:
         if count > share.most(self.size):
             raise self.refusal(share)
 
-    def look(self) -> None:
+    def look_at_clock(self) -> None:
         """Looks at the clock; raises `TooMuch` if no time is left: that of a processor, so a busy
         computer refuses nothing.
         """

@@ -33,7 +33,7 @@ def temporary() -> Iterator[None]:
         raise ToolError(Text("{}: {}", folder, reason), hint) from error
 
 
-def save(file: IO[bytes], path: Path, number: int = 1) -> None:
+def save_file(file: IO[bytes], path: Path, number: int = 1) -> None:
     """Writes a whole file, which has its name once it is whole; raises `OSError` with its name. It
     has no name before, where the disk can do so: nothing is left of it if the tool is ended.
     """
@@ -75,12 +75,12 @@ def write_whole(data: bytes, output: int) -> None:
         while rest:
             rest = rest[os.write(output, rest) :]
     except OSError as error:
-        if take_back(output, size, len(data) - len(rest)):
+        if take_out_last(output, size, len(data) - len(rest)):
             raise Unwritten(error.errno, error.strerror) from error
         raise
 
 
-def take_back(output: int, size: int, done: int) -> bool:
+def take_out_last(output: int, size: int, done: int) -> bool:
     """Takes the last `done` bytes out of an open file that had a size before them, unless another
     program has written to it since; what is written next follows what is there. Returns whether
     nothing of them is left.

@@ -179,11 +179,11 @@ def quoted(text: str) -> str:
     return '"' + "".join(sign if sign.isprintable() else code_point(sign) for sign in short) + '"'
 
 
-def named(character: str) -> Text:
+def named_character(character: str) -> Text:
     """Returns a character for a message: as it is where it can be seen, with its number where it is
     not ASCII.
 
-    >>> named("x"), named("\\t"), named("–")
+    >>> named_character("x"), named_character("\\t"), named_character("–")
     ('"x"', 'a tab', 'en dash (U+2013)')
     """
     if "!" <= character <= "~":

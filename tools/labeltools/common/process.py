@@ -58,7 +58,7 @@ class CommandTalk(Talk):
             count = f"{done} of {total} labels" if total else f"{done} rows"
             print(f"{self.tool}: {count}", end="\r", file=sys.stderr, flush=True)
 
-    def wait(self, what: Text) -> None:
+    def show_waiting(self, what: Text) -> None:
         """Shows on a terminal what is waited for, until another message takes its place."""
         if sys.stderr.isatty():
             shown = visible(translated(what)).ljust(SHOWN)[:SHOWN]

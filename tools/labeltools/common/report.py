@@ -22,7 +22,7 @@ class LeftOut:
     hint: Text = NOTHING
 
 
-def report(left_out: Sequence[LeftOut], tables: Iterable[str]) -> Iterator[Text]:
+def left_out_messages(left_out: Sequence[LeftOut], tables: Iterable[str]) -> Iterator[Text]:
     """Yields a message for each reason, those of the most labels first, and one for all further
     reasons; places are named with their table where there are several.
     """
@@ -71,6 +71,11 @@ def ranges_text(ranges: Ranges, unit: str = "row") -> Text:
     else:
         text = Text("line {}", named) if count == 1 else Text("lines {}", named)
     return Text("{} .. ({} in all)", text, count) if len(ranges) > MOST_RANGES else text
+
+
+def is_in_ranges(number: int, ranges: Ranges) -> bool:
+    """Returns whether a number is in one of some ranges."""
+    return any(first <= number <= last for first, last in ranges)
 
 
 def range_words(ranges: Ranges) -> Iterator[str]:

@@ -26,7 +26,7 @@ class Signals:
             yield self.came
             return
         came = self.came = []
-        on_signals(self.take)
+        on_signals(self.keep_signal)
         try:
             yield came
         finally:
@@ -35,7 +35,7 @@ class Signals:
             for number in came:
                 os.kill(os.getpid(), number)
 
-    def take(self, number: int, _: object) -> None:
+    def keep_signal(self, number: int, _: object) -> None:
         """Takes a signal that is held back."""
         if self.came is not None:
             self.came.append(number)

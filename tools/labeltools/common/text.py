@@ -49,9 +49,9 @@ class Text:
         return str(self) != ""
 
     @property
-    def kind(self) -> tuple[object, ...]:
+    def wording(self) -> tuple[object, ...]:
         """What it has in common with texts that differ in numbers and the user's words alone."""
-        return self.template, *(field.kind for field in self.fields if isinstance(field, Text))
+        return self.template, *(field.wording for field in self.fields if isinstance(field, Text))
 
     def with_fields(self, *fields: object) -> "Text":
         """Returns the text with other fields."""
@@ -94,7 +94,8 @@ class Remedy:
     `value` is empty for an option without one; `says` is what the button shows, nothing where only
     the user knows the value; `is_less` is whether it helps to leave the option out.
 
-    >>> text = give(Remedy("sheet", "Bread"), Remedy("sheet", "Old ones"), Remedy("hidden"))
+    >>> sheets = Remedy("sheet", "Bread"), Remedy("sheet", "Old ones")
+    >>> text = hint_of_remedies(*sheets, Remedy("hidden"))
     >>> text, [remedy.value for remedy in remedies_of(text)]
     ("give --sheet Bread or 'Old ones' or --hidden", ['Bread', 'Old ones', ''])
     """
@@ -162,7 +163,7 @@ def either(remedies: Iterable[Remedy]) -> Text:
     return text
 
 
-def give(*remedies: Remedy) -> Text:
+def hint_of_remedies(*remedies: Remedy) -> Text:
     """Returns what to do where one of some remedies helps."""
     return Text("give {}", either(remedies))
 
@@ -180,8 +181,9 @@ def windowed(text: Text) -> Text:
     """Returns a text as a window says it. Of a remedy there is a button, so words around one say
     nothing unless the text has others for a window; signs between texts go with those.
 
-    >>> hint = Text("enter it, or {}", give(Remedy("hidden"))).in_window(Text("enter it"))
-    >>> windowed(joined("; ", (give(Remedy("hidden")), hint)))
+    >>> hint = Text("enter it, or {}", hint_of_remedies(Remedy("hidden")))
+    >>> hint = hint.in_window(Text("enter it"))
+    >>> windowed(joined("; ", (hint_of_remedies(Remedy("hidden")), hint)))
     'enter it'
     """
     if text.instead is not None:
@@ -226,12 +228,14 @@ def translated(text: object) -> str:
     return template.format(*map(shown_field, text.fields))
 
 
-def whole(text: Text) -> str:
+def whole_sentence(text: Text) -> str:
     """Returns a text in the language of the user as a sentence of its own: it begins with a
     capital, unless a name or a number is there, and has an end.
 
-    >>> whole(Text("row {} has no price", 2)), whole(Text("{}: {}", "a.csv", Text("is it one?")))
-    ('Row 2 has no price.', 'a.csv: is it one?')
+    >>> whole_sentence(Text("row {} has no price", 2))
+    'Row 2 has no price.'
+    >>> whole_sentence(Text("{}: {}", "a.csv", Text("is it one?")))
+    'a.csv: is it one?'
     """
     shown = translated(text)
     if begins_with_word(text):

@@ -151,7 +151,7 @@ class Room:
         is_price = self.place.part in PRICES
         lines = [""]
         used = 0.0
-        for part in [paragraph] if is_price else letters.parts(paragraph):
+        for part in [paragraph] if is_price else letters.wrapping_parts(paragraph):
             bare = part.rstrip(" ")
             wide = self.sign(bare, letters).advance
             if wide > room:

@@ -5,7 +5,7 @@ from typing import Iterator, Mapping, Sequence
 
 from labeltools.common.messages import Talk
 from labeltools.designs.design import Below, CODE, NO_BOX, PlacedSymbol, Setting
-from labeltools.designs.styles import price_line, price_places, style_of
+from labeltools.designs.styles import price_places, style_of
 from labeltools.layout.fitting import Fitted, Fitter, LEFT, Placed, SIDE, Style
 from labeltools.layout.frame import Frame, HINTING, LINE
 from labeltools.layout.layout import (
@@ -69,20 +69,13 @@ class FramedDesign:
             yield self.placed("details", label, layout, boxes["details"], fitter, bool(was))
 
     def numbers(self, label: Record, layout: Layout, fitter: Fitter) -> Sequence[Placed]:
-        """Returns a price, or in dots its parts, where cents are raised: the currency too is one by
-        itself.
-        """
-        price = label.price
-        shape = shape_of(price, fitter.letters)
-        frame = layout.frame
-        how = (frame.price_style, frame.alignment, frame.sizes["price"], layout.boxes["price"])
-        line = None if fitter.is_dots else price_line(shape, *how, fitter.letters)
-        if line:
-            return [line.placed(price)]
-        return [
-            Placed(fitter.found(price[first:last], style, box.width, box.height), style, box)
-            for first, last, style, box in price_places(shape, *how, fitter.letters)
-        ]
+        """Returns a price, or its parts where its cents are raised and it is in dots."""
+        frame, letters = layout.frame, fitter.letters
+        size = frame.sizes["price"]
+        style = style_of(letters.family, "price", frame.alignment, size, 0)
+        shape = shape_of(label.price, letters)
+        where = (frame.price_style, style, layout.boxes["price"], letters, fitter.is_dots)
+        return [place.placed(label.price, fitter) for place in price_places(shape, *where)]
 
     def old_price(
         self, label: Record, layout: Layout, numbers: Sequence[Placed], fitter: Fitter

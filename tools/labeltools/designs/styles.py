@@ -5,17 +5,19 @@ from functools import cache, lru_cache
 from itertools import accumulate, pairwise
 from typing import Mapping, NamedTuple, Sequence
 
-from labeltools.layout.fitting import Fitted, LEFT, MIDDLE, Placed, RIGHT, Style
+from labeltools.layout.fitting import Fitted, Fitter, LEFT, MIDDLE, Placed, RIGHT, Style
 from labeltools.layout.frame import HINTING, styles_from
 from labeltools.layout.glyphs import GlyphRow, LineFont
 from labeltools.layout.letters import Letters
 from labeltools.layout.price import (
     KEPT,
-    letters_of,
+    letters_in_style,
+    parts_in_style,
     price_spans,
-    Raised,
-    raised,
+    PricePart,
     ROUNDED_PRICE,
+    width_in_style,
+    width_of_parts,
 )
 from labeltools.layout.price_font import PriceFont, PriceFonts
 from labeltools.paper.box import Box
@@ -24,24 +26,18 @@ BESIDE_LAST = 0.05  # room at the left of the last part of a price, in sizes of 
 
 
 class PricePlace(NamedTuple):
-    """Where a part of a price is in the price, how it is written, and its box."""
+    """Where a part of prices of a shape is in their texts, how it is written, and its box."""
 
     first: int
     last: int
     style: Style
     box: Box
 
-
-class ChosenStyle(NamedTuple):
-    """How prices of a shape are written in a box: their letters and style; with raised cents, or
-    not; where they begin, and where they end.
-    """
-
-    letters: Letters
-    style: Style
-    raised: Raised | None
-    left: int
-    right: int
+    def placed(self, price: str, fitter: Fitter) -> Placed:
+        """Returns the part of a price of the shape in its place."""
+        text = price[self.first : self.last]
+        fitted = fitter.found(text, self.style, self.box.width, self.box.height)
+        return Placed(fitted, self.style, self.box)
 
 
 class PriceLine(NamedTuple):
@@ -58,7 +54,7 @@ class PriceLine(NamedTuple):
     style: Style
     box: Box
 
-    def placed(self, price: str) -> Placed:
+    def placed(self, price: str, fitter: Fitter) -> Placed:
         """Returns a price of the shape in its place."""
         numbers = [found[letter] for found, letter in zip(self.numbers, price)]
         rows = (GlyphRow(numbers, self.steps, self.wide),)
@@ -66,77 +62,80 @@ class PriceLine(NamedTuple):
         return Placed(text, self.style, self.box)
 
 
-def chosen_style(
-    shape: str, wanted: str, arrangement: str, size: int, box: Box, letters: Letters
-) -> ChosenStyle:
-    """Returns how prices of a shape are written in a box: in the first of their styles that has
-    room.
-    """
-    for name in styles_from(wanted):
-        own = letters_of(name, shape, letters)
-        found = raised(shape, own) if name.endswith("raised") else None
-        wide = found.width if found else own.width(shape, True)
-        if HINTING * wide * size <= box.width + size / ROUNDED_PRICE:
-            break
-    style = style_of(own.family, "price", arrangement, size, 0)
-    if found is None:
-        return ChosenStyle(own, style, found, box.left, box.right)
-    size = min(size, math.floor(box.width / wide / HINTING))
-    right = math.ceil(wide * size)
-    start = box.left + (box.width - right) * (style.across + 1) // 2
-    return ChosenStyle(own, style._replace(size=size), found, start, min(start + right, box.right))
-
-
 @lru_cache(KEPT)
 def price_places(
-    shape: str, wanted: str, arrangement: str, size: int, box: Box, letters: Letters
-) -> Sequence[PricePlace]:
-    """Returns where the parts of prices of a shape are in a box."""
-    own, style, found, start, end = chosen_style(shape, wanted, arrangement, size, box, letters)
-    if found is None:
-        return [PricePlace(0, len(shape), style, box)]
-    size = style.size
-    places = []
-    for part in found.parts:
-        is_last = part.left + part.width >= found.width
-        how = style._replace(
-            size=round(part.size * size),
-            across=RIGHT if is_last else LEFT,
-            base=round(part.base * size),
-        )
-        left = start + math.floor(part.left * size)
-        width = math.ceil(HINTING * part.width * size) + 1
-        if is_last:  # its digits may be wider than those of the shape
-            left -= math.floor(BESIDE_LAST * size)
-            width = end - left
-        places.append(PricePlace(part.first, part.last, how, box._replace(left=left, width=width)))
-    return places
+    shape: str, wanted: str, style: Style, box: Box, letters: Letters, is_dots: bool
+) -> Sequence[PricePlace | PriceLine]:
+    """Returns where prices of a shape are in a box: in the first of their styles that has room.
 
-
-@lru_cache(KEPT)
-def price_line(
-    shape: str, wanted: str, arrangement: str, size: int, box: Box, letters: Letters
-) -> PriceLine | None:
-    """Returns prices of a shape with raised cents as a line of glyphs in a box; None where cents
-    are not raised, or no font can be made of their letters.
+    Prices with raised cents are a line of glyphs, or in dots, and where no font can be made of
+    their letters, several parts: the currency too is one by itself.
     """
-    own, style, found, start, end = chosen_style(shape, wanted, arrangement, size, box, letters)
-    font = price_font(shape, own) if found else None
-    if found is None or font is None:
+    chosen = style_with_room(shape, wanted, style.size, box, letters)
+    own = letters_in_style(chosen, shape, letters)
+    if own.family != style.family:
+        style = style._replace(family=own.family)
+    parts = parts_in_style(chosen, shape, letters)
+    if not parts:
+        return [PricePlace(0, len(shape), style, box)]
+    wide = width_of_parts(parts)
+    size = min(style.size, math.floor(box.width / wide / HINTING))
+    style = style._replace(size=size)
+    most = math.ceil(wide * size)
+    start = box.left + (box.width - most) * (style.across + 1) // 2
+    room = box._replace(left=start, width=min(most, box.right - start))
+    line = None if is_dots else price_line(shape, parts, style, room, own)
+    if line:
+        return [line]
+    return [part_place(part, part.right >= wide, style, room) for part in parts]
+
+
+def style_with_room(shape: str, wanted: str, size: int, box: Box, letters: Letters) -> str:
+    """Returns the first style of prices that has room in a box, or else the last one."""
+    styles = styles_from(wanted)
+    widths = {style: HINTING * width_in_style(style, shape, letters) * size for style in styles}
+    most = box.width + size / ROUNDED_PRICE
+    return next((style for style in styles if widths[style] <= most), styles[-1])
+
+
+def part_place(part: PricePart, is_last: bool, style: Style, box: Box) -> PricePlace:
+    """Returns the place of a part of prices that fill a box."""
+    size = style.size
+    left = box.left + math.floor(part.left * size)
+    width = math.ceil(HINTING * part.width * size) + 1
+    if is_last:  # its digits may be wider than those of the shape
+        left -= math.floor(BESIDE_LAST * size)
+        width = box.right - left
+    own = style._replace(
+        size=round(part.size * size),
+        across=RIGHT if is_last else LEFT,
+        base=round(part.base * size),
+    )
+    return PricePlace(part.first, part.last, own, box._replace(left=left, width=width))
+
+
+def price_line(
+    shape: str, parts: Sequence[PricePart], style: Style, box: Box, letters: Letters
+) -> PriceLine | None:
+    """Returns prices of a shape with raised cents as a line of glyphs that fills a box; None where
+    no font can be made of their letters.
+    """
+    font = price_font(shape, letters)
+    if font is None:
         return None
-    places, numbers = letter_places(shape, found, font, own)
+    places, numbers = letter_places(shape, parts, font, letters)
     if any(letter not in several for letter, several in zip(shape, numbers)):
         return None
     steps = [after - before for before, after in pairwise(places)] + [0.0]
-    top = round(style.size * -own.sign("0", True).top)
+    top = round(style.size * -letters.sign("0", True).top)
     return PriceLine(
         numbers,
         [step * style.size for step in steps],
-        found.width * style.size,
+        width_of_parts(parts) * style.size,
         round(places[0] * style.size),
         LineFont(font.face, top, box.height),
         style._replace(base=top),
-        box._replace(left=start, width=end - start),
+        box,
     )
 
 
@@ -153,14 +152,14 @@ def price_fonts(family: str) -> PriceFonts:
 
 
 def letter_places(
-    shape: str, found: Raised, font: PriceFont, letters: Letters
+    shape: str, parts: Sequence[PricePart], font: PriceFont, letters: Letters
 ) -> tuple[list[float], list[Mapping[str, int]]]:
     """Returns where the letters of prices of a shape begin, in sizes of those, and the glyphs that
     each may have.
     """
     spans = price_spans(shape)
     slots = (font.before, [font.number] * len(shape), font.cents, font.after)
-    parts = {part.first: part for part in found.parts}
+    part_at = {part.first: part for part in parts}
     places: list[float] = []
     numbers: list[Mapping[str, int]] = []
     for (first, last), several in zip(spans, slots):
@@ -169,7 +168,7 @@ def letter_places(
         if first > len(places):  # a space before it
             places.append(places[-1] + BESIDE_LAST)
             numbers.append(font.number.numbers)
-        part = parts[first]
+        part = part_at[first]
         signs = [letters.sign(letter, True) for letter in shape[first:last]]
         ends = accumulate((sign.advance for sign in signs), initial=-signs[0].left)
         for slot, end, _ in zip(several, ends, signs):

@@ -198,7 +198,7 @@ def check_elements(file: str, root: Element) -> None:
         elif not all(map(WITHIN.match, links)) or any(map(OUTSIDE.search, styles)):
             raise refused_link(file, tag_of(element), any(map(DRAWING.match, links)))
         elif tag_of(element) == "image":
-            budget.take(PIXELS, sum(pixels_of(file, one.partition(",")[2]) for one in links))
+            budget.take_share(PIXELS, sum(pixels_of(file, one.partition(",")[2]) for one in links))
 
 
 def refused_link(file: str, tag: str, is_drawing: bool) -> ToolError:

@@ -58,7 +58,7 @@ class Pen:
         self.options = font_options(medium.is_dots)
         self.fitter = Fitter(letters, medium.is_dots)
         self.digits_face = digits_face(medium.is_dots)
-        large = self.digits_font(font_options(False), LARGE)
+        large = self.digits_in_size(font_options(False), LARGE)
         extents = large.text_extents("0")
         self.digit_width = extents.x_advance / LARGE
         self.digit_height = -extents.y_bearing / LARGE
@@ -66,7 +66,7 @@ class Pen:
         self.digit_places = cache(self.new_digit_places)
         self.recorded_white = cache(self.new_recorded_white)  # Cairo empties one that is let go
 
-    def digits_font(self, options: cairo.FontOptions, size: int) -> Any:
+    def digits_in_size(self, options: cairo.FontOptions, size: int) -> Any:
         """Returns the font of digits in a size."""
         scale = cairo.Matrix(size, 0, 0, size)
         return cairo.ScaledFont(self.digits_face, scale, cairo.Matrix(), options)
@@ -183,7 +183,7 @@ class Pen:
         """
         text, style, box, quarters, colour, is_edged = placed
         if not quarters and colour is None and not is_edged:
-            self.show(canvas, text, style, (place[0] + box.left, place[1] + box.top), runs)
+            self.show_text(canvas, text, style, (place[0] + box.left, place[1] + box.top), runs)
             return
         own: GlyphRuns = defaultdict(list)
         canvas.save()
@@ -196,11 +196,13 @@ class Pen:
             canvas.set_source_rgb(*colour)
         elif colour and is_light(colour):
             canvas.set_operator(cairo.Operator.DEST_OUT)
-        self.show(canvas, text, style, corner, own)
+        self.show_text(canvas, text, style, corner, own)
         self.show_runs(canvas, own)
         canvas.restore()
 
-    def show(self, canvas: Any, text: Fitted, style: Style, corner: Dots, runs: GlyphRuns) -> None:
+    def show_text(
+        self, canvas: Any, text: Fitted, style: Style, corner: Dots, runs: GlyphRuns
+    ) -> None:
         """Shows a text in a box that begins at a corner, as shapes where its font needs that;
         glyphs are shown with those of other texts.
         """
@@ -250,7 +252,7 @@ class Pen:
         if len(modules.packed) == modules.row_size and layout.symbology.guards:
             high += GUARD
         place = Box(box.left, box.top, box.width, high * module)
-        mask.set_matrix(scaled(place, modules.width, high))
+        mask.set_matrix(picture_matrix(place, modules.width, high))
         canvas.mask(mask)
 
     def draw_data(self, canvas: Any, symbol: PlacedSymbol, corner: Dots, runs: GlyphRuns) -> None:
@@ -266,7 +268,7 @@ class Pen:
             size = round(DIGITS_SIZE * module)
             style = Style(DATA_FONT, False, size, 0, MIDDLE, 0.3, 0)
             text = self.fitter.found(data.translate(SHOWN), style, box.width, box.height)
-            self.show(canvas, text, style, (left, top), runs)
+            self.show_text(canvas, text, style, (left, top), runs)
             return
         base = top + round((DIGITS_TOP + DIGITS_HIGH) * module)
         for first, last, size, start in self.digit_places(symbol.symbology.name, module):
@@ -277,7 +279,7 @@ class Pen:
 
     def new_digits(self, size: int) -> tuple[dict[str, int], float]:
         """Returns the glyphs of digits in a size, and how far each one is from the next."""
-        font = self.digits_font(self.options, size)
+        font = self.digits_in_size(self.options, size)
         glyphs = {digit: font.text_to_glyphs(0, 0, digit, False)[0].index for digit in DIGITS}
         return glyphs, font.text_to_glyphs(0, 0, "00", False)[1].x
 
@@ -427,7 +429,7 @@ def draw_dots(canvas: Any, modules: Modules, box: Box, module: int) -> None:
     canvas.restore()
 
 
-def scaled(box: Box, width: int, height: int) -> cairo.Matrix:
+def picture_matrix(box: Box, width: int, height: int) -> cairo.Matrix:
     """Returns from where in a picture the dots of a box are, which it fills but for an inset: a
     program that draws a PDF takes each dot that the picture touches.
     """
@@ -456,13 +458,13 @@ def draw_rectangles(
     whole = (Span(0, modules.width),)
     for number, row in enumerate(rows):
         place = box._replace(top=box.top + number * high, height=high)
-        fill(canvas, row, whole, module, place)
+        fill_bars(canvas, row, whole, module, place)
     if guards:
         longer = box._replace(height=box.height + GUARD * module)
-        fill(canvas, rows[0], guards, module, longer)
+        fill_bars(canvas, rows[0], guards, module, longer)
 
 
-def fill(canvas: Any, row: bytes, spans: Iterable[Span], module: int, box: Box) -> None:
+def fill_bars(canvas: Any, row: bytes, spans: Iterable[Span], module: int, box: Box) -> None:
     """Draws dark modules in spans of a row as rectangles, a bit less than their dots: what touches
     a dot paints it.
     """

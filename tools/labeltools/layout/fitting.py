@@ -124,7 +124,7 @@ class Fitter:
         row = glyphs.row(text)
         if row is None:
             return None
-        ink = glyphs.ink_of(row)
+        ink = glyphs.row_ink(row)
         if ink.width > width or ink.height > height:
             return None
         extents = (ceil(row.width), ceil(glyphs.high), floor(glyphs.base))

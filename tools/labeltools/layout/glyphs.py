@@ -151,7 +151,7 @@ class Glyphs:
         """
         return [round(end * UNIT) / UNIT for end in self.font.glyph_extents(glyphs)[:4]]
 
-    def ink_of(self, row: GlyphRow) -> Box:
+    def row_ink(self, row: GlyphRow) -> Box:
         """Returns where a row has ink, in whole dots from the upper left corner of its text."""
         left, top, width, height = self.ink([*row.glyphs(0.0, 0.0)])
         x, y = floor(left), floor(self.base + top)

@@ -17,7 +17,7 @@ from labeltools.layout.code_boxes import code_boxes
 from labeltools.layout.frame import Frame, HINTING, Need, Needs, styles_from
 from labeltools.layout.frame_search import frame_of
 from labeltools.layout.letters import Letters
-from labeltools.layout.price import price_extent
+from labeltools.layout.price import price_height, price_widths, shape_of
 from labeltools.lines.file import Record
 from labeltools.lines.symbologies import Symbology
 from labeltools.paper.box import Box
@@ -119,7 +119,7 @@ def lay_out(labels: Sequence[Record], area: Area, letters: Letters, talk: Talk) 
         is_forced = area.wishes.turn is True
         if is_forced or (found.left_out and counted):
             turned = laid_out_needs(counted, area.turned())
-            if is_forced or turned.count(counted) > found.count(counted):
+            if is_forced or turned.laid_out_count(counted) > found.laid_out_count(counted):
                 found = turned
     return found.of_labels(labels, needs)
 
@@ -138,7 +138,9 @@ def need_of(label: Record, letters: Letters) -> Need:
         of_details = letters.of(label.was + label.unit)
         was = rounded(of_details.width(label.was, False))
         unit = rounded(of_details.width(label.unit, False))
-    height, (price, raised, narrow, narrow_raised) = price_extent(label.price, letters)
+    shape = shape_of(label.price, letters)
+    height = price_height(shape, letters)
+    price, raised, narrow, narrow_raised = price_widths(shape, letters)
     modules = label.modules
     return Need(
         label.symbology,
@@ -175,7 +177,7 @@ class LaidOutNeeds:
     layouts: Mapping[Need, Layout]
     left_out: tuple[Need, ...]
 
-    def count(self, counted: Needs) -> int:
+    def laid_out_count(self, counted: Needs) -> int:
         """Returns how many labels have a layout."""
         return sum(sum(counted[need].values()) for need in self.layouts)
 

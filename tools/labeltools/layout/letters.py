@@ -120,7 +120,7 @@ class Letters:
         self.has_others = self.of_others != self.family
         self.extent = lru_cache(KEPT)(self.new_extent)
         self.is_missing = cache(self.is_in_no_font)
-        self.layout = cache(self.new_layout)
+        self.layout = cache(self.new_measuring_layout)
         self.sign = cache(self.whole_sign)
         self.steps = [Memo(partial(self.step, is_bold)) for is_bold in (False, True)]
         self.word = lru_cache(KEPT)(self.new_word)
@@ -141,13 +141,13 @@ class Letters:
         return len({self.sign(digit, True).advance for digit in DIGITS}) == 1
 
     @cached_property
-    def wrapped(self) -> Any:
+    def wrapping_layout(self) -> Any:
         """A layout of Pango in which each part of a line is a line."""
         layout = new_layout(pango_context(False), self.family, False, MEASURED)
         layout.set_width(1)
         return layout
 
-    def new_layout(self, is_bold: bool) -> Any:
+    def new_measuring_layout(self, is_bold: bool) -> Any:
         """Returns the layout of Pango by which texts are measured, if it is asked for: it takes
         long to look for a font.
         """
@@ -198,15 +198,15 @@ class Letters:
             return None
         return together(found, (len(found) - 1) * self.steps[is_bold][" "])
 
-    def parts(self, line: str) -> list[str]:
+    def wrapping_parts(self, line: str) -> list[str]:
         """Returns the parts of a line behind which it may be wrapped, with the spaces behind them:
         words, or in scripts that are written without spaces what Pango says.
         """
         if not OTHERS.search(line):
             return SPACED.findall(line)
-        self.wrapped.set_text(line, -1)
+        self.wrapping_layout.set_text(line, -1)
         written = line.encode()
-        lines = self.wrapped.get_lines_readonly()
+        lines = self.wrapping_layout.get_lines_readonly()
         ends = [found.start_index + found.length for found in lines]
         return [written[start:end].decode() for start, end in zip([0, *ends], ends)]
 

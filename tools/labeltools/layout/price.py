@@ -10,7 +10,7 @@ import math
 import re
 import unicodedata
 from functools import lru_cache
-from typing import NamedTuple
+from typing import NamedTuple, Sequence
 
 from labeltools.layout.frame import PRICE_STYLES
 from labeltools.layout.letters import Letters
@@ -30,9 +30,9 @@ AMOUNT = re.compile(
 ZEROS = str.maketrans("123456789", "0" * 9)
 
 
-class Part(NamedTuple):
-    """A part of a price: where its letters are in the price, their size, where the ink begins and
-    how wide it is, and where its base line is below the top of digits.
+class PricePart(NamedTuple):
+    """A part of a price with raised cents: where its letters are in the price, their size, where
+    the ink begins and how wide it is, and where its base line is below the top of digits.
     """
 
     first: int
@@ -42,19 +42,10 @@ class Part(NamedTuple):
     width: float
     base: float
 
-
-class Raised(NamedTuple):
-    """A price with raised cents: its parts, and the width of all."""
-
-    parts: tuple[Part, ...]
-    width: float
-
-
-class PriceExtent(NamedTuple):
-    """The height of the ink of a price, and its width in each style, a bit rounded up."""
-
-    height: float
-    widths: tuple[float, ...]
+    @property
+    def right(self) -> float:
+        """Where the ink ends."""
+        return self.left + self.width
 
 
 def price_spans(price: str) -> tuple[tuple[int, int], ...]:
@@ -95,51 +86,64 @@ def shape_of(price: str, letters: Letters) -> str:
 
 
 @lru_cache(KEPT)
-def raised(shape: str, letters: Letters) -> Raised | None:
-    """Returns a price with raised cents; None where it has none."""
+def raised_parts(shape: str, letters: Letters) -> Sequence[PricePart]:
+    """Returns the parts of a price with raised cents; none where it has no cents."""
     spans = price_spans(shape)
     if not spans:
-        return None
+        return ()
     top = -letters.sign("0", True).top
     before, whole, cents, after = (letters.width(shape[slice(*span)], True) for span in spans)
     parts = []
     end = 0.0
     if before:
         wide = before * CURRENCY
-        parts.append(Part(*spans[0], CURRENCY, 0.0, wide, CURRENCY * top))
+        parts.append(PricePart(*spans[0], CURRENCY, 0.0, wide, CURRENCY * top))
         end = wide + BETWEEN
-    parts.append(Part(*spans[1], 1.0, end, whole, top))
+    parts.append(PricePart(*spans[1], 1.0, end, whole, top))
     column = end + whole + BETWEEN
-    parts.append(Part(*spans[2], CENTS, column, cents * CENTS, CENTS * top))
-    end = column + cents * CENTS
+    parts.append(PricePart(*spans[2], CENTS, column, cents * CENTS, CENTS * top))
     if after:
         wide = after * CURRENCY
-        left = max(column, end - wide)
-        parts.append(Part(*spans[3], CURRENCY, left, wide, top))
-        end = max(end, left + wide)
-    return Raised(tuple(parts), end)
+        left = max(column, column + cents * CENTS - wide)
+        parts.append(PricePart(*spans[3], CURRENCY, left, wide, top))
+    return parts
 
 
-def letters_of(style: str, price: str, letters: Letters) -> Letters:
+def width_of_parts(parts: Sequence[PricePart]) -> float:
+    """Returns the width of a price by its parts."""
+    return max(part.right for part in parts)
+
+
+def letters_in_style(style: str, price: str, letters: Letters) -> Letters:
     """Returns the letters of a price that is written in a style."""
     return letters.of(price, style.startswith("narrow"))
 
 
-def price_extent(price: str, letters: Letters) -> PriceExtent:
-    """Returns what a price takes in each style."""
-    return shape_extent(shape_of(price, letters), letters)
+def parts_in_style(style: str, shape: str, letters: Letters) -> Sequence[PricePart]:
+    """Returns the parts of a price that is written in a style; none where its cents are not raised
+    there.
+    """
+    is_raised = style.endswith("raised")
+    return raised_parts(shape, letters_in_style(style, shape, letters)) if is_raised else ()
+
+
+def width_in_style(style: str, shape: str, letters: Letters) -> float:
+    """Returns the width of a price that is written in a style."""
+    if parts := parts_in_style(style, shape, letters):
+        return width_of_parts(parts)
+    return letters_in_style(style, shape, letters).width(shape, True)
 
 
 @lru_cache(KEPT)
-def shape_extent(shape: str, letters: Letters) -> PriceExtent:
-    """Returns what prices of a shape take in each style."""
-    widths = []
-    for style in PRICE_STYLES:
-        own = letters_of(style, shape, letters)
-        found = raised(shape, own) if style.endswith("raised") else None
-        widths.append(rounded_up(found.width if found else own.width(shape, True)))
-    height = letters.of(shape).extent(shape, True).height
-    return PriceExtent(rounded_up(height), tuple(widths))
+def price_widths(shape: str, letters: Letters) -> tuple[float, ...]:
+    """Returns the width of prices of a shape in each style, a bit rounded up."""
+    return tuple(rounded_up(width_in_style(style, shape, letters)) for style in PRICE_STYLES)
+
+
+@lru_cache(KEPT)
+def price_height(shape: str, letters: Letters) -> float:
+    """Returns the height of the ink of prices of a shape, a bit rounded up."""
+    return rounded_up(letters.of(shape).extent(shape, True).height)
 
 
 def rounded_up(width: float) -> float:

@@ -69,22 +69,22 @@ class PriceFonts:
         self.larger = LARGER.get(letters.family, 1.0)
         self.top = -letters.sign("0", True).top
         self.count = 0
-        self.of = cache(self.new_font)
+        self.of = cache(self.new_price_font)
         self.outline = cache(self.new_outline)
 
-    def new_font(self, before: str, after: str) -> PriceFont | None:
+    def new_price_font(self, before: str, after: str) -> PriceFont | None:
         """Returns the font of prices with currencies before and after the number, with the spaces
         beside these; None where there is none.
         """
         if self.count == MOST_FONTS:
             return None
         self.count += 1
-        first = self.before(before)
-        kinds = [PriceLetters(NUMBER, 1.0), *first, *self.behind(after)]
+        first = self.letters_before(before)
+        kinds = [PriceLetters(NUMBER, 1.0), *first, *self.letters_behind(after)]
         glyphs: list[Outline] = []
         slots = []
         for kind in kinds:
-            found = [*self.glyphs(kind)]
+            found = [*self.glyphs_in_size(kind)]
             numbers = {glyph.letter: at for at, glyph in enumerate(found, len(glyphs) + 1)}
             slots.append(Slot(numbers, kind.moved))
             glyphs += found
@@ -94,33 +94,33 @@ class PriceFonts:
         end = 1 + len(first)
         return PriceFont(face, slots[0], slots[1:end], slots[end : end + 2], slots[end + 2 :])
 
-    def before(self, currency: str) -> list[PriceLetters]:
+    def letters_before(self, currency: str) -> list[PriceLetters]:
         """Returns the letters of a currency before the number."""
         bare = currency.strip()
-        places = self.places(bare, CURRENCY)
+        places = self.letter_starts(bare, CURRENCY)
         up = (1 - CURRENCY) * self.top
         part = 1.0
         if bare != currency:
-            room = self.width(bare) + BETWEEN - SPACE
+            room = self.currency_width(bare) + BETWEEN - SPACE
             part = max(0.1, room / places[-1])
         return [
             PriceLetters(letter, CURRENCY, up, place * (1 - part), part)
             for letter, place in zip(bare, places)
         ]
 
-    def behind(self, currency: str) -> list[PriceLetters]:
+    def letters_behind(self, currency: str) -> list[PriceLetters]:
         """Returns the letters of the two digits of cents, and of a currency below them."""
         bare = currency.strip()
         up = (1 - CENTS) * self.top
-        digits = self.places("00", CENTS)
+        digits = self.letter_starts("00", CENTS)
         if not bare:
             return [PriceLetters(DIGITS, CENTS, up)] * 2
-        cents, wide = self.letters.width("00", True) * CENTS, self.width(bare)
+        cents, wide = self.letters.width("00", True) * CENTS, self.currency_width(bare)
         left = max(0.0, cents - wide)
         start = -self.letters.sign("0", True).left * CENTS
         visible = left - self.letters.sign(bare[0], True).left * CURRENCY
         space = SPACE if bare != currency else 0.0
-        places = self.places(bare, CURRENCY)
+        places = self.letter_starts(bare, CURRENCY)
         part = (max(cents, left + wide) - start - space) / (digits[-1] + places[-1])
         kinds = [PriceLetters(DIGITS, CENTS, up, place * (1 - part), part) for place in digits[:2]]
         for letter, place in zip(bare, places):
@@ -128,16 +128,16 @@ class PriceFonts:
             kinds.append(PriceLetters(letter, CURRENCY, 0.0, visible + place - read, part))
         return kinds
 
-    def places(self, text: str, size: float) -> list[float]:
+    def letter_starts(self, text: str, size: float) -> list[float]:
         """Returns where the letters of a text begin, and where it ends."""
         steps = (self.letters.sign(letter, True).advance * size for letter in text)
         return [*accumulate(steps, initial=0.0)]
 
-    def width(self, currency: str) -> float:
+    def currency_width(self, currency: str) -> float:
         """Returns the width of the ink of a currency."""
         return self.letters.width(currency, True) * CURRENCY
 
-    def glyphs(self, kind: PriceLetters) -> Iterator[Outline]:
+    def glyphs_in_size(self, kind: PriceLetters) -> Iterator[Outline]:
         """Yields the glyphs of a part of prices."""
         scale = self.larger * kind.size
         right, up = kind.moved * EM, kind.up * EM

@@ -58,7 +58,7 @@ class Engine:
         except self.module.Refused as refused:
             return refused_line(refused.code, str(refused))
 
-    def draw(self, line: bytes) -> Modules | Refused:
+    def modules_of_line(self, line: bytes) -> Modules | Refused:
         """Returns the modules of a line that has data, or why it is refused."""
         symbol = self.symbol(line)
         if isinstance(symbol, Refused):
@@ -78,4 +78,4 @@ def drawn(lines: Iterable[bytes], is_escaped: bool, talk: Talk) -> Iterator[Modu
     for done, line in enumerate(lines):
         if done % ASKED == 0:
             talk.go_on(0, 0)
-        yield engine.draw(line)
+        yield engine.modules_of_line(line)

@@ -102,7 +102,7 @@ class Record(NamedTuple):
         return Record(self.row, self.title, self.text, price, unit, was, self.copies, self.names)
 
     @property
-    def shown(self) -> tuple[str, tuple[str, ...], str, str, str]:
+    def printed_beside(self) -> tuple[str, tuple[str, ...], str, str, str]:
         """What is printed beside the code: its title, its text and its prices."""
         return self.title, self.text, self.price, self.unit, self.was
 
@@ -144,10 +144,15 @@ class Record(NamedTuple):
         return self.symbology, self.data
 
     @property
-    def code(self) -> bytes:
+    def code_line(self) -> bytes:
         """Its code on one line, with its symbology, as a journal has it."""
         symbology, data = self.key
         return symbology.encode("utf-8", "replace") + b" " + escaped(data)
+
+    @property
+    def origin_number(self) -> int:
+        """The number of its origin."""
+        return self.row or self.number
 
     @property
     def origin(self) -> Origin:
@@ -219,7 +224,7 @@ def read_lines(
     longest = LINE.most(len(data))
     for number, ended in zip(numbers or count(1), BytesIO(data)):
         if number % LOOKED_AFTER == 0:
-            budget.look()
+            budget.look_at_clock()
         if len(ended) > longest:
             raise budget.refusal(LINE)
         line = ended.removesuffix(b"\n")
@@ -267,8 +272,9 @@ class _Reader:
     def take_object(self, number: int, line: bytes) -> None:
         """Takes a remark that is an object."""
         found = object_of(line, self.name, number)
-        count = len(self.records) - self.first if self.first >= 0 else -1
-        is_early = "labels" in found and self.first >= 0
+        is_in_table = self.first >= 0
+        count = len(self.records) - self.first if is_in_table else -1
+        is_early = "labels" in found and is_in_table
         is_short = "end" in found and found.get("lines", -2) != count
         if self.waiting or is_early or is_short:
             self.torn = self.torn or Text("before line {}", number)
@@ -330,7 +336,8 @@ def object_of(line: bytes, name: str, number: int) -> dict[str, Any]:
     wrong = [key for key, value in found.items() if key not in KEYS or not is_of(value, KEYS[key])]
     wrong += [key for key in ONE_LINE if "\n" in str(found.get(key, ""))]
     is_known = found.get("labels", found.get("end", VERSION)) == VERSION
-    if is_known and found and not wrong and found.get("copies", 0) <= MOST_COPIES:
+    is_right = bool(found) and not wrong and found.get("copies", 0) <= MOST_COPIES
+    if is_known and is_right:
         return found
     where = Text("{}: line {}", name, number)
     if not is_known:

@@ -121,12 +121,12 @@ def parts_named(name: str) -> list[PartName]:
     any makers.
     """
     wanted = bare_name(name)
-    if whole := [key for key in parts() if bare_name("".join(key)) == wanted]:
+    if whole := [key for key in glabels_parts() if bare_name("".join(key)) == wanted]:
         return whole
     words = name.split()
     makers = [word for word in words if bare_name(word) in brands()]
     bare = bare_name("".join(word for word in words if word not in makers))
-    found = [key for key in parts() if bare_name(key[1]) in (wanted, bare)]
+    found = [key for key in glabels_parts() if bare_name(key[1]) in (wanted, bare)]
     named = {bare_name(maker) for maker in makers}
     return [key for key in found if bare_name(key[0]) in named] or found
 
@@ -138,7 +138,7 @@ def list_stock(words: str) -> Iterator[str]:
     wanted = words.lower().split()
     makers = [word for word in wanted if bare_name(word) in brands()]
     others = [word for word in wanted if word not in makers]
-    for key in parts():
+    for key in glabels_parts():
         with suppress(ToolError):
             sheet = glabels_sheet(key)
             line = f"{' '.join(key)}: {sheet}"
@@ -163,7 +163,7 @@ def bare_name(name: str) -> str:
 
 
 @cache
-def parts() -> dict[PartName, Element]:
+def glabels_parts() -> dict[PartName, Element]:
     """Returns every part that glabels knows, by its maker and name; raises `ToolError` where
     glabels is not there.
     """
@@ -178,16 +178,16 @@ def parts() -> dict[PartName, Element]:
     return {key: named[key] for key in sorted(named)}
 
 
-def forget() -> None:
+def forget_glabels() -> None:
     """Frees the parts, which take some 16 MB, and their sheets."""
-    parts.cache_clear()
+    glabels_parts.cache_clear()
     glabels_sheet.cache_clear()
 
 
 @cache
 def brands() -> frozenset[str]:
     """Returns the plain names of all makers."""
-    return frozenset(bare_name(maker) for maker, _ in parts())
+    return frozenset(bare_name(maker) for maker, _ in glabels_parts())
 
 
 @cache
@@ -215,7 +215,7 @@ def length_of(text: str | None) -> float:
 @cache
 def glabels_sheet(key: PartName) -> Sheet:
     """Returns the sheet of a part; raises `ToolError` where no label can be laid out for it."""
-    part = parts()[key]
+    part = glabels_parts()[key]
     name = " ".join(key)
     head = Text("{}", Remedy("stock", name)).in_window(Text("{}", name))
     if same := part.get("equiv"):

@@ -25,8 +25,9 @@ from labeltools.printing.selection import Selection
 
 NO_GAP = (0.0, 0.0)
 EDGE = 5.0  # millimetres at the edge of a page of several labels where most printers print nothing
-USUAL_DPI = (203, 300, 600)  # of label printers, and of others
-DRAWING_DPI = USUAL_DPI[-1]
+LABELS_DPI = 203  # of most label printers and receipt printers
+DRAWING_DPI = 600
+USUAL_DPI = (LABELS_DPI, 300, DRAWING_DPI)  # of label printers, and of others
 MOST_DPI = 2400
 RECEIPT_DOTS = 576  # across paper of 80 mm
 AS_GIVEN = Remedy("paper-as-given", says=Text("Print on this paper"))

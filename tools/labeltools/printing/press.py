@@ -112,14 +112,14 @@ def prepared(
     laid_out = job.design.lay_out(labels, on, talk)
     reasons.update(laid_out.left_out)
     only = options.only
-    wanted = [item for item in laid_out.labels if only.has(item.record)]
+    wanted = [item for item in laid_out.labels if only.has_label(item.record)]
     left_out = (*without_line(lines, only), *refused_labels(lines, reasons, only))
     tables = frozenset(record.table for record in lines.records if record.table)
     remarks: Iterable[LeftOut] = ()
     if is_remarked:
         remarks = remarks_on(wanted, laid_out, only, len(tables) > 1, pens[0])
     found = replace(laid_out, labels=tuple(wanted))
-    prints = repeated(wanted, job)
+    prints = with_copies(wanted, job)
     return Prepared(job, found, prints, left_out, tuple(remarks), tables, pens, lines.records)
 
 
@@ -152,8 +152,8 @@ def without_line(lines: LinesFile, only: Selection) -> Iterable[LeftOut]:
     """Yields what is not printed without a line of its own: what is asked for and not there, and
     the rows that label-table left out.
     """
-    yield from only.missing(lines.records, lines.left_out)
-    named = [place for place in lines.left_out if only.has_row(place)]
+    yield from only.not_in_input(lines.records, lines.left_out)
+    named = [place for place in lines.left_out if only.has_row(place.number)]
     count = len(named) if only else lines.left_out_count
     reason = Text("skipped by label-table")
     if count > len(named):
@@ -170,13 +170,13 @@ def refused_labels(
     """Yields the lines that are not printed, with their reasons."""
     for record in lines.records:
         reason = reasons.get(record.number)
-        if reason is not None and only.has(record):
+        if reason is not None and only.has_label(record):
             data = record.data.decode("utf-8", "backslashreplace")
             hint = record.refused.hint if record.refused else NOTHING
             yield LeftOut(record.origin, data, reason, hint)
 
 
-def repeated(items: Sequence[LaidOut], job: Job) -> Sequence[LaidOut]:
+def with_copies(items: Sequence[LaidOut], job: Job) -> Sequence[LaidOut]:
     """Returns labels as often as they are printed, once if each is a file, but for the first ones
     that are on paper already; raises `ToolError` if they are more than one run takes.
     """
@@ -214,7 +214,7 @@ class Batch:
     items: Sequence[LaidOut]
 
     @property
-    def count(self) -> int:
+    def label_count(self) -> int:
         """How many labels it has."""
         return len(self.items)
 
@@ -251,13 +251,13 @@ class Press:
         """Draws a page on a canvas of Cairo, whose units are dots."""
         self.pen.draw(canvas, page, self.turn)
 
-    def parts(self, prints: Sequence[LaidOut]) -> Iterator[Batch]:
+    def batches(self, prints: Sequence[LaidOut]) -> Iterator[Batch]:
         """Yields what goes out as a whole: a label of ZPL with how many follow one another that
         have the same dots, a label of ESC/POS, each page of another form, or all pages of a PDF.
         """
         form = self.job.form
         if form == ZPL and not self.job.is_each:
-            yield from (self.part([*same]) for _, same in groupby(prints, DOTS_OF))
+            yield from (self.batch_of_same([*same]) for _, same in groupby(prints, DOTS_OF))
             return
         pages = [self.page(number, prints) for number in range(self.job.pages_of(len(prints)))]
         if form == PDF and not self.job.is_each:
@@ -265,7 +265,7 @@ class Press:
         else:
             yield from (Batch([page], [item for item, _ in page]) for page in pages)
 
-    def part(self, items: Sequence[LaidOut]) -> Batch:
+    def batch_of_same(self, items: Sequence[LaidOut]) -> Batch:
         """Returns labels of a roll that have the same dots."""
         return Batch([[(items[0], self.job.plan.places[0])]], items)
 
@@ -276,26 +276,26 @@ class Press:
         form = self.job.form
         if form.is_drawn:
             paper = Paper(self.job.plan.sheet.page, self.job.plan.dpi, self.turn)
-            pages = partial(self.told, part)
+            pages = partial(self.pages_of_batch, part)
             with temporary(), drawn_file(paper, self.pens, pages, form == SVG) as file:
                 document = Document(file.read(), part.pages)
         else:
             picture = drawn_page(self.job.plan.page, self.pen, part.pages[0], self.turn)
-            copies = part.count if form == ZPL else 1
-            data = self.written(picture, is_first, copies)
+            copies = part.label_count if form == ZPL else 1
+            data = self.dots_in_form(picture, is_first, copies)
             document = Document(data, part.pages, copies, picture)
         self.comparison.check(document)
         return document.data
 
-    def told(self, part: Batch) -> Iterator[Page]:
+    def pages_of_batch(self, part: Batch) -> Iterator[Page]:
         """Yields pages, and says before each one how many labels are drawn."""
         done = 0
         for page in part.pages:
-            self.talk.go_on(done, part.count)
+            self.talk.go_on(done, part.label_count)
             yield page
             done += len(page)
 
-    def written(self, picture: Picture, is_first: bool, copies: int) -> bytes:
+    def dots_in_form(self, picture: Picture, is_first: bool, copies: int) -> bytes:
         """Returns dots in the form of the job."""
         form = self.job.form
         if form == ZPL:

@@ -48,7 +48,7 @@ def remarks_on(
 def several(items: Sequence[LaidOut], only: Selection) -> Iterator[LeftOut]:
     """Yields that rows that are asked for are in several tables of the file."""
     places = [item.record.origin for item in items]
-    counts = Counter(place.number for place in places if only.has_row(place))
+    counts = Counter(place.number for place in places if only.has_row(place.number))
     rows = sorted(number for number, count in counts.items() if count > 1)
     if rows:
         first = next(place for place in places if place.number == rows[0])

@@ -9,7 +9,14 @@ from typing import Iterable, Iterator
 
 from labeltools.common.messages import Origin, ToolError
 from labeltools.common.process import read_file
-from labeltools.common.report import few, LeftOut, Ranges, ranges_of, ranges_text
+from labeltools.common.report import (
+    few,
+    is_in_ranges,
+    LeftOut,
+    Ranges,
+    ranges_of,
+    ranges_text,
+)
 from labeltools.common.text import Text
 from labeltools.lines.file import Record
 
@@ -29,22 +36,22 @@ class Selection:
         """Whether labels are chosen."""
         return bool(self.rows or self.codes)
 
-    def has_row(self, place: Origin) -> bool:
-        """Returns whether a row is asked for by its number."""
-        return not self or any(first <= place.number <= last for first, last in self.rows)
+    def has_row(self, number: int) -> bool:
+        """Returns whether a row, or a line, is asked for by its number."""
+        return not self or is_in_ranges(number, self.rows)
 
-    def has(self, record: Record) -> bool:
+    def has_label(self, record: Record) -> bool:
         """Returns whether the label of a line is asked for."""
         if self.codes and not self.codes.isdisjoint(names_of_code(record)):
             return True
-        return self.has_row(record.origin)
+        return self.has_row(record.origin_number)
 
-    def missing(self, records: Iterable[Record], known: Iterable[Origin]) -> Iterator[LeftOut]:
+    def not_in_input(self, records: Iterable[Record], known: Iterable[Origin]) -> Iterator[LeftOut]:
         """Yields what is asked for and not in the input; `known` are rows without a line."""
         rows = {place.number for place in known}
         codes: set[bytes] = set()
         for record in records:
-            rows.add(record.origin.number)
+            rows.add(record.origin_number)
             if self.codes:
                 codes.update(names_of_code(record))
         if lacking := ranges_of(self.lacking(rows)):
@@ -77,7 +84,7 @@ def names_of_code(record: Record) -> set[bytes]:
     """Returns how the code of a line may be named: its data, of a number without its check digit
     too, of UPC-A as EAN-13 too; and as a journal has it, with its symbology.
     """
-    whole = record.code
+    whole = record.code_line
     if record.symbology not in ("ean13", "ean8", "upca"):
         return {record.data, whole}
     _, number = record.key

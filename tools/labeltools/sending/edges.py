@@ -5,7 +5,7 @@ from collections.abc import Iterator
 from itertools import cycle, islice
 
 from labeltools.common.messages import BAD_ARGUMENTS, ToolError
-from labeltools.common.text import counted, give, Remedy, Text
+from labeltools.common.text import counted, hint_of_remedies, Remedy, Text
 from labeltools.designs.svg_layout import SvgLayout
 from labeltools.layout.layout import LaidOut
 from labeltools.paper.box import Box
@@ -52,7 +52,7 @@ def cut_error(printer: str, count: int, edges: str, is_general: bool) -> ToolErr
     if not is_general:
         cut = counted("{} label would be cut", "{} labels would be cut", count)
         where = Text("{} prints nothing on the edge of this paper", printer)
-        hint = give(Remedy("edge", edges, KEEP_AWAY))
+        hint = hint_of_remedies(Remedy("edge", edges, KEEP_AWAY))
         return ToolError(Text("{}: {}", where, cut), hint, BAD_ARGUMENTS)
     may = counted("{} label may be cut", "{} labels may be cut", count)
     where = Text("{} does not say how near to the edge it prints", printer)

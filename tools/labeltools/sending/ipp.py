@@ -73,7 +73,7 @@ def sized(answer: bytes, place: int) -> tuple[bytes, int]:
     return answer[place + 2 : place + 2 + size], place + 2 + size
 
 
-def asked(device: str) -> bytes:
+def ipp_answer(device: str) -> bytes:
     """Returns what a printer answers to the question; raises `OSError` and `HTTPException`."""
     parts = urlsplit(device)
     where = (parts.hostname or "", parts.port or PORT)
@@ -104,7 +104,7 @@ def state_at_printer(device: str, name: str) -> int:
     if not name:
         return 0
     with suppress(OSError, http.client.HTTPException, struct.error, ValueError):
-        for job in groups_of(asked(device)):
+        for job in groups_of(ipp_answer(device)):
             if job.get(NAME) == name.encode():
                 return int.from_bytes(job.get(STATE, b""), "big")
     return 0

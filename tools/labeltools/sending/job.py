@@ -93,7 +93,7 @@ class SentJob:
     title: str = field(default="", compare=False)
 
     @property
-    def key(self) -> str:
+    def name_of_file(self) -> str:
         """A text for the name of a file, from which `job_of` makes it again."""
         return f"{self.number}.{self.created}.{self.queue}"
 
@@ -186,7 +186,9 @@ class SentJob:
         pause, longest = LOOKS
         state = self.state_again(show, came)
         end = time.monotonic() + IDLE
-        while not (state.is_over or state.is_waiting or came or time.monotonic() > end):
+        while not (state.is_over or state.is_waiting):
+            if came or time.monotonic() > end:
+                return state
             reason = state.trouble or state.said
             show(joined(": ", filter(None, (Text("job {}", self.number), reason))))
             time.sleep(pause)
@@ -269,14 +271,14 @@ def own_jobs(queue: str, which: str = "all") -> Iterator[SentJob]:
             yield SentJob(queue, number, created or 0, title or "")
 
 
-def job_of(key: str) -> SentJob:
-    """Returns the job of a key; raises `ValueError` if it is none.
+def job_of(name: str) -> SentJob:
+    """Returns the job of a name of a file; raises `ValueError` if it is none.
 
     >>> job = SentJob("till.3", 7, 1764392400)
-    >>> job.key, job_of(job.key) == job
+    >>> job.name_of_file, job_of(job.name_of_file) == job
     ('7.1764392400.till.3', True)
     """
-    number, created, queue = key.split(".", 2)
+    number, created, queue = name.split(".", 2)
     return SentJob(queue, int(number), int(created))
 
 

@@ -83,7 +83,7 @@ class Journal:
         self.is_lost = False  # whether another program has written it
         self.lane = 0
         with self.locked():
-            self.read()
+            self.read_further()
             self.lane = self.free_lane()
         self.before = dict(self.entries)
 
@@ -97,26 +97,26 @@ class Journal:
         where the journal has its code. A code that was last sent to the printer `again` before this
         lane began is sent again. Raises `ToolError` where it cannot be written.
         """
-        code = record.code
+        code = record.code_line
         with self.locked():
-            self.read()
+            self.read_further()
             found = self.entries.get(code)
             if found is not None:
                 is_new = self.before.get(code) is not found
                 if found.printer != again or is_new or self.is_alive(found):
                     return False
-            self.write(SENDING, record)
+            self.write_event(SENDING, record)
         try:
             os.fdatasync(self.file)
         except OSError as error:
             raise self.not_written(error) from error
         return True
 
-    def take(self, record: Record) -> None:
+    def write_taken(self, record: Record) -> None:
         """Writes that a label was taken by the printer; raises `ToolError`."""
         with self.locked():
-            self.read()
-            self.write(TAKEN, record)
+            self.read_further()
+            self.write_event(TAKEN, record)
 
     def give_up(self) -> None:
         """Leaves the label that is sent in doubt, with the number of this lane, and takes another
@@ -128,7 +128,7 @@ class Journal:
 
     def entry(self, record: Record) -> Entry | None:
         """Returns the last that is known of the code of a line."""
-        return self.entries.get(record.code)
+        return self.entries.get(record.code_line)
 
     def doubtful(self) -> Mapping[bytes, Entry]:
         """Returns what was sent by lanes that ended before it was taken, by its code. A lane may
@@ -136,7 +136,7 @@ class Journal:
         no other one does.
         """
         with suppress(ToolError), self.locked():  # where it cannot be read, what is known counts
-            self.read()
+            self.read_further()
             return self.left()
         return self.left()
 
@@ -158,12 +158,12 @@ class Journal:
         """Takes the first number that no other lane has, and no label waits with; returns it."""
         left = {entry.lane for entry in self.entries.values() if entry.event == SENDING}
         for number in range(1, 1 + MOST_LANES + len(left)):
-            if number not in left and self.is_free(FAR + number):
+            if number not in left and self.lock_if_free(FAR + number):
                 return number
         what = Text("{}: {} runs print with it already", self.path, MOST_LANES)
         raise ToolError(what, Text("wait until one of them has ended"))
 
-    def is_free(self, byte: int) -> bool:
+    def lock_if_free(self, byte: int) -> bool:
         """Locks a byte, and returns whether it was free."""
         try:
             fcntl.lockf(self.file, fcntl.LOCK_EX | fcntl.LOCK_NB, 1, byte)
@@ -177,7 +177,7 @@ class Journal:
         place of `OSError`.
         """
         try:
-            self.wait()
+            self.wait_for_lanes()
             yield
         except OSError as error:
             raise self.not_written(error) from error
@@ -185,12 +185,12 @@ class Journal:
             with suppress(OSError):  # of a disk without locks
                 fcntl.lockf(self.file, fcntl.LOCK_UN, 1, FAR)
 
-    def wait(self) -> None:
+    def wait_for_lanes(self) -> None:
         """Waits until no other lane reads or writes; raises `ToolError` where one does not end, and
         `OSError`.
         """
         end = time.monotonic() + STUCK
-        while not self.is_free(FAR):
+        while not self.lock_if_free(FAR):
             if time.monotonic() > end:
                 what = Text("{}: another run has held it for {:.0f} seconds", self.path, STUCK)
                 raise ToolError(what, Text("is that process stopped? continue it or end it"))
@@ -201,7 +201,7 @@ class Journal:
         hint = NO_LOCKS if error.errno == errno.ENOLCK else NOT_WRITTEN
         return ToolError(Text("{}: {}", self.path, error.strerror), hint)
 
-    def read(self) -> None:
+    def read_further(self) -> None:
         """Reads what was written since the last time, and mends a last line that was cut off."""
         size = os.fstat(self.file).st_size
         if size < self.end or not is_in_place(self.path, self.file):
@@ -218,7 +218,7 @@ class Journal:
             return
         *whole, last = data.split(b"\n")
         for line in whole:
-            self.learn(line)
+            self.learn_line(line)
         self.end += len(data) - len(last)
         if last:
             self.mend(last)
@@ -229,16 +229,16 @@ class Journal:
         mark of one that waits for it in a line before, since its code may be cut.
         """
         found = entry_in(line)
-        if found is None or found[1].event == TAKEN or self.is_cut(*found):
+        if found is None or found[1].event == TAKEN or self.is_cut_off(*found):
             os.ftruncate(self.file, self.end)
             return
         os.pwrite(self.file, b"\n", self.end + len(line))  # which takes nothing out where it fails
         self.end += len(line) + 1
-        self.learn(line)
+        self.learn_line(line)
 
-    def is_cut(self, code: bytes, entry: Entry) -> bool:
+    def is_cut_off(self, code: bytes, entry: Entry) -> bool:
         """Returns whether a code is only the start of the one that the input has in its place."""
-        here = (record.code for record in self.records if str(record.origin) == entry.place)
+        here = (record.code_line for record in self.records if str(record.origin) == entry.place)
         return any(whole != code and whole.startswith(code) for whole in here)
 
     def advice(self) -> Text:
@@ -259,7 +259,7 @@ class Journal:
         """Returns the printers that it has labels of."""
         return {entry.printer for entry in self.entries.values()}
 
-    def learn(self, line: bytes) -> None:
+    def learn_line(self, line: bytes) -> None:
         """Takes a line."""
         self.lines += 1
         if line.startswith(b"#") or not line:
@@ -273,10 +273,10 @@ class Journal:
         code, entry = found
         self.entries[code] = entry
 
-    def write(self, event: bytes, record: Record) -> None:
+    def write_event(self, event: bytes, record: Record) -> None:
         """Writes a line."""
         now = time.strftime("%Y-%m-%dT%H:%M:%SZ", time.gmtime()).encode()
-        code = record.code
+        code = record.code_line
         entry = Entry(event, self.lane, self.printer, str(record.origin))
         texts = f"lane {entry.lane}\t{entry.printer}\t{entry.place}".encode("utf-8", "replace")
         self.append(b"\t".join((now, event, texts, code)) + b"\n")

@@ -14,7 +14,7 @@ from typing import IO
 from urllib.parse import quote
 
 from labeltools.common.messages import ToolError
-from labeltools.common.text import give, joined, Remedy, Text
+from labeltools.common.text import hint_of_remedies, joined, Remedy, Text
 from labeltools.printing.job import Job
 from labeltools.sending.cups import cups_library, refusals
 from labeltools.sending.job import own_jobs, print_by, SentJob, Unseen
@@ -83,7 +83,7 @@ def check_end(sent: SentJob) -> None:
     except Unseen as error:
         told = error.what
     what = Text("job {} of {} has the same labels", sent.number, sent.queue)
-    hint = Text("{} to print them once more", give(Remedy("again", sent.queue)))
+    hint = Text("{} to print them once more", hint_of_remedies(Remedy("again", sent.queue)))
     raise ToolError(joined(": ", (what, told)), hint)
 
 

@@ -57,6 +57,11 @@ def address_of(name: str) -> tuple[str, int]:
     raise ToolError(what, status=BAD_ARGUMENTS)
 
 
+def is_in_network(printer: str) -> bool:
+    """Returns whether a printer is one in the network, which is named as tcp://HOST."""
+    return printer.startswith(SCHEME)
+
+
 class NetworkPrinter(Outlet):
     """A printer named as tcp://HOST[:PORT]; `stuck` are seconds in which it may take nothing."""
 
@@ -113,10 +118,10 @@ class NetworkPrinter(Outlet):
             require_whole(line)
             with suppress(BlockingIOError):
                 rest = rest[line.send(rest) :] if rest else rest
-            left = len(rest) + waiting(line)
+            left = len(rest) + unacknowledged_bytes(line)
             if not left:
                 break
-            patience.look(left)
+            patience.check_progress(left)
             if rest:
                 events_of(line.fileno(), select.POLLOUT, pause)
             else:
@@ -210,7 +215,7 @@ def require_whole(line: socket.socket) -> None:
         raise OSError(error, "broken off")
 
 
-def waiting(line: socket.socket) -> int:
+def unacknowledged_bytes(line: socket.socket) -> int:
     """Returns how many bytes are not acknowledged."""
     found = fcntl.ioctl(line.fileno(), termios.TIOCOUTQ, struct.pack("i", 0))
     return int(struct.unpack("i", found)[0])

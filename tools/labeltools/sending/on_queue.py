@@ -14,7 +14,7 @@ from labeltools.sending.queue import NOTHING_CHOSEN, Queue
 from labeltools.sending.sender import labels_text, Sender
 
 
-def print_on(
+def print_by_cups(
     found: Prepared,
     queue: Queue,
     talk: Talk,
@@ -36,4 +36,4 @@ def print_on(
     labels = labels_text(sender.taken)
     how = (queue.name, found.job.plan.dpi, sent.number)
     text = Text("{} sent to {}, at {} dpi: job {}", labels, *how)
-    return sent, joined("; ", filter(None, (text, queue.doubt(found.job))))
+    return sent, joined("; ", filter(None, (text, queue.resolution_doubt(found.job))))

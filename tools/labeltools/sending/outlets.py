@@ -15,7 +15,7 @@ from io import BytesIO
 from pathlib import Path
 from typing import Any, IO
 
-from labeltools.common.files import save, temporary, Unwritten, write_whole
+from labeltools.common.files import save_file, temporary, Unwritten, write_whole
 from labeltools.common.messages import Silence, ToolError
 from labeltools.common.process import standard_output
 from labeltools.common.signals import hold_signals
@@ -97,7 +97,7 @@ class Patience:
         self.since = 0.0
         self.is_said = False
 
-    def look(self, left: int) -> None:
+    def check_progress(self, left: int) -> None:
         """Takes how many bytes are left; says once that it waits; raises `TimeoutError`, with what
         is told of it, when its time is over.
         """
@@ -208,7 +208,7 @@ class Device(OpenFile):
             if found:
                 with suppress(BlockingIOError):
                     rest = rest[os.write(file, rest) :]
-            patience.look(len(rest))
+            patience.check_progress(len(rest))
 
     def close(self) -> None:
         """Closes it after what was sent; raises `Broken`."""
@@ -240,7 +240,7 @@ class Files(Outlet):
         """Writes the file of the next label, for which a signal waits; raises `OSError`."""
         number, path = next(self.paths)
         with hold_signals():
-            save(BytesIO(data), path, number)
+            save_file(BytesIO(data), path, number)
 
 
 class Collected(Outlet):

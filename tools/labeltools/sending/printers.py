@@ -15,7 +15,7 @@ from labeltools.drawing.forms import PDF
 from labeltools.printing.job import is_direct
 from labeltools.sending.cups import connection, cups_library, queues
 from labeltools.sending.job import trouble_of
-from labeltools.sending.network import SCHEME
+from labeltools.sending.network import is_in_network, SCHEME
 
 QUEUE, NETWORK, USB = "queue", "network", "usb"  # the ways to a printer
 DEVICES = Path("/dev/usb")  # has the printers on USB
@@ -50,12 +50,12 @@ class Printer:
         return self.state is LOST
 
 
-def printers(known: Known) -> Iterator[Printer]:
+def known_printers(known: Known) -> Iterator[Printer]:
     """Yields the printers, those of CUPS first, if it is there."""
     with suppress(ToolError):
         yield from queues_of_cups(known)
     for key, kept in known.items():
-        if key.startswith(SCHEME):
+        if is_in_network(key):
             yield direct_printer(key, NETWORK, kept)
     for path in sorted(map(str, DEVICES.glob("lp*"))):
         yield direct_printer(path, USB, known.get(path, {}))
@@ -93,7 +93,7 @@ def lost_printer(key: str) -> Printer:
     """Returns a printer that is not there any more."""
     way = QUEUE
     if is_direct(key):
-        way = NETWORK if key.startswith(SCHEME) else USB
+        way = NETWORK if is_in_network(key) else USB
     return Printer(key, key.removeprefix(SCHEME), way, LOST, False)
 
 

@@ -105,7 +105,7 @@ class Queue:
             if self.dpi and dpi not in (self.dpi, *self.words):
                 raise self.refusal(dpi)
             return RAW
-        self.check_dots(job)
+        self.require_resolution(job)
         self.check_changes()
         paper = self.paper(job)
         options = {"media": paper.name or media_of(job.plan.sheet.page)}
@@ -130,7 +130,7 @@ class Queue:
             hints = joined("; ", (error.hint, self.past_driver()))
             raise type(error)(error.what, hints, BAD_ARGUMENTS) from error
 
-    def check_dots(self, job: Job) -> None:
+    def require_resolution(self, job: Job) -> None:
         """Raises `Unsaid` where nobody says at which resolution a roll is printed: label printers
         have few dots, and bars of others would be uneven.
         """
@@ -194,7 +194,7 @@ class Queue:
         hint = Text("leave out {}, or give {}", Remedy("dpi"), either(ways))
         return ToolError(what, hint, BAD_ARGUMENTS)
 
-    def doubt(self, job: Job) -> Text:
+    def resolution_doubt(self, job: Job) -> Text:
         """Returns what is reported of a job if it is not known at which resolution it is printed,
         or nothing.
         """

@@ -5,7 +5,7 @@ from functools import partial
 from pathlib import Path
 from typing import Any, Callable, Iterable, Iterator, Mapping, Sequence, Sized
 
-from labeltools.common.files import save
+from labeltools.common.files import save_file
 from labeltools.common.messages import fault_of, sentence, Talk, ToolError, UNEXPECTED
 from labeltools.common.process import standard_output
 from labeltools.common.report import MOST_RANGES, places_text
@@ -15,7 +15,7 @@ from labeltools.lines.file import Record
 from labeltools.printing.press import Batch, Prepared, Press
 from labeltools.printing.selection import FILE
 from labeltools.sending.journal import Entry, Journal, SENDING
-from labeltools.sending.network import NetworkPrinter, SCHEME
+from labeltools.sending.network import is_in_network, NetworkPrinter
 from labeltools.sending.outlets import (
     Broken,
     Collected,
@@ -78,34 +78,34 @@ class Sender:
         if self.outlet.is_direct:
             self.watch = Watch(self.outlet, found.job.form.name, talk)
         self.done = found.job.options.after
-        for part in press.parts(prints):
+        for part in press.batches(prints):
             try:
                 if came:
-                    self.before(self.outlet.close)
+                    self.do_between_labels(self.outlet.close)
                     raise ToolError(Text("{}: {}", self.outlet.name, self.so_far()))
-                self.send(press, part, not self.taken)
+                self.send_batch(press, part, not self.taken)
             except OSError:
                 raise
             except Exception as error:
                 known = expected(error, ToolError)
                 if not self.outlet.is_direct:
-                    raise self.ended(known, known is not error) from error
-                told = self.told(known, self.named(part.items))
-                self.before(self.outlet.close)
+                    raise self.error_of_whole(known, known is not error) from error
+                told = self.error_with_hint(known, self.labels_in_words(part.items))
+                self.do_between_labels(self.outlet.close)
                 raise told from error
-            self.done += part.count
+            self.done += part.label_count
             talk.go_on(self.done - found.job.options.after, len(prints))
-        self.before(self.end)
+        self.do_between_labels(self.end_way_out)
 
-    def end(self) -> None:
+    def end_way_out(self) -> None:
         """Ends the way out, once a printer that answers has printed all labels, or does not go on;
         raises `Broken`.
         """
         if self.watch is not None and self.taken:
-            self.watch.end()
+            self.watch.wait_until_printed()
         self.outlet.close()
 
-    def before(self, act: Callable[[], Any]) -> Any:
+    def do_between_labels(self, act: Callable[[], Any]) -> Any:
         """Returns what is done before a label, or after the last one; raises `ToolError` in place
         of `Broken`, since what broke off are the labels that were sent.
         """
@@ -122,7 +122,7 @@ class Sender:
             ended.printer, ended.done = self.outlet.name, self.done
             raise ended from error
 
-    def ended(self, error: ToolError, is_fault: bool) -> ToolError:
+    def error_of_whole(self, error: ToolError, is_fault: bool) -> ToolError:
         """Returns an error of what goes out as a whole, or as files; of a fault of ours with what
         went out before it.
         """
@@ -131,34 +131,34 @@ class Sender:
         what = NOTHING_OUT if self.outlet.is_collected else self.so_far()
         return ToolError(Text("{}: {}", error.what, what), error.hint, error.status)
 
-    def send(self, press: Press, part: Batch, is_first: bool, is_last: bool = False) -> int:
+    def send_batch(self, press: Press, part: Batch, is_first: bool, is_last: bool = False) -> int:
         """Sends what goes out as a whole, and returns how many bytes it has; 0 if the journal has
         its label. The way out ends after the last one, which is taken if that ends well.
         """
         record = part.items[0].record
         journal = self.journal
         if journal is not None and self.again is None and journal.entry(record) is not None:
-            self.known.add(record.code)  # as it was when the journal was last read
+            self.known.add(record.code_line)  # as it was when the journal was last read
             return 0
         document = press.document(part, is_first)
         if self.way is None and self.watch is not None:
-            self.before(self.watch.begin)
-        way = self.before(self.outlet.open)
+            self.do_between_labels(self.watch.report_before)
+        way = self.do_between_labels(self.outlet.open)
         if way != self.way:
             self.way = way
             self.on_way.clear()
         if journal is not None and not journal.claim(record, self.again):
-            self.known.add(record.code)
+            self.known.add(record.code_line)
             return 0
-        self.give(record, document, is_last)
-        self.taken += part.count
+        self.give_label(record, document, is_last)
+        self.taken += part.label_count
         if not self.outlet.is_kept:
             self.on_way += part.items
         if is_last:
             self.on_way.clear()
         return len(document)
 
-    def give(self, record: Record, document: bytes, is_last: bool) -> None:
+    def give_label(self, record: Record, document: bytes, is_last: bool) -> None:
         """Gives a label to the printer, and writes that it was taken. Raises what the printer does;
         with a journal `Broken`, since the label is in doubt there, too.
         """
@@ -167,7 +167,7 @@ class Sender:
             if is_last:
                 self.outlet.close()
             if self.journal is not None:
-                self.journal.take(record)
+                self.journal.write_taken(record)
         except OSError:
             raise
         except Exception as error:
@@ -184,21 +184,21 @@ class Sender:
         """Returns how many labels went out whole."""
         return counted("it took {} label whole", "it took {} labels whole", self.taken)
 
-    def named(self, items: Iterable[LaidOut]) -> Text:
+    def labels_in_words(self, items: Iterable[LaidOut]) -> Text:
         """Returns what messages call labels, with their tables if there are several."""
         return places_text([item.record.origin for item in items], self.has_tables)
 
     @property
-    def is_lost(self) -> bool:
+    def is_journal_lost(self) -> bool:
         """Whether another program has taken the place of the journal."""
         return self.journal is not None and self.journal.is_lost
 
     @property
     def is_clear(self) -> bool:
         """Whether a number is that of one line: several tables have rows of the same numbers."""
-        return len({record.origin.number for record in self.records}) == len(self.records)
+        return len({record.origin_number for record in self.records}) == len(self.records)
 
-    def told(self, error: ToolError, place: Text) -> ToolError:
+    def error_with_hint(self, error: ToolError, place: Text) -> ToolError:
         """Returns an error at a label with what to do."""
         what = error.what
         if isinstance(error, (Broken, Untaken)):
@@ -210,7 +210,7 @@ class Sender:
                 hints.append(self.may_be_missing())  # it was in the pipe
             if self.taken or not error.hint:
                 hints.append(self.way_on())
-        elif self.is_lost:
+        elif self.is_journal_lost:
             hints = [Text("{} may be on paper", place), error.hint]
         else:
             look = Text("{} may be on paper: look there", place).in_window(NOTHING)  # it asks
@@ -239,7 +239,7 @@ class Sender:
         """
         if not self.on_way:
             return NOTHING
-        labels = self.named(self.on_way)
+        labels = self.labels_in_words(self.on_way)
         if self.journal is None:
             look = Text("{} may be missing: look which label came out last", labels)
             return Text(
@@ -258,7 +258,7 @@ class Sender:
         """Returns what is reported of the labels that were sent to a printer."""
         labels = labels_text(self.taken)
         if self.watch is not None:
-            return self.watch.told(labels)
+            return self.watch.report_of_sent(labels)
         return Text("{} sent to {}", labels, self.outlet.name)
 
     @property
@@ -277,26 +277,26 @@ class Sender:
         """Whether a printer says that it does not print the labels that it has taken."""
         return self.watch is not None and self.watch.is_stuck
 
-    def doubt(self, record: Record) -> Text:
+    def hint_if_doubtful(self, record: Record) -> Text:
         """Returns what to do about a label that was sent, but is not known to be taken; nothing if
         it is.
         """
-        printer = self.sent_to(record)
-        if printer and record.code in self.doubtful():
-            return may_be_on_paper(printer, by_code(record.code))
-        if printer := self.sent_to(record):  # it was not taken meanwhile
+        printer = self.printer_of_sent(record)
+        if printer and record.code_line in self.doubtful_codes():
+            return may_be_on_paper(printer, by_code(record.code_line))
+        if printer := self.printer_of_sent(record):  # it was not taken meanwhile
             what = Text("{} is sending it", printer)
             return sentence(what, Text("send the line again to see whether it was taken"))
         return NOTHING
 
-    def sent_to(self, record: Record) -> str:
+    def printer_of_sent(self, record: Record) -> str:
         """Returns the printer of a label that the journal has as sent and not as taken, or
         nothing.
         """
         entry = self.journal.entry(record) if self.journal else None
         return entry.printer if entry and entry.event == SENDING else ""
 
-    def doubtful(self) -> Mapping[bytes, Entry]:
+    def doubtful_codes(self) -> Mapping[bytes, Entry]:
         """Returns the codes of labels of which it is not known whether they are on paper."""
         return self.journal.doubtful() if self.journal else {}
 
@@ -306,7 +306,7 @@ class Sender:
         for code, entry in doubtful.items():
             printers.setdefault(entry.printer, []).append(code)
         records = reversed(self.records if printers else ())
-        places = {record.code: record.origin for record in records}
+        places = {record.code_line: record.origin for record in records}
         for printer, codes in printers.items():
             there = sorted((places[code], code) for code in codes if code in places)
             for labels in slices_of(there, MOST_RANGES if self.is_clear else 1):
@@ -336,12 +336,12 @@ def expected(error: Exception, kind: type[ToolError]) -> ToolError:
 
 def direct_outlet(printer: str) -> Outlet:
     """Returns the way to a printer in the network, or to one that is a file."""
-    if printer.startswith(SCHEME):
+    if is_in_network(printer):
         return NetworkPrinter(printer)
     return Device(printer)
 
 
-def send_to(found: Prepared, printer: str, talk: Talk, came: Sized = ()) -> Sender:
+def send_labels_to(found: Prepared, printer: str, talk: Talk, came: Sized = ()) -> Sender:
     """Sends labels one by one to a printer until something came, and returns the sender, which
     knows what the printer took; raises `ToolError`.
     """
@@ -354,7 +354,7 @@ def save_to(found: Prepared, path: Path, talk: Talk) -> None:
     """Writes all labels to a file, which has its name once it is whole; raises `ToolError` and
     `OSError`.
     """
-    Sender(Collected(path.name, partial(save, path=path))).send_all(found, talk)
+    Sender(Collected(path.name, partial(save_file, path=path))).send_all(found, talk)
 
 
 def labels_text(count: int) -> Text:

@@ -116,9 +116,9 @@ class Ahead:
         """Begins to read."""
         self.fifo = BufferedReader(fifo)
         self.found: Queue[bytes | Exception] = Queue(MOST_AHEAD)
-        Thread(target=self.read, daemon=True).start()
+        Thread(target=self.read_ahead, daemon=True).start()
 
-    def read(self) -> None:
+    def read_ahead(self) -> None:
         """Reads lines, and the ends of writers, until there is an error, which `readline` raises;
         signals are for the thread that prints.
         """
@@ -205,7 +205,7 @@ class Stream:
         self.notes: list[Text] = []  # of the label that went out last
         self.status = 0
 
-    def answer(self, parts: Sequence[InputLine]) -> tuple[str, Text]:
+    def answer_to(self, parts: Sequence[InputLine]) -> tuple[str, Text]:
         """Prints a line, and returns the word and the text of its answer."""
         self.notes = []
         text = parts[-1][1].removesuffix(b"\n").decode("utf-8", "backslashreplace")
@@ -230,7 +230,7 @@ class Stream:
         """Whether no label goes out any more: a label was drawn wrongly, standard output takes
         none, or another program has taken the place of the journal.
         """
-        return bool(self.status) or self.sender.is_at_end or self.sender.is_lost
+        return bool(self.status) or self.sender.is_at_end or self.sender.is_journal_lost
 
     def print(self, parts: Sequence[InputLine]) -> int:
         """Prints a label and returns how many bytes it has, 0 if its code was sent before; raises
@@ -239,7 +239,7 @@ class Stream:
         self.require_reader()
         if not parts[-1][1].endswith(b"\n"):
             raise NoLabel(CUT_OFF)
-        record, found = self.laid_out(parts)
+        record, found = self.label_of_line(parts)
         if self.options.is_each_once and record.key in self.seen:
             return 0
         is_turned = found.laid_out.area.is_turned
@@ -247,13 +247,13 @@ class Stream:
             self.presses[is_turned] = found.press(Silence())
         press = self.presses[is_turned]  # with its fonts
         size = 0
-        copies = [*press.parts(found.prints)]  # those of ESC/POS go out one by one
+        copies = [*press.batches(found.prints)]  # those of ESC/POS go out one by one
         for copy in copies:
             try:
-                size += self.sender.send(press, copy, copy is copies[0], copy is copies[-1])
+                size += self.sender.send_batch(press, copy, copy is copies[0], copy is copies[-1])
             except ToolError as error:
                 raise Broken(error.what, error.hint, error.status) if size else error
-        if reason := NOTHING if size else self.sender.doubt(record):
+        if reason := NOTHING if size else self.sender.hint_if_doubtful(record):
             raise Broken(reason)
         if self.options.is_each_once and self.sender.journal is None:
             self.seen.add(record.key)
@@ -279,7 +279,7 @@ class Stream:
             self.sender.is_at_end = True
             raise ToolError(Text("{}: {}", OUTPUT, os.strerror(errno.EPIPE)))
 
-    def laid_out(self, parts: Sequence[InputLine]) -> tuple[Record, Prepared]:
+    def label_of_line(self, parts: Sequence[InputLine]) -> tuple[Record, Prepared]:
         """Returns a line with its label; raises `NoLabel`."""
         numbers, lines_read = zip(*parts)
         budget = Budget(translated(Text("line {}", numbers[-1])), LONGEST_LINE, SINGLE_LINE)
@@ -317,7 +317,7 @@ def answer_lines(job: Job, sender: Sender) -> int:
             return 1
         with hold_signals() as came:
             sender.outlet.came = came
-            word, text = stream.answer(parts)
+            word, text = stream.answer_to(parts)
             status = status if word == "taken" else 1
             said = visible(translated(text))
             try:

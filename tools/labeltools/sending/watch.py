@@ -28,12 +28,12 @@ class Watch:
         self.more: Query | None = MORE
         self.answer: Reply | None = None
 
-    def begin(self) -> None:
+    def report_before(self) -> None:
         """Says what is wrong with a printer before anything is sent, and what it has of before;
         raises `ToolError` if it is not there.
         """
         with suppress(Broken):  # of nothing that was sent
-            self.answer = self.ask()
+            self.answer = self.answer_now()
         if self.answer is None:
             self.question = None
             return
@@ -42,7 +42,7 @@ class Watch:
         if self.answer.left:
             self.talk.say(Text("{}: {}", self.outlet.name, left_text(self.answer.left)))
 
-    def end(self) -> None:
+    def wait_until_printed(self) -> None:
         """Asks a printer that answers until nothing is left in it, or something is wrong, or it has
         printed none for a while, or somebody stops that. Raises `Broken`. One whose number only
         goes up and down is not asked for ever.
@@ -53,11 +53,14 @@ class Watch:
         before = self.answer
         least: float = inf
         while self.question is not None:
-            self.answer = self.ask()
+            self.answer = self.answer_now()
             answer = self.answer
-            if answer is None or answer.left is None or answer.is_empty or answer.troubles:
+            if answer is None or answer.left is None:  # nobody knows how many it has left
                 return
-            if before is None or answer.left != before.left:
+            if answer.is_empty or answer.troubles:
+                return
+            has_moved = before is None or answer.left != before.left
+            if has_moved:
                 before = answer
                 end = time.monotonic() + IDLE
             if answer.left < least:
@@ -68,14 +71,16 @@ class Watch:
             time.sleep(pause)
             pause = min(2 * pause, longest)
 
-    def ask(self) -> Reply | None:
+    def answer_now(self) -> Reply | None:
         """Returns what the printer answers; of one of ZPL that has labels left, and says nothing of
         why, also what it answers to another question. Raises `Broken`.
         """
         if self.question is None:
             return None
         answer = self.outlet.ask(self.question)
-        if answer is None or not answer.left or answer.troubles or self.more is None:
+        if answer is None or not answer.left or answer.troubles:
+            return answer
+        if self.more is None:
             return answer
         more = self.outlet.ask(self.more)
         if more is None:
@@ -89,7 +94,7 @@ class Watch:
         answer = self.answer
         return answer is not None and bool(answer.troubles or answer.left) and not self.outlet.came
 
-    def told(self, labels: Text) -> Text:
+    def report_of_sent(self, labels: Text) -> Text:
         """Returns what is reported of labels that were sent."""
         answer, name = self.answer, self.outlet.name
         if answer is not None and answer.is_empty:

@@ -15,7 +15,7 @@ from enum import auto, Enum
 from itertools import pairwise
 from typing import NamedTuple, Sequence
 
-from labeltools.common.messages import named, quoted, RowError
+from labeltools.common.messages import named_character, quoted, RowError
 from labeltools.common.text import NOTHING, Remedy, Text
 
 LONGEST_CELL = 131068
@@ -99,7 +99,7 @@ class Special:
     value: str
 
     @property
-    def kind(self) -> CellKind:
+    def cell_kind(self) -> CellKind:
         """What it is by its type."""
         return CellKind.TEXT
 
@@ -111,7 +111,7 @@ class Special:
         """Returns the text that the spreadsheet shows."""
         raise NotImplementedError
 
-    def printed(self) -> str:
+    def text_for_label(self) -> str:
         """Returns the text that the spreadsheet shows, for a label: it may be kept as an
         example.
         """
@@ -144,7 +144,7 @@ class Truth(Special):
     value: str
 
     @property
-    def kind(self) -> CellKind:
+    def cell_kind(self) -> CellKind:
         """What it is by its type."""
         return CellKind.TRUTH
 
@@ -239,7 +239,7 @@ def formed(cell: Cell, form: Lettering) -> Cell:
     return moved(cell, form.mark) if isinstance(cell, str) else Fault(RAISED, AS_TEXT, cell.value)
 
 
-def taken(cell: Cell, use: Use) -> str:
+def taken_text(cell: Cell, use: Use) -> str:
     """Returns what a column takes of a cell; raises `RowError` where it takes none of its kind, or
     its kind, value and text do not agree.
     """
@@ -258,7 +258,7 @@ def taken(cell: Cell, use: Use) -> str:
 
 def taken_of(cell: Special, use: Use) -> str:
     """Returns what a column takes of a cell that is more than a text; raises `RowError`."""
-    kind = cell.kind
+    kind = cell.cell_kind
     if kind not in use.kinds:
         raise RowError(IS_TRUTH if kind is CellKind.TRUTH else use.of_moment, AS_TEXT)
     if use is PRICE and (cell.number() or 0) < 0:
@@ -269,10 +269,10 @@ def taken_of(cell: Special, use: Use) -> str:
         if not HAS_DIGIT.search(shown := cell.shown()):  # TRUE, though its value is 1
             raise RowError(Text("is shown as {}, which is not a number", quoted(shown)), AS_TEXT)
         return cell.value
-    return cell.shown() if use is MARK else cell.printed()
+    return cell.shown() if use is MARK else cell.text_for_label()
 
 
-def seen(cell: Cell) -> str:
+def seen_text(cell: Cell) -> str:
     """Returns a cell as messages and names have it; nothing where it has no text."""
     if isinstance(cell, str):
         return cell
@@ -343,5 +343,7 @@ def refuse_unseen(bare: str, text: str, unseen: re.Pattern[str]) -> None:
     for character in bare.replace(" ", ""):
         name = f"{unicodedata.category(character)} {unicodedata.name(character, '')}"
         if unseen.match(name):
-            what = Text("has {} in the cell {}, which nobody sees", named(character), quoted(text))
+            what = Text(
+                "has {} in the cell {}, which nobody sees", named_character(character), quoted(text)
+            )
             raise RowError(what, Text("delete it"))

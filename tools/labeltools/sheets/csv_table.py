@@ -10,7 +10,7 @@ from typing import NamedTuple
 
 from labeltools.common.budget import Budget, CSV, LINE as WHOLE_LINE, LINE_ENDS, MEGABYTE
 from labeltools.common.column_names import name_of, row_with_names
-from labeltools.common.messages import BAD_ARGUMENTS, named, quoted, RowError, ToolError
+from labeltools.common.messages import BAD_ARGUMENTS, named_character, quoted, RowError, ToolError
 from labeltools.common.text import Remedy, Text
 from labeltools.sheets.encoding import decoded
 from labeltools.sheets.file_options import CsvOptions
@@ -118,7 +118,7 @@ class CsvTable:
         """Returns the rows of the text, as far as the budget allows."""
         return parsed(self.text, self.begin, self.delimiter, self.budget)
 
-    def rows(self) -> Iterator[Row]:
+    def read_rows(self) -> Iterator[Row]:
         """Yields the rows from the row of names on; one whose cells may have moved has a
         problem.
         """
@@ -176,7 +176,8 @@ def delimiter_of(text: str, begin: int, given: str | None, options: CsvOptions) 
     is_cut = fits[best].is_cut
     if given:
         if is_cut and given != ONE_COLUMN and not fits[given].is_cut:
-            what = Text("row 1 has {} between cells, and not {}", named(best), named(given))
+            signs = map(named_character, (best, given))
+            what = Text("row 1 has {} between cells, and not {}", *signs)
             remedy = Remedy("delimiter", says=Text("Find what is between cells"), is_less=True)
             hint = Text("leave out {}", remedy)
             raise ToolError(what, hint, BAD_ARGUMENTS)
@@ -204,7 +205,8 @@ def refuse_delimiter(text: str, begin: int, marks: Sequence[str]) -> None:
                     Remedy("delimiter", "tab" if mark == "\t" else mark, BETWEEN),
                     Remedy("delimiter", "none", Text("It is data")),
                 )
-                raise ToolError(Text("row {} has {}", row.number, named(mark)), hint, BAD_ARGUMENTS)
+                what = Text("row {} has {}", row.number, named_character(mark))
+                raise ToolError(what, hint, BAD_ARGUMENTS)
 
 
 def delimiter_of_names(text: str, begin: int, options: CsvOptions) -> str:
@@ -247,7 +249,7 @@ def parsed(text: str, begin: int, delimiter: str, budget: Budget | None = None) 
     for number in count(1):
         first = reader.line_num
         if budget is not None and number % LOOKED_AFTER == 1:
-            budget.look()
+            budget.look_at_clock()
         try:
             cells = next(reader)
             if reader.line_num - first > 1 and is_of_rows(cells, delimiter):

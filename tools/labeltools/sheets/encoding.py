@@ -10,7 +10,7 @@ from contextlib import suppress
 from itertools import islice
 
 from labeltools.common.messages import BAD_ARGUMENTS, quoted, ToolError
-from labeltools.common.text import give, joined, Remedy, Text
+from labeltools.common.text import hint_of_remedies, joined, Remedy, Text
 
 # the marks in front of a text; that of UTF-32 before the one of UTF-16, which is its beginning
 UNICODE = ("utf-8", "utf-32-le", "utf-32-be", "utf-16-le", "utf-16-be")
@@ -131,7 +131,7 @@ def wrong_encoding(data: bytes, name: str, codec: str, start: int) -> ToolError:
         read = {codec: first_word(data, codec) for codec in UTF_16}
         utf = [Remedy("encoding", codec, Text("{}", word)) for codec, word in read.items()]
         in_window = CHOOSE if any(read.values()) else SAVE_AS_UTF_8
-        hint = Text("save it as UTF-8, or {}", give(*utf)).in_window(in_window)
+        hint = Text("save it as UTF-8, or {}", hint_of_remedies(*utf)).in_window(in_window)
         return ToolError(what, hint)
     found = readings(data, codec)
     if not found:

@@ -126,7 +126,7 @@ class Formatter:
     first_number: str = field(default="", init=False)
     first_date: str = field(default="", init=False)
 
-    def shown(self, number_format: str, value: Decimal, is_from_1904: bool = False) -> str:
+    def formatted(self, number_format: str, value: Decimal, is_from_1904: bool = False) -> str:
         """Returns a number as its format shows it; raises `RowError` for a format that is not
         understood.
         """
@@ -147,7 +147,7 @@ class Formatter:
         text = f"{section.before}{number}{section.behind}".strip()
         return f"-{text}" if is_signed and re.search("[1-9]", text) else text
 
-    def keep(self, number_format: str, text: str) -> None:
+    def keep_example(self, number_format: str, text: str) -> None:
         """Keeps a text that was shown, where the file does not say its signs, or the order of its
         date; a slash in a date stands for the sign of the language.
         """

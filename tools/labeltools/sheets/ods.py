@@ -32,7 +32,6 @@ from labeltools.sheets.rows import Merge, Row
 from labeltools.sheets.workbook import (
     Archive,
     Attributes,
-    chosen,
     elements,
     exact_of,
     LARGEST_ROW,
@@ -44,6 +43,7 @@ from labeltools.sheets.workbook import (
     Reader,
     repeats,
     rows_from,
+    rows_of_chosen,
     SAVE_AGAIN,
     TOO_LARGE,
     whole_number,
@@ -82,7 +82,7 @@ class OdsNumber(Special):
     exact: Decimal | None
     moment: str
     formatter: Formatter
-    kind: CellKind = CellKind.NUMBER
+    cell_kind: CellKind = CellKind.NUMBER
 
     def number(self) -> Decimal | None:
         """Returns the number that it has."""
@@ -90,7 +90,7 @@ class OdsNumber(Special):
 
     def agree(self) -> None:
         """Raises `RowError` where the text has a number without a value, or is cut off."""
-        if self.exact is None and self.kind is CellKind.NUMBER and self.text:
+        if self.exact is None and self.cell_kind is CellKind.NUMBER and self.text:
             what = Text("has a number without its value, and the text {}", quoted(self.text))
             raise RowError(what, SAVE_AGAIN)
         if self.text and not self.text.strip("#"):  # the column of the cell is narrow
@@ -135,7 +135,7 @@ class Styles:
         default_factory=dict
     )  # those that were asked for
 
-    def take(self, path: str, found: Mapping[str, str]) -> None:
+    def take_style(self, path: str, found: Mapping[str, str]) -> None:
         """Takes an element, which may be of a style."""
         if not STYLE.fullmatch(path):
             return
@@ -151,7 +151,7 @@ class Styles:
         elif name == "map":
             self.of_conditions.add(found.get("apply-style-name", ""))
 
-    def said(self, family: str, name: str) -> dict[str, str]:
+    def style_values(self, family: str, name: str) -> dict[str, str]:
         """Returns what a style and its parents say, up to the default style."""
         found: dict[str, str] = {}
         for _ in range(MOST_PARENTS):
@@ -171,9 +171,9 @@ class Styles:
         """
         key = cell, spans
         if key not in self.forms:
-            said = self.said(CELL, cell)
+            said = self.style_values(CELL, cell)
             for span in spans.split():
-                said |= self.said(SPAN, span)
+                said |= self.style_values(SPAN, span)
             self.forms[key] = styled_lettering(said)
         return self.forms[key]
 
@@ -202,7 +202,7 @@ def styles_of(archive: Archive) -> Styles:
     styles = Styles()
     part = "styles.xml" if "styles.xml" in archive.namelist() else ""
     for name, found in elements(archive, part):
-        styles.take(name, found)
+        styles.take_style(name, found)
     return styles
 
 
@@ -217,7 +217,7 @@ def rows_of_ods(
     sheets = (
         Worksheet(head.name, head.is_visible, (row for _, row in rows)) for head, rows in found
     )
-    yield from chosen(sheets, wanted)
+    yield from rows_of_chosen(sheets, wanted)
     if reader.styles.has_condition():
         talk.say(CONDITION, CONDITION_HINT)
 
@@ -297,7 +297,7 @@ class OdsReader(Reader[tuple[OdsSheet, Row]]):
         """Begins a sheet, columns or a row."""
         self.path.append(name)
         path = GROUPS.sub("", "/".join(self.path[1:]))
-        self.styles.take(path, attributes)
+        self.styles.take_style(path, attributes)
         if path == TABLE and name == "table":
             self.begin_sheet(attributes)
         elif path == f"{TABLE}/table-column":
@@ -413,7 +413,7 @@ class OdsReader(Reader[tuple[OdsSheet, Row]]):
     def repeated(self, row: Row, repeat: int) -> Iterator[Row]:
         """Yields a row as often as it is there, as far as the budget allows."""
         for number, same_row in enumerate(rows_from(row, self.letters, repeat)):
-            self.budget.take(CELLS, len(row.cells) if number else 0)
+            self.budget.take_share(CELLS, len(row.cells) if number else 0)
             yield same_row
 
     def line_text(self, line: CellLine, style: str, form: Lettering) -> str | Fault:

@@ -4,7 +4,7 @@ from typing import Collection, Mapping, NamedTuple, Sequence
 
 from labeltools.common.messages import RowError
 from labeltools.common.text import Text
-from labeltools.sheets.cells import Cell, Fault, seen
+from labeltools.sheets.cells import Cell, Fault, seen_text
 
 
 class Merge(NamedTuple):
@@ -56,6 +56,6 @@ class Row(NamedTuple):
                 return Fault(Text("is merged with row {}", row), Text("unmerge the cells"))
         return self.cells[place] if place < len(self.cells) else ""
 
-    def seen(self, place: int) -> str:
+    def seen_text(self, place: int) -> str:
         """Returns a cell as messages and names have it; nothing where it has no text."""
-        return seen(self.cell(place))
+        return seen_text(self.cell(place))

@@ -19,7 +19,7 @@ from zipfile import BadZipFile, ZIP_DEFLATED, ZIP_STORED, ZipFile
 
 from labeltools.common.budget import Budget, CELLS, LETTERS, PARTS, TooMuch
 from labeltools.common.messages import BAD_ARGUMENTS, quoted, ToolError
-from labeltools.common.text import counted, give, Remedy, Text
+from labeltools.common.text import counted, hint_of_remedies, Remedy, Text
 from labeltools.sheets.cells import Cell
 from labeltools.sheets.rows import Merge, Row
 
@@ -114,7 +114,7 @@ def is_ods(archive: Archive) -> bool:
         return b"opendocument.spreadsheet" in stream.read(LONGEST_KIND)
 
 
-def chosen(sheets: Iterable[Worksheet], wanted: str | None) -> Iterator[Row]:
+def rows_of_chosen(sheets: Iterable[Worksheet], wanted: str | None) -> Iterator[Row]:
     """Yields the rows of the sheet that is wanted, else of the only one that is visible and has
     data.
 
@@ -138,7 +138,7 @@ def chosen(sheets: Iterable[Worksheet], wanted: str | None) -> Iterator[Row]:
         count = counted("{} visible sheet", "{} visible sheets", len(found))
         what = count if wanted is None else Text("no sheet {}", quoted(wanted))
         remedies = (Remedy("sheet", name, Text("{}", name)) for name in found or names)
-        hint = give(*remedies).in_window(Text("which one has your articles?"))
+        hint = hint_of_remedies(*remedies).in_window(Text("which one has your articles?"))
         raise ToolError(Text("has {} with data", what), hint, BAD_ARGUMENTS)
 
 
@@ -146,8 +146,8 @@ def pieces(archive: Archive, part: str) -> Iterator[bytes]:
     """Yields a part, piece by piece, as far as the budget allows."""
     with archive.open(part) as stream:
         for piece in iter(partial(stream.read, PIECE), b""):
-            archive.budget.take(LETTERS, len(piece))
-            archive.budget.look()
+            archive.budget.take_share(LETTERS, len(piece))
+            archive.budget.look_at_clock()
             yield piece
 
 
@@ -189,15 +189,15 @@ class Reader(Generic[F]):
         parser = self.parser = ParserCreate()
         parser.buffer_text = True
         parser.StartDoctypeDeclHandler = refuse_document_type
-        parser.StartElementHandler = self.begin
-        parser.EndElementHandler = self.end
+        parser.StartElementHandler = self.begin_element
+        parser.EndElementHandler = self.end_element
         parser.CharacterDataHandler = self.texts.append
         for piece in chain(pieces(archive, part), [b""]):
             self.size += len(piece)
             self.feed(piece)
             if self.size > LARGEST_ROW:
                 raise ToolError(TOO_LARGE, SAVE_AGAIN)
-            self.budget.take(PARTS, len(self.found))
+            self.budget.take_share(PARTS, len(self.found))
             yield from self.found
             self.found.clear()
 
@@ -205,7 +205,7 @@ class Reader(Generic[F]):
         """Gives a piece to the parser; behind the last one is an empty one."""
         self.parser.Parse(piece, not piece)
 
-    def begin(self, name: str, attributes: Attributes) -> None:
+    def begin_element(self, name: str, attributes: Attributes) -> None:
         """Begins an element."""
         self.depth += 1
         if self.depth > DEEPEST:
@@ -213,7 +213,7 @@ class Reader(Generic[F]):
         self.begun(LOCAL[name], attributes)
         self.texts.clear()
 
-    def end(self, name: str) -> None:
+    def end_element(self, name: str) -> None:
         """Ends an element."""
         self.ended(LOCAL[name])
         self.texts.clear()
@@ -339,9 +339,9 @@ class Elements(Reader[Element]):
         """Passes the end of an element."""
         self.size = 0
         if LOCAL[name] == self.passed:
-            self.parser.StartElementHandler = self.begin
-            self.parser.EndElementHandler = self.end
-            self.end(name)
+            self.parser.StartElementHandler = self.begin_element
+            self.parser.EndElementHandler = self.end_element
+            self.end_element(name)
 
     def ended(self, name: str) -> None:
         """Ends an element."""
@@ -393,7 +393,7 @@ def with_empty_cells(cells: list[Cell], place: int, budget: Budget) -> list[Cell
     """Returns a row with empty cells up to a place, as far as the budget allows."""
     if place > len(cells):
         lacking = min(place, MOST_COLUMNS) - len(cells)
-        budget.take(CELLS, lacking)
+        budget.take_share(CELLS, lacking)
         cells += [""] * lacking
     return cells
 

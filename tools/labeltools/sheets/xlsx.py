@@ -32,7 +32,6 @@ from labeltools.sheets.rows import Merge, Row
 from labeltools.sheets.workbook import (
     Archive,
     Attributes,
-    chosen,
     column_index,
     elements,
     exact_of,
@@ -44,6 +43,7 @@ from labeltools.sheets.workbook import (
     QuickReader,
     range_corners,
     rows_from,
+    rows_of_chosen,
     SAVE_AGAIN,
     TRUE,
     whole_number,
@@ -137,7 +137,7 @@ class SharedStrings(Strings[str | XlsxRuns]):
     def take(self, found: re.Match[str]) -> None:
         """Takes strings that are plain."""
         texts = PLAIN_STRING.findall(of_bytes(found[0]))
-        self.budget.take(TEXTS, len(found[0]))
+        self.budget.take_share(TEXTS, len(found[0]))
         self.found += map(without_escapes, texts)
 
     def begun(self, name: str, attributes: Attributes) -> None:
@@ -150,7 +150,7 @@ class SharedStrings(Strings[str | XlsxRuns]):
         super().ended(name)
         if name == "si":
             self.is_inside = False
-            self.budget.take(TEXTS, sum(len(text) for text, _ in self.runs))
+            self.budget.take_share(TEXTS, sum(len(text) for text, _ in self.runs))
             self.found.append(self.string())
 
 
@@ -187,7 +187,7 @@ class Book:
     is_reported: bool = False
     numbers: dict[tuple[str, str], Cell] = field(default_factory=dict)
 
-    def number(self, value: str, style: str) -> Cell:
+    def number_cell(self, value: str, style: str) -> Cell:
         """Returns the cell of a number; those that are alike are one, such as prices."""
         found = self.numbers.get((value, style))
         if found is None:
@@ -221,7 +221,7 @@ class XlsxNumber(Special):
     is_kept: bool = False
 
     @property
-    def kind(self) -> CellKind:
+    def cell_kind(self) -> CellKind:
         """What it is by its format; a number may be shown as a date or a time."""
         if self.is_moment is None:
             self.is_moment = number_format.is_of_time(self.number_format, self.exact)
@@ -235,17 +235,17 @@ class XlsxNumber(Special):
         """Returns the number as its format shows it."""
         if not self.text:
             book = self.book
-            shown = book.formatter.shown(self.number_format, self.exact, book.is_from_1904)
+            shown = book.formatter.formatted(self.number_format, self.exact, book.is_from_1904)
             self.text = shown
         return self.text
 
-    def printed(self) -> str:
+    def text_for_label(self) -> str:
         """Returns the number as its format shows it, and keeps it as an example of the signs in
         it.
         """
         text = self.shown()
         if not self.is_kept:
-            self.book.formatter.keep(self.number_format, text)
+            self.book.formatter.keep_example(self.number_format, text)
             self.is_kept = True
         return text
 
@@ -261,7 +261,7 @@ def rows_of_xlsx(
     data.
     """
     path = dict(relations(archive, "").values())["officeDocument"]
-    return chosen(sheets_of(archive, path, formatter, talk), wanted)
+    return rows_of_chosen(sheets_of(archive, path, formatter, talk), wanted)
 
 
 def sheets_of(archive: Archive, path: str, formatter: Formatter, talk: Talk) -> Iterator[Worksheet]:
@@ -407,7 +407,7 @@ def beside_of(archive: Archive, path: str, of_conditions: Sequence[Lettering]) -
         elif name == "cols/col" and found.get("hidden") in TRUE:
             ends = whole_number(found["min"], 1) - 1, whole_number(found["max"])
             places = range(ends[0], min(ends[1], MOST_COLUMNS))
-            archive.budget.take(CELLS, len(places))
+            archive.budget.take_share(CELLS, len(places))
             beside.hidden_places.update(places)
         elif name == "conditionalFormatting/cfRule" and "dxfId" in found:
             form = of_conditions[whole_number(found["dxfId"])]
@@ -521,7 +521,7 @@ class SheetReader(Strings[Row]):
         elif not value and kind != "inlineStr":
             return ""
         if kind == "n":
-            return book.number(value, style)
+            return book.number_cell(value, style)
         look = book.looks[style]
         if kind == "s":
             return text_of(book.strings[value], look)

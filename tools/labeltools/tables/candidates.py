@@ -36,21 +36,22 @@ def may_be_code(column: ColumnSample) -> bool:
     share is none.
     """
     texts = column.texts
-    if not texts or len(texts) > 1 == len(set(texts)):
+    is_shared = len(texts) > 1 and len(set(texts)) == 1
+    if not texts or is_shared:
         return False
     if column.has_codes:
         return True
-    if column.has(is_money):
+    if column.mostly_pass(is_money):
         return False
-    if column.says("codes") and column.has(DIGITS.search):
+    if column.says("codes") and column.mostly_pass(DIGITS.search):
         return True
     if column.differing < 1:
         return False
-    if column.has(ARTICLE.fullmatch):
+    if column.mostly_pass(ARTICLE.fullmatch):
         return True
-    is_named = column.has(DIGITS.search) or not column.says("articles")
-    is_named = is_named and bool(column.says("numbers", *CODES))
-    return is_named and not column.has(SPACE.search)
+    is_named = bool(column.says("numbers", *CODES))
+    may_be_number = column.mostly_pass(DIGITS.search) or not column.says("articles")
+    return is_named and may_be_number and not column.mostly_pass(SPACE.search)
 
 
 def is_of_other(column: ColumnSample) -> bool:
@@ -74,23 +75,24 @@ def may_be_title(column: ColumnSample) -> bool:
     others = column.says("others", "stock", "numbers", "own-numbers")
     if others - column.says("articles", "beside-titles"):
         return False
-    if column.says("prices") and not column.says("titles") or column.has(TAG.fullmatch):
+    is_price = column.says("prices") and not column.says("titles")
+    if is_price or column.mostly_pass(TAG.fullmatch):
         return False
-    differs = column.differing >= LEAST and column.has(LETTERS.search)
-    return column.has(has_letters) and (differs or bool(column.says("titles", "articles")))
+    differs = column.differing >= LEAST and column.mostly_pass(LETTERS.search)
+    return column.mostly_pass(has_letters) and (differs or bool(column.says("titles", "articles")))
 
 
 def are_different_texts(column: ColumnSample) -> bool:
     """Returns whether each row has another text, whatever the column is called."""
     is_whole = column.filled == column.differing == 1 and len(column.texts) >= LEAST_ROWS
-    return is_whole and column.part(has_letters) == 1 and column.has(LETTERS.search)
+    return is_whole and column.passing_part(has_letters) == 1 and column.mostly_pass(LETTERS.search)
 
 
 def is_plain_name(column: ColumnSample) -> bool:
     """Returns whether a column is plainly named as names, and each cell is another one."""
     plainness = column.plainness("titles", "beside-titles")
     is_named = bool(column.says("titles")) and plainness is Plainness.PLAIN
-    return is_named and column.differing == 1 and column.has(LETTER.search)
+    return is_named and column.differing == 1 and column.mostly_pass(LETTER.search)
 
 
 def is_plain_title(column: ColumnSample) -> bool:
@@ -106,29 +108,30 @@ def may_be_amounts(column: ColumnSample) -> bool:
         return False
     if is_weight(column):
         return False
-    has_price = any(map(ABOVE_ZERO.search, column.texts)) and column.part(is_amount) > 0
+    has_price = any(map(ABOVE_ZERO.search, column.texts)) and column.passing_part(is_amount) > 0
     if column.says("prices", "priced"):
         is_plain = column.plainness(*PAID) is Plainness.PLAIN
-        return has_price or is_plain and (not column.texts or column.has(ERROR.fullmatch))
+        has_no_amounts = not column.texts or column.mostly_pass(ERROR.fullmatch)
+        return has_price or is_plain and has_no_amounts
     is_number = column.says("others", "numbers", "codes", "own-numbers", "copies")
     is_named = column.says("paid", "sold", "taxed", "currencies", "cost", "net", "old", "sale")
-    may_be = bool(is_named) or column.has(is_money)
-    return has_price and may_be and column.has(is_amount) and not is_number
+    may_be = bool(is_named) or column.mostly_pass(is_money)
+    return has_price and may_be and column.mostly_pass(is_amount) and not is_number
 
 
 def costs_in(columns: Samples) -> Sequence[ColumnSample]:
     """Returns the columns of what the shop pays."""
     costs = (column for column in columns.values() if column.says("cost"))
-    return [column for column in costs if column.has(is_money)]
+    return [column for column in costs if column.mostly_pass(is_money)]
 
 
 def is_weight(column: ColumnSample) -> bool:
     """Returns whether a name may be that of a weight, and no cell has a currency."""
     weights = column.says("weights")
     is_priced = column.says("prices", "priced", "paid", "currencies") - weights
-    return bool(weights) and not is_priced and not column.has(has_currency)
+    return bool(weights) and not is_priced and not column.mostly_pass(has_currency)
 
 
 def charged(column: ColumnSample) -> float:
     """Returns which part of the cells have an amount above zero, or an error in place of one."""
-    return column.part(is_charged) * column.filled
+    return column.passing_part(is_charged) * column.filled

@@ -3,7 +3,7 @@
 import re
 from decimal import Decimal
 
-from labeltools.tables.money import parse_unit_price, price_of
+from labeltools.tables.money import price_or_none, read_unit_price
 
 # what may be the number of an article: three digits and more, but neither a date nor a count
 ARTICLE = re.compile(
@@ -47,7 +47,7 @@ def is_charged(text: str) -> bool:
 
 def has_currency(text: str) -> bool:
     """Returns whether a text is a price with a currency."""
-    price = price_of(text)
+    price = price_or_none(text)
     return price is not None and price.currency != ""
 
 
@@ -57,17 +57,17 @@ def has_unit(text: str) -> bool:
     >>> has_unit("7,96 €/kg"), has_unit("1 kg = 7,96 €"), has_unit("7,96 €")
     (True, True, False)
     """
-    price = price_of(text, parse_unit_price)
+    price = price_or_none(text, read_unit_price)
     return price is not None and (price.unit or price.basis) != ""
 
 
 def is_money(text: str) -> bool:
     """Returns whether a text is a price with two decimals or a currency."""
-    price = price_of(text)
+    price = price_or_none(text)
     return price is not None and (price.decimals == 2 or price.currency != "")
 
 
-def price_in(text: str) -> Decimal | None:
+def amount_in(text: str) -> Decimal | None:
     """Returns the amount of a price; None if it is none, or zero."""
-    price = price_of(text)
+    price = price_or_none(text)
     return price.value or None if price else None

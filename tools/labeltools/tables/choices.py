@@ -5,12 +5,6 @@ evidence speaks for, and what only the keeper knows.
 from collections.abc import Collection, Mapping, Sequence
 
 from labeltools.common.budget import Budget, COMPARED
-from labeltools.tables.amounts import (
-    is_above_costs,
-    is_never_above,
-    is_paid_beside,
-    with_taxes,
-)
 from labeltools.tables.candidates import (
     are_different_texts,
     charged,
@@ -32,6 +26,12 @@ from labeltools.tables.candidates import (
 from labeltools.tables.cell_kinds import FEW, has_unit
 from labeltools.tables.code_readings import CodeReading, is_isbn_10, LEAST
 from labeltools.tables.column_samples import ColumnSample, Plainness
+from labeltools.tables.compared_amounts import (
+    is_above_costs,
+    is_never_above,
+    is_paid_beside,
+    with_taxes,
+)
 from labeltools.tables.evidence import evidences_of
 from labeltools.tables.scores import Decision, probable_choice
 from labeltools.tables.variants import variants_in
@@ -88,7 +88,7 @@ def code_candidates(columns: Samples) -> Samples:
     """
     may_be = {place: column for place, column in columns.items() if may_be_code(column)}
     if any(column.has_codes for column in may_be.values()):
-        may_be = {place: own for place, own in may_be.items() if not own.has(is_isbn_10)}
+        may_be = {place: own for place, own in may_be.items() if not own.mostly_pass(is_isbn_10)}
     checked = {place: column for place, column in may_be.items() if column.has_codes}
     fullest = max(checked, key=lambda place: checked[place].filled, default=-1)
     again = [
@@ -201,7 +201,7 @@ def price_choice(columns: Samples, taken: Collection[int], budget: Budget) -> De
 
 def is_named_price(column: ColumnSample) -> bool:
     """Returns whether the name of a column says that it has prices, or nothing at all."""
-    return not column.words or bool(column.says(*PAID, "priced", "advised", "regular", "sale"))
+    return not column.name_words or bool(column.says(*PAID, "priced", "advised", "regular", "sale"))
 
 
 def price_candidates(
@@ -333,7 +333,7 @@ def money_in(columns: Samples, taken: Collection[int]) -> Sequence[int]:
 def unit_price_choice(columns: Samples, taken: Collection[int]) -> Decision:
     """Returns which column has the price of a unit: only one has such prices."""
     free = without(columns, taken)
-    found = [place for place, column in free.items() if column.has(has_unit)]
+    found = [place for place, column in free.items() if column.mostly_pass(has_unit)]
     return Decision(found, found[0]) if len(found) == 1 else Decision()
 
 
@@ -355,7 +355,7 @@ def copies_choice(columns: Samples, taken: Collection[int]) -> Decision:
     """
     free = without(columns, taken)
     named = {place: column for place, column in free.items() if column.says("copies")}
-    counts = [place for place, column in named.items() if column.part(FEW.fullmatch) == 1]
+    counts = [place for place, column in named.items() if column.passing_part(FEW.fullmatch) == 1]
     return Decision(counts, counts[0] if len(counts) == 1 else None)
 
 

@@ -43,15 +43,18 @@ def reading_of(texts: Sequence[str], is_named: bool) -> CodeReading:
     """
     if has_lost_zeros(texts):
         return CodeReading([WITH_ZEROS])
-    if passing_share(texts, is_code) >= LEAST:
+    if most_pass(texts, is_code):
         return CodeReading()
-    is_own = passing_share(texts, OWN_NUMBER.fullmatch) >= LEAST
-    if not is_own and (is_named or passing_share(texts, has_length) >= LEAST):
+    are_own = most_pass(texts, OWN_NUMBER.fullmatch)
+    have_length = not are_own and most_pass(texts, has_length)
+    are_meant = have_length or is_named and not are_own
+    if are_meant:
         ways = ((way, partial(code_of, rules=way)) for way in OTHER_WAYS)
-        rules = [way for way, read in ways if passing_share(texts, read) >= LEAST]
-        if rules != [ANY_TEXT] or passing_share(texts, has_length) >= LEAST:
+        rules = [way for way, read in ways if most_pass(texts, read)]
+        are_only_text = rules == [ANY_TEXT] and not have_length
+        if not are_only_text:
             return CodeReading(rules or [CodeRules()], problem_of(texts))
-    is_long = passing_share(texts, NO_BARS.fullmatch) >= LEAST
+    is_long = most_pass(texts, NO_BARS.fullmatch)
     return CodeReading([CodeRules(QR.name) if is_long else ANY_TEXT])
 
 
@@ -86,6 +89,11 @@ def passing_share(texts: Sequence[str], test: Callable[[str], object]) -> float:
         with suppress(RowError):
             passed += bool(test(text))
     return passed / max(1, len(texts))
+
+
+def most_pass(texts: Sequence[str], test: Callable[[str], object]) -> bool:
+    """Returns whether at least half of the texts pass a test."""
+    return passing_share(texts, test) >= LEAST
 
 
 def is_code(text: str) -> bool:

@@ -5,8 +5,8 @@ from dataclasses import dataclass, replace
 from functools import cached_property
 from typing import NamedTuple, Sequence
 
-from labeltools.common.messages import named, quoted, RowError
-from labeltools.common.text import counted, give, joined, Remedy, Text
+from labeltools.common.messages import named_character, quoted, RowError
+from labeltools.common.text import counted, hint_of_remedies, joined, Remedy, Text
 from labeltools.lines.symbologies import (
     check_digit,
     CODE128,
@@ -58,7 +58,7 @@ AROUND_DATA = re.compile("|".join(pattern for pattern, _, _ in AROUND), re.DOTAL
 # what GS1's texts in brackets begin with: an SSCC, or a GTIN
 IN_BRACKETS = re.compile(r"\((?:00\)(?=[0-9]{18})|0[12]\)(?=[0-9]{14}))([0-9]+).*", re.DOTALL)
 WITHOUT_DIGIT = Remedy("without-check-digit", says=Text("The codes have no check digit"))
-NO_CHECK_DIGITS = Text("if the column has no check digits, {}", give(WITHOUT_DIGIT))
+NO_CHECK_DIGITS = Text("if the column has no check digits, {}", hint_of_remedies(WITHOUT_DIGIT))
 
 
 def kind_remedy(name: str) -> Remedy:
@@ -138,7 +138,7 @@ def code_of(cell: str, rules: CodeRules) -> Code:
     if LOOKS_ROUNDED.fullmatch(filled + "0" * missing) and not rules.allow_zeros:
         remedy = Remedy("allow-zeros", says=Text("Codes may end with zeros"))
         again = Text("enter it again as text")
-        hint = Text("enter it again as text, or {}", give(remedy)).in_window(again)
+        hint = Text("enter it again as text, or {}", hint_of_remedies(remedy)).in_window(again)
         raise RowError(Text("{} looks rounded by the spreadsheet", filled), hint)
     return Code(symbology, filled, filled + check_digit(filled) if missing else filled)
 
@@ -199,7 +199,7 @@ def digits_in(cell: str, has_check_digit: bool) -> str:
             "{} has other characters than digits: character {} is {}",
             quoted(digits),
             other.start() + 1,
-            named(other.group()),
+            named_character(other.group()),
         )
         raise OtherCode(what, OTHER_CODES)
     return digits
@@ -232,10 +232,10 @@ def symbology_of(digits: str, rules: CodeRules) -> str:
     is_short = rules.fill_zeros and count == 7 and is_right(digits)
     has_all_digits = digits[0] == "0" and count == 8
     if has_all_digits or is_short:
-        hint = Text("for an EAN-8 {}", give(kind_remedy(EAN8.name)))
+        hint = Text("for an EAN-8 {}", hint_of_remedies(kind_remedy(EAN8.name)))
         raise RowError(Text("{} may be a UPC-E, which labels does not draw", digits), hint)
     if missing and count in NUMBERS and is_right(digits):
-        hint = Text("if not, {}", give(kind_remedy(NUMBERS[count].name)))
+        hint = Text("if not, {}", hint_of_remedies(kind_remedy(NUMBERS[count].name)))
         raise RowError(Text("{} may have its check digit", digits), hint)
     name = NUMBERS[count].name if count in NUMBERS else ""
     if rules.fill_zeros and EAN13.digits - MOST_ZEROS <= count <= EAN13.digits:
@@ -243,7 +243,7 @@ def symbology_of(digits: str, rules: CodeRules) -> str:
     if len(digits.lstrip("0")) + missing <= 8 < count:
         hint = Text("write its {} digits", 8 - missing)
         if name:
-            hint = Text("{}, or {}", hint, give(kind_remedy(name))).in_window(hint)
+            hint = Text("{}, or {}", hint, hint_of_remedies(kind_remedy(name))).in_window(hint)
         raise RowError(Text("{} may be an EAN-8 with zeros in front", digits), hint)
     return name
 
@@ -274,7 +274,7 @@ def wrong_length(digits: str, asked: Sequence[str], rules: CodeRules) -> RowErro
     hints = (
         (has_zeros, Text("write its {} digits", eight)),
         (count == 14, Text("a GTIN-14 is drawn as ITF-14, which labels does not draw")),
-        (count == EAN13.digits and not missing, give(kind_remedy(AUTO))),
+        (count == EAN13.digits and not missing, hint_of_remedies(kind_remedy(AUTO))),
         (not NOT_SHORT <= count <= EAN13.digits, OTHER_CODES),
         (missing, ONLY_WITHOUT),
         (is_right(digits) and is_auto, LOST_ZEROS),

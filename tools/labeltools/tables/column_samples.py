@@ -8,7 +8,7 @@ from enum import IntEnum
 from functools import cached_property
 from os.path import commonprefix
 
-from labeltools.tables.cell_kinds import is_money, price_in
+from labeltools.tables.cell_kinds import amount_in, is_money
 from labeltools.tables.code_readings import has_lost_zeros, is_code, LEAST, passing_share
 from labeltools.tables.columns import NAME_WITH_DIGITS
 from labeltools.tables.name_words import column_words, words_in
@@ -51,31 +51,31 @@ class ColumnSample:
         return len(self.texts) / max(1, len(self.cells))
 
     @cached_property
-    def words(self) -> frozenset[str]:
+    def name_words(self) -> frozenset[str]:
         """The words of its name, in small letters without accents."""
         return frozenset(words_in(self.name))
 
     @cached_property
     def amounts(self) -> Sequence[Decimal | None]:
         """The amounts of money in its cells, but for zero."""
-        return [price_in(cell) for cell in self.cells]
+        return [amount_in(cell) for cell in self.cells]
 
-    def part(self, test: Callable[[str], object]) -> float:
+    def passing_part(self, test: Callable[[str], object]) -> float:
         """Returns the part of its texts that pass a test; those that it refuses do not."""
         if test not in self.parts:
             self.parts[test] = passing_share(self.texts, test)
         return self.parts[test]
 
-    def has(self, test: Callable[[str], object]) -> bool:
+    def mostly_pass(self, test: Callable[[str], object]) -> bool:
         """Returns whether most of its texts pass a test."""
-        return self.part(test) >= LEAST
+        return self.passing_part(test) >= LEAST
 
     @cached_property
     def has_codes(self) -> bool:
         """Whether most of its texts are EAN or UPC by their check digits."""
-        if not self.has(FIVE_DIGITS.search):  # most columns, at once
+        if not self.mostly_pass(FIVE_DIGITS.search):  # most columns, at once
             return False
-        return self.has(is_code) or has_lost_zeros(self.texts)
+        return self.mostly_pass(is_code) or has_lost_zeros(self.texts)
 
     @cached_property
     def differing(self) -> float:
@@ -88,20 +88,21 @@ class ColumnSample:
         >>> sorted(ColumnSample("Einkaufspreis netto, VK, Aktion").says("cost", "net"))
         ['einkaufspreis', 'netto']
         """
-        return frozenset().union(*(self.said[kind] for kind in kinds if kind in self.said))
+        known = self.words_by_kind
+        return frozenset().union(*(known[kind] for kind in kinds if kind in known))
 
     @cached_property
-    def said(self) -> Mapping[str, frozenset[str]]:
+    def words_by_kind(self) -> Mapping[str, frozenset[str]]:
         """The words of its name by the kinds of which they are."""
         pairs = (
-            (kind, frozenset(word for word in self.words if known.has(word)))
+            (kind, frozenset(word for word in self.name_words if known.knows(word)))
             for kind, known in column_words().items()
         )
         return {kind: words for kind, words in pairs if words}
 
     def plainness(self, *kinds: str) -> Plainness:
         """Returns how plainly its name says what it is by words of these kinds."""
-        more = self.words - self.says(*kinds)
+        more = self.name_words - self.says(*kinds)
         if more:
             return Plainness.SHARED if more <= self.shared else Plainness.OF_SOME_KIND
         is_numbered = DIGITS.search(NAME_WITH_DIGITS.sub("", self.name))
@@ -119,7 +120,8 @@ def samples_of(names: Sequence[str], cells: Iterable[Sequence[str]]) -> list[Col
         start = ""
     found = [ColumnSample(name[len(start) :], texts) for name, texts in zip(names, cells)]
     stocks = (column for column in found if column.says("stock"))
-    shop = frozenset().union(*(stock.words - stock.says(*column_words()) for stock in stocks))
-    costs = (cost for cost in found if cost.texts and cost.says("cost") and cost.has(is_money))
-    shop = shop.union(*(cost.words - cost.says("cost") for cost in costs))
-    return [replace(column, shared=shop & column.words, parts={}) for column in found]
+    shop = frozenset().union(*(stock.name_words - stock.says(*column_words()) for stock in stocks))
+    named = (column for column in found if column.texts and column.says("cost"))
+    costs = (column for column in named if column.mostly_pass(is_money))
+    shop = shop.union(*(cost.name_words - cost.says("cost") for cost in costs))
+    return [replace(column, shared=shop & column.name_words, parts={}) for column in found]

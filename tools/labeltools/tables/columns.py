@@ -9,7 +9,7 @@ from typing import Iterable, Sequence
 
 from labeltools.common.column_names import name_of, NUMBER, row_with_names
 from labeltools.common.messages import BAD_ARGUMENTS, quoted, RowError, ToolError
-from labeltools.common.text import give, Remedy, Text
+from labeltools.common.text import hint_of_remedies, Remedy, Text
 from labeltools.lines.file import MOST_COPIES
 from labeltools.sheets.cells import (
     CellKind,
@@ -20,7 +20,7 @@ from labeltools.sheets.cells import (
     PRICE,
     PRINTED,
     refuse_unseen,
-    taken,
+    taken_text,
     UNSEEN_CODE,
     UNSEEN_PRICE,
     UNSEEN_TEXT,
@@ -46,48 +46,48 @@ class Column:
     title: Text
     name: str
 
-    def error(self, problem: RowError) -> RowError:
+    def cell_error(self, problem: RowError) -> RowError:
         """Returns the error of a cell, with the column in front."""
         return RowError(Text("{} {}", self.title, problem.what), problem.hint, self.place)
 
-    def code(self, row: Row, is_free: bool) -> str:
+    def code_text(self, row: Row, is_free: bool) -> str:
         """Returns the text of a code, which is not empty; raises `RowError`."""
         try:
-            text = taken(row.cell(self.place), DATA if is_free else DIGITS)
+            text = taken_text(row.cell(self.place), DATA if is_free else DIGITS)
             if not text.strip():
                 raise RowError(Text("is empty"))
             refuse_unseen(text.strip(), text, UNSEEN_CODE)
             return text
         except RowError as problem:
-            raise self.error(problem) from None
+            raise self.cell_error(problem) from None
 
-    def text(self, row: Row) -> str:
+    def printed_text(self, row: Row) -> str:
         """Returns a title or a text, with LF between its lines; raises `RowError`."""
         try:
-            text = taken(row.cell(self.place), PRINTED)
+            text = taken_text(row.cell(self.place), PRINTED)
             if text.isprintable():
                 return text.strip()
             lines = [" ".join(line.split("\t")).strip() for line in re.split("\r\n?|\n", text)]
             refuse_unseen("".join(lines), text, UNSEEN_TEXT)
             return "\n".join(line for line in lines if line)
         except RowError as problem:
-            raise self.error(problem) from None
+            raise self.cell_error(problem) from None
 
-    def price(self, row: Row) -> str:
+    def price_text(self, row: Row) -> str:
         """Returns the text of a price; raises `RowError`."""
         try:
-            text = taken(row.cell(self.place), PRICE).strip()
+            text = taken_text(row.cell(self.place), PRICE).strip()
             if not text.isprintable():
                 bare = text.translate(dict.fromkeys(map(ord, MARKS), None)).replace("\t", " ")
                 refuse_unseen(bare, text, UNSEEN_PRICE)
             return text.replace("\t", " ")
         except RowError as problem:
-            raise self.error(problem) from None
+            raise self.cell_error(problem) from None
 
     def copies(self, row: Row) -> int:
         """Returns a number of copies; raises `RowError`."""
         try:
-            text = taken(row.cell(self.place), COPIES).strip()
+            text = taken_text(row.cell(self.place), COPIES).strip()
             if not COUNT.fullmatch(text):
                 what = Text(
                     "is {}: copies are a whole number from 0 to {}", quoted(text), MOST_COPIES
@@ -95,25 +95,26 @@ class Column:
                 raise RowError(what)
             return int(re.split("[.,]", text)[0])
         except RowError as problem:
-            raise self.error(problem) from None
+            raise self.cell_error(problem) from None
 
-    def mark(self, row: Row) -> str:
+    def compared_text(self, row: Row) -> str:
         """Returns a text on one line, as it is compared; raises `RowError`."""
         try:
-            return name_of(taken(row.cell(self.place), MARK))
+            return name_of(taken_text(row.cell(self.place), MARK))
         except RowError as problem:
-            raise self.error(problem) from None
+            raise self.cell_error(problem) from None
 
-    def has(self, row: Row, value: str) -> bool:
+    def has_value(self, row: Row, value: str) -> bool:
         """Returns whether a cell has a value, in letters of either case; numbers are compared as
         numbers. Raises `RowError`.
         """
-        if self.mark(row).casefold() == value.casefold():
+        if self.compared_text(row).casefold() == value.casefold():
             return True
         cell = row.cell(self.place)
-        if isinstance(cell, str) or cell.kind is not CellKind.NUMBER or not NUMBER.fullmatch(value):
+        if isinstance(cell, str) or not NUMBER.fullmatch(value):
             return False
-        return Decimal(value.replace(",", ".")) == cell.number()
+        is_number = cell.cell_kind is CellKind.NUMBER
+        return is_number and Decimal(value.replace(",", ".")) == cell.number()
 
 
 @dataclass(frozen=True)
@@ -141,14 +142,14 @@ def columns_of(head: Head, rows: Iterable[Row], options: TableOptions) -> Column
         later = row_with_names(texts, asked.asked) if options.file.has_header is not False else 0
         if later:
             remedy = Remedy("header-row", str(later), Text("The names are in row {}", later))
-            hint = Text("the names are in row {}: {}", later, give(remedy))
+            hint = Text("the names are in row {}: {}", later, hint_of_remedies(remedy))
             raise ToolError(error.what, hint, BAD_ARGUMENTS) from None
         raise
 
 
 def texts_of(row: Row) -> list[str]:
     """Returns the texts of a row."""
-    return [row.seen(place) for place in range(len(row.cells))]
+    return [row.seen_text(place) for place in range(len(row.cells))]
 
 
 def column_of(argument: str, head: Head) -> Column:
@@ -209,7 +210,7 @@ def refuse_wide_name(place: int, name: str, row: Row) -> None:
 def check_code(column: Column, head: Head, options: TableOptions) -> None:
     """Raises `ToolError` where the first row may be an article, and nothing says it."""
     is_said = options.file.has_header is not None or options.file.header_row is not None
-    cell = head.row.seen(column.place)
+    cell = head.row.seen_text(column.place)
     may_be_code = re.search("[0-9]", NAME_WITH_DIGITS.sub("", cell)) is not None
     may_be_code = may_be_code or options.codes.is_free and cell != ""
     if options.columns.code.isdecimal() and may_be_code and not is_said:

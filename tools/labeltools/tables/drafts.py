@@ -15,17 +15,17 @@ from labeltools.tables.codes import Code, code_of, CodeRules, is_in_brackets
 from labeltools.tables.columns import Column
 from labeltools.tables.findings import Findings, HAS_DIGIT
 from labeltools.tables.money import (
-    currency_of,
-    currency_remedy,
+    ARITHMETIC,
     Money,
     MOST_DECIMALS,
+    MOST_LOST,
     NotMoney,
-    parse,
-    parse_unit_price,
-    plain_signs,
+    PROGRAM_DECIMALS,
+    read_price,
+    read_unit_price,
 )
 from labeltools.tables.name_words import column_words, folded
-from labeltools.tables.prices import ARITHMETIC, MOST_LOST, nearest, PROGRAM_DECIMALS
+from labeltools.tables.price_words import currency_of, currency_remedy, plain_signs
 from labeltools.tables.table_options import Columns, TableOptions
 from labeltools.tables.twice import twice_encoded
 from labeltools.tables.variants import Variants
@@ -96,19 +96,20 @@ class DraftReader:
         place = self.columns.code.place
         cell = row.cells[place] if place < len(row.cells) else ""
         typed = cell if isinstance(cell, str) else cell.value
-        if not typed.isdigit() or typed == self.code_name or self.other_names:  # but most rows
+        may_be_names = not typed.isdigit() or typed == self.code_name
+        if may_be_names or self.other_names:  # few rows
             self.refuse_names(row)
         if self.columns.variants_of:
-            self.variants.see(row)
+            self.variants.see_title(row)
         columns = self.columns
-        if columns.where and not all(column.has(row, value) for column, value in columns.where):
+        if not all(column.has_value(row, value) for column, value in columns.where):
             return None
-        code = self.code(row)
+        code = self.row_code(row)
         self.right_codes += 1
         title = "\n".join(self.texts(columns.title, row, code).values())
         title = title or self.variants.title(row)
         texts = self.texts(columns.text, row, code)
-        currency = self.currency(row) if columns.currency else None
+        currency = self.row_currency(row) if columns.currency else None
         copies = columns.copies.copies(row) if columns.copies else 1
         record = Record(
             row=row.number,
@@ -117,9 +118,9 @@ class DraftReader:
             copies=copies,
             names=tuple(texts),
         )
-        price = self.price(columns.price, row, currency)
-        unit = self.price(columns.unit_price, row, currency) if columns.unit_price else None
-        was = self.price(columns.old_price, row, currency) if columns.old_price else None
+        price = self.row_price(columns.price, row, currency)
+        unit = self.row_price(columns.unit_price, row, currency) if columns.unit_price else None
+        was = self.row_price(columns.old_price, row, currency) if columns.old_price else None
         return Draft(code, record, (price, unit, was))
 
     def refuse_names(self, row: Row) -> None:
@@ -146,10 +147,14 @@ class DraftReader:
         ]
         place = self.columns.code.place
         code, *others = (*texts[place : place + 1], *texts[:place], *texts[place + 1 :])
-        if self.names and code and (code == self.code_name or is_name_of_codes(code)):
+        if not self.names:
+            return False
+        is_name = bool(code) and (code == self.code_name or is_name_of_codes(code))
+        if is_name:
             return any(others) and not any(map(HAS_DIGIT.search, others))
         named = sum(text in self.names for text in texts if text)
-        if not self.names or named < 2 or 2 * named < sum(map(bool, texts)):
+        are_few = named < 2 or 2 * named < sum(map(bool, texts))
+        if are_few:
             return False
         for column in self.columns.asked:
             name = self.names[column.place] if column.place < len(self.names) else ""
@@ -158,11 +163,11 @@ class DraftReader:
                 return True
         return False
 
-    def code(self, row: Row) -> Code:
+    def row_code(self, row: Row) -> Code:
         """Returns the code of a row; raises `RowError`."""
         rules = self.rules(row) if self.columns.symbology else self.options.codes
         column = self.columns.code
-        text = column.code(row, rules.is_free)
+        text = column.code_text(row, rules.is_free)
         if rules.is_free and (link := (row.links or {}).get(column.place)):
             text = self.linked(row, text, link)
         code = code_of(text, rules)
@@ -211,19 +216,19 @@ class DraftReader:
             is_code = column.place == self.columns.code.place
             if is_code:
                 found[column.name] = code.whole
-            elif text := column.text(row):
-                self.see_text(column, row, text)
+            elif text := column.printed_text(row):
+                self.check_text(column, row, text)
                 found[column.name] = text
         return found
 
-    def see_text(self, column: Column, row: Row, text: str) -> None:
+    def check_text(self, column: Column, row: Row, text: str) -> None:
         """Looks at a title or text; raises `RowError` for one that was encoded twice."""
         if not text.isascii() and (before := twice_encoded(text)) != text:
             what = Text("has {}, which was encoded twice, for {}", quoted(text), quoted(before))
-            raise column.error(RowError(what, Text("export the table again")))
+            raise column.cell_error(RowError(what, Text("export the table again")))
         self.findings.see_text(column, row.number, text)
 
-    def see_price(self, price: Price, row: int, number: Decimal) -> None:
+    def check_shown_price(self, price: Price, row: int, number: Decimal) -> None:
         """Looks at a price that is the number of a cell; raises `RowError` where it is shown as
         another one. Rounded to two decimals or more it is the same price. What is no rounding, as
         digits that its format adds, is another one.
@@ -235,26 +240,26 @@ class DraftReader:
         if lost <= ARITHMETIC:  # most prices, at once
             return
         value = format(round(number, SHOWN_DECIMALS).normalize(), "f")
-        if lost > min(abs(number) * MOST_LOST, HALF.scaleb(-money.decimals) + ARITHMETIC):
+        most = min(abs(number) * MOST_LOST, HALF.scaleb(-money.decimals) + ARITHMETIC)
+        if lost > most:
             what = Text("is shown as {}, and its value is {}", quoted(price.text), value)
-            raise price.column.error(
-                RowError(what, Text("give it a number format of two decimals"))
-            )
+            hint = Text("give it a number format of two decimals")
+            raise price.column.cell_error(RowError(what, hint))
         if money.decimals < 2:
             said = Text("row {} shows the price {}, and its value is {}", row, price.text, value)
             self.findings.see(("rounded", price.column), said)
 
-    def currency(self, row: Row) -> str | None:
+    def row_currency(self, row: Row) -> str | None:
         """Returns the currency of a row, None where the table has no column of them; raises
         `RowError`.
         """
         column = self.columns.currency
         if column is None:
             return None
-        found = column.mark(row)
+        found = column.compared_text(row)
         if any(letter.isdigit() for letter in found):
             what = Text("has {}, which is not a currency", quoted(found))
-            raise column.error(RowError(what, Text("write it as EUR or €")))
+            raise column.cell_error(RowError(what, Text("write it as EUR or €")))
         is_known = currency_of(plain_signs(found), self.options.prices.currency_name) is not None
         if found and not is_known:
             said = Text("row {} has the currency {}, which is not known", row.number, quoted(found))
@@ -262,11 +267,11 @@ class DraftReader:
             self.findings.see("currency", said, hint)
         return found
 
-    def price(self, column: Column | None, row: Row, currency: str | None) -> Price | None:
+    def row_price(self, column: Column | None, row: Row, currency: str | None) -> Price | None:
         """Returns the price of a column, None where there is none; raises `RowError`."""
         if column is None:
             return None
-        text = column.price(row)
+        text = column.price_text(row)
         if not text:
             return None
         cell = row.cells[column.place]
@@ -282,11 +287,11 @@ class DraftReader:
             what = Text("has {}, which is not a price: it {}", quoted(text), problem.what)
             is_zero = not isinstance(cell, str) and cell.value and not cell.value.strip("0.")
             hint = ZERO_HINT if is_zero else problem.hint
-            raise column.error(RowError(what, hint)) from None
+            raise column.cell_error(RowError(what, hint)) from None
         if money is None or number is None:
             return Price(column, text, money, currency)
-        found = Price(column, text, nearest(money, number), currency)
-        self.see_price(found, row.number, number)
+        found = Price(column, text, money.nearest_to(number), currency)
+        self.check_shown_price(found, row.number, number)
         return found
 
     def money(self, text: str, is_unit: bool, currency: str) -> Money | None:
@@ -297,7 +302,9 @@ class DraftReader:
                 raise NotMoney(Text("has neither a letter nor a digit"))
             return None
         most = PROGRAM_DECIMALS if rules.pattern else MOST_DECIMALS
-        return parse_unit_price(text, currency, most) if is_unit else parse(text, currency, most)
+        if is_unit:
+            return read_unit_price(text, currency, most)
+        return read_price(text, currency, most)
 
 
 def bare_texts(row: Row) -> Iterator[str]:
@@ -313,19 +320,20 @@ def is_name_of_codes(text: str) -> bool:
     """
     if KIND_OF_CODES.fullmatch(text):
         return True
-    return not HAS_DIGIT.search(text) and column_words()["codes"].has(folded(text).replace(" ", ""))
+    word = folded(text).replace(" ", "")
+    return not HAS_DIGIT.search(text) and column_words()["codes"].knows(word)
 
 
 def symbology_in(column: Column, row: Row, default: str) -> str:
     """Returns the symbology that a cell names, as `EAN-13` or `qr`; the default for an empty one;
     raises `RowError`.
     """
-    text = column.mark(row)
+    text = column.compared_text(row)
     if not text:
         return default
     found = NAMED.get(re.sub("[^a-z0-9]", "", text.casefold()))
     if found is None:
         listed = ", ".join(kind.title for kind in SYMBOLOGIES.values())
         what = Text("has {}, which is not a symbology", quoted(text))
-        raise column.error(RowError(what, Text("it is one of {}", listed)))
+        raise column.cell_error(RowError(what, Text("it is one of {}", listed)))
     return found

@@ -51,7 +51,7 @@ def of_titles(columns: Samples) -> Mapping[int, Evidence]:
         place: said_by(column, "titles", "short")
         | {
             "plain": float(column.plainness(*TITLE_WORDS) is Plainness.PLAIN),
-            "spaces": column.part(SPACE.search),
+            "spaces": column.passing_part(SPACE.search),
             "first": float(place == min(columns)),
             "again": float(place in again),
         }
@@ -69,9 +69,9 @@ def of_prices(columns: Samples) -> Mapping[int, Evidence]:
             "of-some-kind": float(column.plainness(*PRICE_WORDS) is Plainness.OF_SOME_KIND),
             "unknown": float(is_unknown(column)),
             "charged": float(charged(column) >= LEAST),
-            "currency": column.part(has_currency),
-            "units": column.part(has_unit),
-            "round": column.part(ROUND.search),
+            "currency": column.passing_part(has_currency),
+            "units": column.passing_part(has_unit),
+            "round": column.passing_part(ROUND.search),
             "again": float(place in again),
         }
         for place, column in columns.items()
@@ -80,12 +80,12 @@ def of_prices(columns: Samples) -> Mapping[int, Evidence]:
 
 def said_by(column: ColumnSample, *kinds: str) -> dict[str, float]:
     """Returns of which of some kinds the name of a column has words."""
-    return {f"says-{kind}": float(kind in column.said) for kind in kinds}
+    return {f"says-{kind}": float(kind in column.words_by_kind) for kind in kinds}
 
 
 def is_unknown(column: ColumnSample) -> bool:
     """Returns whether a column has a name, and no word of it is known."""
-    return bool(column.words) and not column.said
+    return bool(column.name_words) and not column.words_by_kind
 
 
 def named_again(columns: Samples) -> Collection[int]:
@@ -94,7 +94,7 @@ def named_again(columns: Samples) -> Collection[int]:
     """
     alike: dict[frozenset[str], list[int]] = {}
     for place, column in columns.items():
-        if bare := column.words - column.says("languages"):
+        if bare := column.name_words - column.says("languages"):
             alike.setdefault(bare, []).append(place)
     found: set[int] = set()
     for places in alike.values():

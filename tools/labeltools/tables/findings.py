@@ -9,14 +9,15 @@ from dataclasses import dataclass, field
 from labeltools.common.column_names import said_of_empty
 from labeltools.common.messages import quoted, Talk
 from labeltools.common.report import listed
-from labeltools.common.text import counted, give, NOTHING, Remedy, Text
+from labeltools.common.text import counted, hint_of_remedies, NOTHING, Remedy, Text
 from labeltools.lines.accents import has_accents, said_of_accents
 from labeltools.lines.file import Record
 from labeltools.sheets.number_format import DATE_HINT, Formatter
 from labeltools.tables.codes import Code
 from labeltools.tables.columns import Column
-from labeltools.tables.money import Money, WORDS
-from labeltools.tables.prices import CENTS, measure_of, PriceColumn
+from labeltools.tables.money import Money
+from labeltools.tables.price_words import PRICE_WORDS
+from labeltools.tables.prices import IN_CENTS, measure_of, PriceColumn
 from labeltools.tables.summary import rows_text, Totals
 from labeltools.tables.table_options import Columns, TableOptions
 
@@ -25,7 +26,7 @@ ESCAPED = re.compile(r"\\(?:u[0-9a-f]{4}|x[0-9a-f]{2}|[\"'/])|(?<!\w)\"\"\w", re
 HTML = re.compile("</?[a-z][^<>]*>|&(?:[a-z]{2,8}|#[0-9]{1,6});", re.IGNORECASE)
 QUOTES = frozenset("'\"`")
 AS_IT_IS = Text("it is printed as it is")
-SUMS = WORDS["sums"]  # what is in front of a sum below a table
+SUMS = PRICE_WORDS["sums"]  # what is in front of a sum below a table
 HAS_DIGIT = re.compile("[0-9]")
 
 
@@ -81,13 +82,13 @@ class Findings:
         else:
             self.in_quotes.setdefault(column.place, (column, []))[1].append((row, text))
 
-    def add(self, record: Record, code: Code, price: Money | None) -> None:
+    def count_label(self, record: Record, code: Code, price: Money | None) -> None:
         """Counts a label that is written."""
         self.count += 1
         self.filled.update(record.names)
-        self.totals.add(code.symbology, record.copies)
+        self.totals.count_row(code.symbology, record.copies)
         if price:
-            self.totals.add_price(price.value, record.price)
+            self.totals.count_price(price.value, record.price)
         if not HAS_DIGIT.search(code.data):
             self.words[record.row] = code.data
         if has_accents(code.symbology, code.data):
@@ -97,7 +98,7 @@ class Findings:
         if not record.price:
             self.without_price.append(record.row)
 
-    def say(self, talk: Talk, formatter: Formatter) -> None:
+    def say_all(self, talk: Talk, formatter: Formatter) -> None:
         """Says all that there is to say about the whole table."""
         self.say_of_empty(talk)
         self.say_of_prices(talk)
@@ -139,7 +140,7 @@ class Findings:
                 currencies = ", ".join(sorted(prices.currencies))
                 talk.say(Text("the prices have several currencies: {}", currencies))
             measure = measure_of(column.name) if column else NOTHING
-            is_meant = prices.are_bare if measure is CENTS else column is not columns[1]
+            is_meant = prices.are_bare if measure is IN_CENTS else column is not columns[1]
             if column and measure and is_meant:
                 text = Text(
                     "the name of {} says {}, but its prices are printed as they are",
@@ -179,7 +180,7 @@ class Findings:
                 Remedy("decimal", sign, Text("{}", look))
                 for sign, look in zip(("comma", "point"), looks)
             ]
-            talk.say(text, Text("else {}", give(*remedies)))
+            talk.say(text, Text("else {}", hint_of_remedies(*remedies)))
         if formatter.first_date and not formatter.date_as:
             text = Text("dates are printed as {}: is that right?", quoted(formatter.first_date))
             talk.say(text, Text("else {}", DATE_HINT))

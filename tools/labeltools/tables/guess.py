@@ -3,9 +3,9 @@ window shows the guess, label-table proposes it, and the keeper of the shop deci
 
 A table goes through these modules: header_row.py finds the names; column_samples.py reads words in
 them and looks at the cells; candidates.py says which columns may have the code, the title or the
-price at all; amounts.py proves what it can about prices; evidence.py gathers what the columns show;
-scores.py weighs it, by weights.list. choices.py decides by all of them, and asks the keeper what is
-below the margin.
+price at all; compared_amounts.py proves what it can about prices; evidence.py gathers what the
+columns show; scores.py weighs it, by weights.list. choices.py decides by all of them, and asks the
+keeper what is below the margin.
 """
 
 from collections.abc import Collection, Iterator, Mapping, Sequence
@@ -42,7 +42,8 @@ from labeltools.tables.codes import CodeRules
 from labeltools.tables.column_samples import ColumnSample, DIGITS, samples_of
 from labeltools.tables.columns import column_names, texts_of
 from labeltools.tables.header_row import guessed_header
-from labeltools.tables.prices import are_currencies, pattern_for
+from labeltools.tables.price_words import are_currencies
+from labeltools.tables.prices import pattern_for
 from labeltools.tables.scores import Decision
 from labeltools.tables.table import head_of, Start
 from labeltools.tables.table_options import TableOptions

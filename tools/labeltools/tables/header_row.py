@@ -32,4 +32,4 @@ def known_in(texts: Iterable[str]) -> int:
 
 def is_known(word: str) -> bool:
     """Returns whether a word is one of the names of columns."""
-    return any(words.has(word) for words in column_words().values())
+    return any(words.knows(word) for words in column_words().values())

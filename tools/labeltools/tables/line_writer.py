@@ -12,8 +12,8 @@ from labeltools.tables.codes import Code
 from labeltools.tables.columns import Column
 from labeltools.tables.drafts import Draft, Price
 from labeltools.tables.findings import Findings
-from labeltools.tables.money import Money, NotMoney
-from labeltools.tables.prices import PriceColumn, settled, USUAL_DECIMALS, with_currency
+from labeltools.tables.money import is_above, Money, NotMoney
+from labeltools.tables.prices import PriceColumn, USUAL_DECIMALS, with_currency
 from labeltools.tables.table_options import Columns, TableOptions
 
 LARGEST_OUTPUT = 1 << 27  # bytes
@@ -44,16 +44,16 @@ class LineWriter:
         self.older = shown_by(self.options.new_since) if self.options.new_since else None
         self.output += first_remark(self.options.table).encode()
 
-    def take(self, draft: Draft) -> None:
+    def take_draft(self, draft: Draft) -> None:
         """Takes a draft."""
         self.taken += 1
         row = draft.record.row
         now, _, was = draft.prices
         for price, column in zip(draft.prices, self.findings.prices):
             if price and price.money:
-                column.add(price.money, price.currency or "")
+                column.add_price(price.money, price.currency or "")
                 if not price.money.value or price.money.decimals not in USUAL_DECIMALS:
-                    self.see_price(row, price, price.money)
+                    self.report_odd_price(row, price, price.money)
         if now and was and not is_above(was.money, now.money):
             said = Text("row {} has the old price {}, below the price {}", row, was.text, now.text)
             if was.text == now.text:
@@ -62,9 +62,9 @@ class LineWriter:
         if self.options.prices.pattern:
             self.waiting.append(draft)
         else:
-            self.add(draft)
+            self.write_draft(draft)
 
-    def see_price(self, row: int, price: Price, money: Money) -> None:
+    def report_odd_price(self, row: int, price: Price, money: Money) -> None:
         """Looks at a price that is zero, or has as many decimals as a program's number has."""
         if not money.value:
             self.findings.see(
@@ -81,7 +81,7 @@ class LineWriter:
     def finish(self) -> bytes:
         """Writes the drafts that wait, and the end; returns the whole file."""
         for draft in self.waiting:
-            self.add(draft)
+            self.write_draft(draft)
         self.waiting = []
         self.left_out.sort()
         self.findings.totals.left_out = len(self.left_out)
@@ -90,12 +90,12 @@ class LineWriter:
         self.output += last_remark(self.findings.count, self.left_out, empty).encode()
         return bytes(self.output)
 
-    def add(self, draft: Draft) -> None:
+    def write_draft(self, draft: Draft) -> None:
         """Writes a draft, or leaves it out."""
         row = draft.record.row
         try:
             price, unit, was = (
-                self.written(row, price, column)
+                self.price_as_printed(row, price, column)
                 for price, column in zip(draft.prices, self.findings.prices)
             )
         except RowError as problem:
@@ -107,21 +107,21 @@ class LineWriter:
             self.leave_out(row, next(texts, ""), problem)
             return
         record = draft.record.with_prices(price, unit, was)
-        self.compare(draft.code, record)
+        self.report_if_twice(draft.code, record)
         key = (draft.code.symbology, draft.code.whole)
-        if self.older is not None and record.shown in self.older.get(key, ()):
+        if self.older is not None and record.printed_beside in self.older.get(key, ()):
             self.findings.unchanged += 1
             return
-        self.write(record, draft.code)
+        self.write_label(record, draft.code)
         now = draft.prices[0]
-        self.findings.add(record, draft.code, now.money if now else None)
+        self.findings.count_label(record, draft.code, now.money if now else None)
 
     def leave_out(self, row: int, cell: str, problem: RowError) -> None:
         """Leaves out a row."""
         self.talk.note(Origin("", "row", row), cell, problem.what, problem.hint)
         self.left_out.append(row)
 
-    def written(self, row: int, price: Price | None, column: PriceColumn) -> str:
+    def price_as_printed(self, row: int, price: Price | None, column: PriceColumn) -> str:
         """Returns a price as it is printed; raises `RowError`."""
         if price is None:
             return ""
@@ -131,9 +131,9 @@ class LineWriter:
         try:
             if pattern is None:
                 return with_currency(price.money, price.text, price.currency)
-            money = settled(price.money, column)
+            money = column.settled(price.money)
             text = pattern.write(money, price.currency or "")
-            if pattern.changes(money.value):
+            if pattern.changes_amount(money.value):
                 said = Text("row {} has {}, which is rounded to {}", row, price.text, text)
                 self.findings.see("written", said)
             return text
@@ -141,11 +141,11 @@ class LineWriter:
             what = Text(
                 "has {}, which cannot be printed like that: it {}", quoted(price.text), problem.what
             )
-            raise price.column.error(RowError(what, problem.hint)) from None
+            raise price.column.cell_error(RowError(what, problem.hint)) from None
 
-    def compare(self, code: Code, record: Record) -> None:
+    def report_if_twice(self, code: Code, record: Record) -> None:
         """Says once of each article that it is there twice with other texts or prices."""
-        mark = hash(record.shown) or 1
+        mark = hash(record.printed_beside) or 1
         first, before = self.seen.setdefault(code.article, (record.row, mark))
         if before not in (mark, 0):
             self.seen[code.article] = first, 0
@@ -158,7 +158,7 @@ class LineWriter:
                 )
             )
 
-    def write(self, record: Record, code: Code) -> None:
+    def write_label(self, record: Record, code: Code) -> None:
         """Writes the lines of a label."""
         settings = f",{self.options.settings}" if self.options.settings else ""
         line = f"{code.symbology}{settings} {code.data}"
@@ -170,17 +170,10 @@ class LineWriter:
             )
 
 
-def is_above(price: Money | None, other: Money | None) -> bool:
-    """Returns whether a price is above another price, or both cannot be compared."""
-    if not price or not other or price.is_open or other.is_open:
-        return True
-    return price.value > other.value or price.currency != other.currency
-
-
 def shown_by(lines: LinesFile) -> Older:
     """Returns what the labels of an older file show."""
     found: dict[tuple[str, str], set[tuple[object, ...]]] = {}
     for record in lines.records:
         key = (record.symbology, record.data.decode("utf-8", "replace"))
-        found.setdefault(key, set()).add(record.shown)
+        found.setdefault(key, set()).add(record.printed_beside)
     return found

@@ -1,6 +1,14 @@
-"""A price is a price: one number whose separators are understood, and what shops write around it.
+"""What a price is, and how the text of a cell is read as one. A price goes this way:
 
-`parse` is a grammar of what a price is. It has no list of what a price is not: an error word of any
+    read_price              the text of a cell becomes Money, or it is NotMoney
+    PriceColumn.add_price   its column learns what all cells say together, as the decimal sign
+    PriceColumn.settled     a price that can be read in two ways is read as its column says
+    PricePattern.write      its text on the label, if prices are written anew
+
+The last three are in `prices.py`, and signs, currencies and words of prices in `price_words.py`.
+
+A price is one number whose separators are understood, and what shops write around it. `read_price`
+is a grammar of what a price is. It has no list of what a price is not: an error word of any
 language, `nan`, a lone sign, a date, a code and a size are none because no rule makes them one.
 """
 
@@ -10,18 +18,25 @@ from collections.abc import Callable
 from dataclasses import dataclass, replace
 from decimal import Decimal
 from functools import lru_cache
-from pathlib import Path
 
 from labeltools.common.messages import RowError
 from labeltools.common.text import NOTHING, Remedy, Text
-from labeltools.common.word_lists import lists_of
+from labeltools.tables.price_words import (
+    currency_of,
+    currency_remedy,
+    is_same_currency,
+    plain_signs,
+    PRICE_WORDS,
+    WITHOUT_DECIMALS,
+)
 
-PRICE_WORDS = Path(__file__).with_name("prices.list")
 MOST_LETTERS = 60
-NO_CURRENCY = "¤"  # ISO 8859-15 has its € where other encodings have this sign
 MOST_BARE_DIGITS = 8  # of a price; a price that has so many ends in a zero
 MOST_WHOLE_DIGITS = 12
 MOST_DECIMALS = 6  # of a price that is printed as it stands
+PROGRAM_DECIMALS = 17  # of a number that a program has calculated
+ARITHMETIC = Decimal("1e-9")  # what a program's arithmetic may leave
+MOST_LOST = Decimal("0.01")  # of a price that is rounded
 NO_PRICE = Text("if it is a code, choose another column")
 OTHER_WORDS = Text("has words that are not part of a price")
 ANY_TEXT = Remedy("price-text", says=Text("Prices may be any text"))
@@ -38,57 +53,18 @@ FORMAT_HINT = Text("give {}", Remedy("price-as")).in_window(Text("choose how pri
 SEPARATORS = Text("has a number whose separators are not understood")
 SEPARATORS_HINT = Text("write it as 1234,50 or 1234.50")
 SEVERAL = Text("has several numbers")
-# signs that are one for the grammar; NFKC would make 399 of a price with raised decimals
-SPACES = (
-    "\u00a0\u1680\u2000\u2001\u2002\u2003\u2004\u2005\u2006\u2007\u2008\u2009\u200a\u202f"
-    "\u205f\u3000\t"
-)
-UNSEEN = "\u200e\u200f\u061c"  # marks of the direction: spreadsheets put them around currencies
-LOOKS = {
-    **dict.fromkeys(SPACES, " "),
-    **dict.fromkeys(UNSEEN, ""),
-    **dict.fromkeys("’‘´`ʼ＇", "'"),
-    **dict.fromkeys("−‒–—―－ー", "-"),
-    **dict.fromkeys("＊⁎∗", "*"),
-    **dict.fromkeys(".．·", "."),
-    **dict.fromkeys("٫،，⹁", ","),
-    "٬": "'",
-    "：": ":",
-    "／": "/",
-    "￥": "¥",
-    "￡": "£",
-    "￠": "¢",
-    "＄": "$",
-    "￦": "₩",
-    "（": "(",
-    "）": ")",
-}
-# names of currencies beside each sign that Unicode calls one, and other words of prices
-NAMES_OF = lists_of(Path(__file__).with_name("currencies.list"))
-WORDS = {name: frozenset(words) for name, words in lists_of(PRICE_WORDS).items()}
-CENTS = WORDS["cents"]
-WITHOUT_DECIMALS = WORDS["without-decimals"]
-WITH_THREE_DECIMALS = WORDS["three-decimals"]
 ONLY_IN_FRONT = frozenset("LQR")
-BY_NAME = {
-    **{name: code for code, names in NAMES_OF.items() for name in names},
-    **{code: code for code in WORDS["codes"]},
-}
-FOLDED = {name.casefold(): BY_NAME[name] for name in WORDS["any-case"]}
-# signs and codes that may be of one currency, as in `$10.00 CAD`, `kr 5 NOK`, `Rs. 5 PKR`
-FAMILIES = lists_of(Path(__file__).with_name("families.list"))
-PAIRS = {(sign, code) for sign, codes in FAMILIES.items() for code in codes}
 # words that a price tag has in front of its number or behind it; every other word is free text
-FRONT = frozenset(map(str.casefold, WORDS["front"]))
-BEHIND = frozenset(map(str.casefold, WORDS["behind"]))
-UNITS = WORDS["units"]
+FRONT = frozenset(map(str.casefold, PRICE_WORDS["front"]))
+BEHIND = frozenset(map(str.casefold, PRICE_WORDS["behind"]))
+UNITS = PRICE_WORDS["units"]
 UNIT = r"(?:[0-9]{1,4}(?:[.,][0-9]{1,3})? ?)?[^\W\d_]{1,14}[.²³]?"
 PER = rf"(?: ?/ ?| (?:je|pro|per|par|por|al|le|la|the|a|za|na|på|pr\.|от|за|à|/|の) ){UNIT}"
 # most prices, at once
 COMMON = re.compile(
     "(0|[1-9][0-9]{0,5}|[1-9][0-9]{0,2}([.,'])[0-9]{3})([.,])([0-9]{2})(?:[ \u00a0]?(€))?"
 )
-TAIL = "|".join(map(re.escape, WORDS["behind"]))
+TAIL = "|".join(map(re.escape, PRICE_WORDS["behind"]))
 PER_UNIT = re.compile(rf"(?<=[^/])({PER})(?P<more>(?: (?:{TAIL}))*)\Z")
 NUMBER = re.compile(
     r"""(?P<dash>-)?(?P<bare>[.,])(?P<small>[0-9]{2})(?![0-9])  # `-,80`, `.99`
@@ -138,9 +114,30 @@ class Money:
     basis: str = ""
     end: str = ""
 
+    def with_thousands(self) -> "Money":
+        """Returns an open price whose sign is that of thousands."""
+        return replace(self, is_open=False)
+
+    def with_three_decimals(self) -> "Money":
+        """Returns an open price whose sign is the decimal one."""
+        value = self.value / 1000
+        return replace(self, value=value, point=self.group, group="", decimals=3, is_open=False)
+
+    def nearest_to(self, number: Decimal) -> "Money":
+        """Returns an open price as it is read that is nearest to the number of its cell.
+
+        >>> price = read_price("1.234")
+        >>> [str(price.nearest_to(Decimal(number)).value) for number in ("1234", "1.2341")]
+        ['1234', '1.234']
+        """
+        if not self.is_open:
+            return self
+        readings = self.with_thousands(), self.with_three_decimals()
+        return min(readings, key=lambda reading: abs(reading.value - number))
+
 
 @dataclass(frozen=True)
-class Amount:
+class PriceNumber:
     """The number of a price: its digits, and the signs between them."""
 
     whole: str
@@ -151,59 +148,22 @@ class Amount:
     is_bare: bool  # it has no sign but digits
 
 
-def plain_signs(text: str) -> str:
-    """Returns a text with one sign for each that looks like it, and ASCII digits.
-
-    >>> plain_signs("\\u200f٣٫٩٩ ر.س"), plain_signs("￥１，０８０"), plain_signs("3⁹⁹")
-    ('3,99 ر.س', '¥1,080', '3⁹⁹')
-    """
-    signs = (LOOKS.get(sign, sign) for sign in unicodedata.normalize("NFC", text))
-    digits = (str(unicodedata.decimal(sign, sign)) if len(sign) == 1 else sign for sign in signs)
-    return re.sub(" +", " ", "".join(digits)).strip()
-
-
-def currency_of(text: str, own: str = "") -> str | None:
-    """Returns the code of a currency, or a sign that several have; None for what is none.
-
-    >>> currency_of("€"), currency_of("Fr."), currency_of("kr"), currency_of("kg"), currency_of("p")
-    ('EUR', 'CHF', 'crown', None, 'cent')
-    """
-    if own and text == own:
-        return BY_NAME.get(own, own)
-    if text in BY_NAME:
-        return BY_NAME[text]
-    if text in CENTS:
-        return "cent"
-    if len(text) == 1 and unicodedata.category(text) == "Sc" and text != NO_CURRENCY:
-        return text
-    return FOLDED.get(text.casefold())
-
-
-def is_same(currency: str, other: str) -> bool:
-    """Returns whether two currencies, each a sign or a code, may be one.
-
-    >>> is_same("$", "CAD"), is_same("EUR", "CHF")
-    (True, False)
-    """
-    return currency == other or (currency, other) in PAIRS or (other, currency) in PAIRS
-
-
 @lru_cache(maxsize=4096)
-def parse(text: str, own: str = "", most_decimals: int = MOST_DECIMALS) -> Money:
+def read_price(text: str, own: str = "", most_decimals: int = MOST_DECIMALS) -> Money:
     """Returns the price of a cell; raises `NotMoney` with the reason.
 
     `own` is a currency that the table names, where it is none of those that are known. Where a
     price is written anew, as many decimals as a program's number has are taken: 17.
 
-    >>> [str(parse(cell).value) for cell in ("CHF 4.–", "1'234.50", "₹ 12,34,567.50", "298円")]
+    >>> [str(read_price(cell).value) for cell in ("CHF 4.–", "1'234.50", "₹ 12,34,567.50", "298円")]
     ['4', '1234.50', '1234567.50', '298']
-    >>> [str(parse(cell).value) for cell in ("-,80", "99¢", "Rs. 40/-", "12'50 €", "3€50")]
+    >>> [str(read_price(cell).value) for cell in ("-,80", "99¢", "Rs. 40/-", "12'50 €", "3€50")]
     ['0.80', '0.99', '40', '12.50', '3.50']
-    >>> parse("3 €/kg").unit, parse("RF 1.250", own="RF").currency
+    >>> read_price("3 €/kg").unit, read_price("RF 1.250", own="RF").currency
     ('/kg', 'RF')
     >>> for cell in ("nan", "€", "2 für 5 €", "01.02.2026", "007", "-30 %", "3 – 5 €", "5,00-"):
     ...     try:
-    ...         print(parse(cell))
+    ...         print(read_price(cell))
     ...     except NotMoney as error:
     ...         print(error.what)
     has no number
@@ -222,16 +182,16 @@ def parse(text: str, own: str = "", most_decimals: int = MOST_DECIMALS) -> Money
         return Money(text, value, point, group, 2, "EUR" if euro else "")
     bare = with_usual_points(plain_price(text))
     unit, bare = unit_in(bare)
-    price = number_in(bare, plain_signs(own), most_decimals)
+    price = price_of_plain(bare, plain_signs(own), most_decimals)
     if unit and not is_priced(price, bare, unit):
         raise NotMoney(OTHER_WORDS, OTHER_WORDS_HINT)  # 1.0/AV
     return replace(price, text=text.strip(), unit=unit)
 
 
-def price_of(text: str, read: Callable[[str], Money] = parse) -> Money | None:
+def price_or_none(text: str, read: Callable[[str], Money] = read_price) -> Money | None:
     """Returns the price of a text, None where it is none.
 
-    >>> price_of("nan"), price_of("0,80 €").value
+    >>> price_or_none("nan"), price_or_none("0,80 €").value
     (None, Decimal('0.80'))
     """
     try:
@@ -240,17 +200,24 @@ def price_of(text: str, read: Callable[[str], Money] = parse) -> Money | None:
         return None
 
 
-def parse_unit_price(text: str, own: str = "", most_decimals: int = MOST_DECIMALS) -> Money:
+def read_unit_price(text: str, own: str = "", most_decimals: int = MOST_DECIMALS) -> Money:
     """Returns the price of a unit, which may be named before it; raises `NotMoney`.
 
-    >>> parse_unit_price("(1 kg = 7,96 €)").basis, parse_unit_price("7,96 €/kg").unit
+    >>> read_unit_price("(1 kg = 7,96 €)").basis, read_unit_price("7,96 €/kg").unit
     ('(1 kg = ', '/kg')
     """
     found = BASIS.fullmatch(text.strip())
     if not found or not found["basis"]:
-        return parse(text, own, most_decimals)
-    price = parse(found["price"], own, most_decimals)
+        return read_price(text, own, most_decimals)
+    price = read_price(found["price"], own, most_decimals)
     return replace(price, text=text.strip(), basis=found["basis"], end=found["end"])
+
+
+def is_above(price: Money | None, other: Money | None) -> bool:
+    """Returns whether a price is above another price, or both cannot be compared."""
+    if not price or not other or price.is_open or other.is_open:
+        return True
+    return price.value > other.value or price.currency != other.currency
 
 
 def plain_price(text: str) -> str:
@@ -311,27 +278,27 @@ def is_priced(price: Money, bare: str, unit: str) -> bool:
     return has_decimals or bare.endswith((":-", ",-", ".-"))
 
 
-def number_in(bare: str, own: str, most_decimals: int) -> Money:
+def price_of_plain(bare: str, own: str, most_decimals: int) -> Money:
     """Returns the price of a plain text: one number, its sign, at most one currency on each side,
     words.
     """
-    begin = begin_of(bare)
+    begin = number_start(bare)
     found = NUMBER.match(bare, begin)
     if not found:
         raise NotMoney(SEPARATORS, SEPARATORS_HINT)
     before = bare[:begin]
     behind = bare[found.end() :]
     check_behind(behind)
-    amount = amount_of(found)
+    amount = price_number(found)
     check_letters(before, amount, own)
     is_below, before, behind = without_sign(before.strip(), behind, bool(found["none"]))
-    currencies, words = around_of(before, behind, own)
+    currencies, words = currencies_and_words(before, behind, own)
     is_plain_number = amount.is_bare and not found["none"]
     has_groups_alone = amount.group and not amount.point
     has_words_alone = words and not currencies
     if has_words_alone and (is_plain_number or has_groups_alone):
         raise NotMoney(OTHER_WORDS, hint_for(bare))  # ab 5
-    check_amount(amount, bool(currencies), is_plain_number, most_decimals)
+    check_number(amount, bool(currencies), is_plain_number, most_decimals)
     if behind.startswith("+"):
         raise NotMoney(OTHER_WORDS, OTHER_WORDS_HINT)  # 1.9+
     if is_below:
@@ -339,7 +306,7 @@ def number_in(bare: str, own: str, most_decimals: int) -> Money:
     return money_of(amount, currencies, " ".join(words))
 
 
-def begin_of(bare: str) -> int:
+def number_start(bare: str) -> int:
     """Returns where the number begins: at its first digit, or the point or dash before it, as in
     `-,80`.
     """
@@ -368,7 +335,7 @@ def check_behind(behind: str) -> None:
     raise NotMoney(SEVERAL)
 
 
-def check_letters(before: str, amount: Amount, own: str) -> None:
+def check_letters(before: str, amount: PriceNumber, own: str) -> None:
     """Raises `NotMoney` for letters right before digits, as codes have them: A100, R6, PHP8."""
     name = before.rpartition(" ")[2]
     if not re.search(r"[A-Za-z]\Z", before) or name == own:
@@ -377,11 +344,6 @@ def check_letters(before: str, amount: Amount, own: str) -> None:
     if is_as_in_codes or currency_of(name) is None:
         hint = Text("if this is a currency, give {}", currency_remedy(name))
         raise NotMoney(Text("has letters before its digits, as a code has"), hint)
-
-
-def currency_remedy(name: str) -> Remedy:
-    """Returns the choice of a name as that of a currency."""
-    return Remedy("currency-name", name, Text("{} is a currency", name))
 
 
 def without_sign(before: str, behind: str, has_dash: bool) -> tuple[bool, str, str]:
@@ -399,7 +361,7 @@ def without_sign(before: str, behind: str, has_dash: bool) -> tuple[bool, str, s
     return sign == "-", before, behind.strip()
 
 
-def around_of(before: str, behind: str, own: str) -> tuple[set[str], list[str]]:
+def currencies_and_words(before: str, behind: str, own: str) -> tuple[set[str], list[str]]:
     """Returns the currencies and the words around a number."""
     is_bottle = behind in ONLY_IN_FRONT - {own}
     if is_bottle or currency_of(before) == "cent":
@@ -413,7 +375,7 @@ def around_of(before: str, behind: str, own: str) -> tuple[set[str], list[str]]:
                 raise NotMoney(OTHER_WORDS, hint_for(side))
             if code is None:
                 words += [word] if word else []
-            elif code == "cent" or all(is_same(code, currency) for currency in currencies):
+            elif code == "cent" or all(is_same_currency(code, currency) for currency in currencies):
                 currencies.add(code)
             else:
                 raise NotMoney(Text("has two currencies"), Text("write only one of them"))
@@ -430,10 +392,10 @@ def currency_in(word: str, own: str) -> str | None:
     return code
 
 
-def amount_of(found: re.Match[str]) -> Amount:
+def price_number(found: re.Match[str]) -> PriceNumber:
     """Returns the number that was found; raises `NotMoney` where one sign has two meanings."""
     if found["small"]:
-        return Amount("0", found["small"], found["bare"], "", False, False)
+        return PriceNumber("0", found["small"], found["bare"], "", False, False)
     whole = re.sub("[^0-9]", "", found["whole"])
     decimals = found["decimals"] or ""
     point = found["point"] or ""
@@ -442,13 +404,15 @@ def amount_of(found: re.Match[str]) -> Amount:
         raise NotMoney(SEPARATORS, SEPARATORS_HINT)
     has_one = group in (".", ",") and found["whole"].count(group) == 1
     if has_one and whole[0] == "0" and not point:  # 0.125 has decimals
-        return Amount("0", whole[1:], group, "", False, False)
+        return PriceNumber("0", whole[1:], group, "", False, False)
     is_open = has_one and not point and not found["none"] and whole[0] != "0"
     is_bare = not (point or found["none"] or group)
-    return Amount(whole, decimals, point, group, is_open, is_bare)
+    return PriceNumber(whole, decimals, point, group, is_open, is_bare)
 
 
-def check_amount(amount: Amount, has_currency: bool, is_plain: bool, most_decimals: int) -> None:
+def check_number(
+    amount: PriceNumber, has_currency: bool, is_plain: bool, most_decimals: int
+) -> None:
     """Raises `NotMoney` for a number that is no price's."""
     whole = amount.whole
     if amount.point == ":" and not has_currency:
@@ -465,7 +429,7 @@ def check_amount(amount: Amount, has_currency: bool, is_plain: bool, most_decima
         raise NotMoney(Text("has too many digits"), FORMAT_HINT)
 
 
-def money_of(amount: Amount, currencies: set[str], words: str) -> Money:
+def money_of(amount: PriceNumber, currencies: set[str], words: str) -> Money:
     """Returns a price by its number and what is around it."""
     value = Decimal(f"{amount.whole}.{amount.decimals}" if amount.decimals else amount.whole)
     names = currencies - {"cent"}

@@ -41,7 +41,7 @@ class Words:
         self.starts = tuple(word[:-1] for word in self.all if word[-1] == "-")
         self.ends = tuple(word[1:] for word in self.all if word[0] == "-")
 
-    def has(self, word: str) -> bool:
+    def knows(self, word: str) -> bool:
         """Returns whether a word is one of them."""
         return word in self.all or word.startswith(self.starts) or word.endswith(self.ends)
 
@@ -68,7 +68,7 @@ def words_of_languages() -> Mapping[str, Words]:
     }
     common = parts.pop(FOREIGN)
     return {
-        part: Words([word for word in words.all if not common.has(word.strip("-"))])
+        part: Words([word for word in words.all if not common.knows(word.strip("-"))])
         for part, words in parts.items()
     }
 

@@ -173,7 +173,7 @@ def in_several_bytes(data: bytes, options: TableOptions, budget: Budget) -> OldE
         for encoding in encodings if is_old(data) else ():
             words = OTHER_WORD.findall(text_by(data, encoding))
             names = names_by(data, options, encoding, budget) if words else ()
-            known = sum(map(words_of_languages()[language].has, names))
+            known = sum(map(words_of_languages()[language].knows, names))
             if known > most:
                 best, most = OldEncoding(encoding, words[:MOST_SHOWN]), known
     return best
@@ -218,7 +218,7 @@ def languages_of(
     for reading in readings:
         words = names_by(data, options, reading.encodings[0], budget)
         for language, known in words_of_languages().items():
-            count = sum(map(known.has, words))
+            count = sum(map(known.knows, words))
             if count >= min(LEAST_NAMES, LEAST_PART * len(words)):
                 best.setdefault(count, set()).add(language)
     most = max(best, default=0)

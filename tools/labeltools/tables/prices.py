@@ -1,26 +1,32 @@
-"""What the prices of a column say together, and how they are written anew."""
+"""How prices are written: what those of a column say together, and the pattern of their texts."""
 
 import re
 from collections import Counter
 from collections.abc import Sequence
 from contextlib import suppress
-from dataclasses import dataclass, field, replace
+from dataclasses import dataclass, field
 from decimal import Decimal, ROUND_HALF_UP
 
-from labeltools.common.text import give, NOTHING, Remedy, Text
+from labeltools.common.text import hint_of_remedies, NOTHING, Remedy, Text
 from labeltools.tables.money import (
-    currency_of,
-    is_same,
-    LOOKS,
+    ARITHMETIC,
     Money,
     MOST_DECIMALS,
+    MOST_LOST,
     NotMoney,
-    parse,
     PER_UNIT,
+    PROGRAM_DECIMALS,
+    read_price,
+)
+from labeltools.tables.price_words import (
+    currency_of,
+    currency_of_cell,
+    is_same_currency,
+    LOOKS,
     plain_signs,
+    PRICE_WORDS,
     SPACES,
     WITH_THREE_DECIMALS,
-    WORDS,
 )
 
 OF_MANY = re.compile(
@@ -29,13 +35,10 @@ OF_MANY = re.compile(
     r"(?! *(?:g|gr?|kg|mg|m|cm|mm|l|ml|cl)\b)|\b1[., ]?000 *(?:eur|usd|chf|gbp|[€$£])",
     re.IGNORECASE,
 )
-CENTS = Text("cents")
-ARITHMETIC = Decimal("1e-9")  # what a program's arithmetic may leave
-MOST_LOST = Decimal("0.01")  # of a price that is rounded
+IN_CENTS = Text("cents")
 USUAL_DECIMALS = (0, 2, 3)
-PROGRAM_DECIMALS = 17  # of a number that a program has calculated
 THOUSANDS_OR_DECIMALS = Text("may have thousands or decimals")
-DECIMAL_HINT = give(
+DECIMAL_HINT = hint_of_remedies(
     Remedy("decimal", "comma", Text("The comma, as in 1,50")),
     Remedy("decimal", "point", Text("The point, as in 1.50")),
 )
@@ -66,7 +69,7 @@ class PriceColumn:
     has_thousands: bool = False
     has_cents: bool = False
 
-    def add(self, price: Money, currency: str = "") -> None:
+    def add_price(self, price: Money, currency: str = "") -> None:
         """Takes the price of a row; the currency may be in a column of its own."""
         if not price.is_open:
             self.lengths[price.decimals] += 1
@@ -74,11 +77,7 @@ class PriceColumn:
                 self.points.add(price.point)
             if price.group:
                 self.groups.add(price.group)
-        own = (
-            currency_of(plain_signs(currency), plain_signs(currency))
-            if currency
-            else price.currency
-        )
+        own = currency_of_cell(currency) if currency else price.currency
         if own and own != "cent":
             self.currencies.add(ONE_SIGN.get(own, own))
         self.has_cents = self.has_cents or price.currency == "cent"
@@ -106,6 +105,33 @@ class PriceColumn:
         """Whether its cells have whole numbers alone, without a currency or a sign of cents."""
         return set(self.lengths) == {0} and not self.currencies and not self.has_cents
 
+    def settled(self, price: Money) -> Money:
+        """Returns an open price as the column reads it; raises `NotMoney` where it does not say it.
+
+        >>> from labeltools.tables.money import read_price
+        >>> PriceColumn(",").settled(read_price("1.234")).value
+        Decimal('1234')
+        >>> PriceColumn(".").settled(read_price("1.005"))  # doctest: +ELLIPSIS
+        Traceback (most recent call last):
+        labeltools.tables.money.NotMoney: has three digits after ., which is the decimal ...
+        >>> PriceColumn(".", has_thousands=True).settled(read_price("1.005")).value
+        Decimal('1.005')
+        >>> PriceColumn(".").settled(read_price("KD 1.250")).value
+        Decimal('1.25')
+        """
+        if not price.is_open:
+            return price
+        if not self.point:
+            raise NotMoney(THOUSANDS_OR_DECIMALS, DECIMAL_HINT)
+        if self.point != price.group:
+            return price.with_thousands()
+        if not self.has_three_decimals and price.currency not in WITH_THREE_DECIMALS:
+            what = Text(
+                "has three digits after {}, which is the decimal sign of its column", price.group
+            )
+            raise NotMoney(what, Text("write two decimals"))
+        return price.with_three_decimals()
+
 
 def measure_of(name: str) -> Text:
     """Returns what the name of a column says that its prices are of, if it is not one article in
@@ -117,56 +143,9 @@ def measure_of(name: str) -> Text:
     ['prices per 100 or 1000', 'prices per 100 or 1000', '', '']
     """
     words = re.sub(r"(?<=[a-z])(?=[A-Z])|[^\w]|_", " ", name).casefold().split()
-    if WORDS["of-cents"].intersection(words):
-        return CENTS
+    if PRICE_WORDS["of-cents"].intersection(words):
+        return IN_CENTS
     return Text("prices per 100 or 1000") if OF_MANY.search(name) else NOTHING
-
-
-def settled(price: Money, column: PriceColumn) -> Money:
-    """Returns an open price as its column reads it; raises `NotMoney` where that does not say it.
-
-    >>> from labeltools.tables.money import parse
-    >>> settled(parse("1.234"), PriceColumn(",")).value
-    Decimal('1234')
-    >>> settled(parse("1.005"), PriceColumn("."))  # doctest: +ELLIPSIS
-    Traceback (most recent call last):
-    labeltools.tables.money.NotMoney: has three digits after ., which is the decimal ...
-    >>> settled(parse("1.005"), PriceColumn(".", has_thousands=True)).value
-    Decimal('1.005')
-    >>> settled(parse("KD 1.250"), PriceColumn(".")).value
-    Decimal('1.25')
-    """
-    if not price.is_open:
-        return price
-    if not column.point:
-        raise NotMoney(THOUSANDS_OR_DECIMALS, DECIMAL_HINT)
-    if column.point != price.group:
-        return replace(price, is_open=False)
-    if not column.has_three_decimals and price.currency not in WITH_THREE_DECIMALS:
-        raise NotMoney(
-            Text("has three digits after {}, which is the decimal sign of its column", price.group),
-            Text("write two decimals"),
-        )
-    return with_three_decimals(price)
-
-
-def nearest(price: Money, number: Decimal) -> Money:
-    """Returns an open price as it is read that is nearest to the number of its cell.
-
-    >>> from labeltools.tables.money import parse
-    >>> [str(nearest(parse("1.234"), Decimal(cell)).value) for cell in ("1234", "1.2341")]
-    ['1234', '1.234']
-    """
-    if not price.is_open:
-        return price
-    readings = replace(price, is_open=False), with_three_decimals(price)
-    return min(readings, key=lambda reading: abs(reading.value - number))
-
-
-def with_three_decimals(price: Money) -> Money:
-    """Returns an open price whose sign is the decimal one."""
-    value = price.value / 1000
-    return replace(price, value=value, point=price.group, group="", decimals=3, is_open=False)
 
 
 @dataclass(frozen=True)
@@ -183,15 +162,15 @@ class PricePattern:
     end: str
 
     @classmethod
-    def of(cls, text: str) -> "PricePattern":
+    def from_text(cls, text: str) -> "PricePattern":
         """Returns a pattern; raises ValueError. A sign with three zeros behind it and no other is
         one of thousands, but for a currency with three decimals.
 
-        >>> PricePattern.of("0.000,00 €")
+        >>> PricePattern.from_text("0.000,00 €")
         PricePattern(front='', group='.', point=',', decimals=2, dash='', end=' €')
-        >>> PricePattern.of("KD 0.000")
+        >>> PricePattern.from_text("KD 0.000")
         PricePattern(front='KD ', group='', point='.', decimals=3, dash='', end='')
-        >>> PricePattern.of("¥0,000").group, PricePattern.of("0,–").dash
+        >>> PricePattern.from_text("¥0,000").group, PricePattern.from_text("0,–").dash
         (',', '–')
         """
         found = PATTERN.fullmatch(text.translate(dict.fromkeys(map(ord, SPACES[:-1]), " ")))
@@ -225,27 +204,27 @@ class PricePattern:
 
         `currency` is that of the row, where it has one in a column of its own.
 
-        >>> from labeltools.tables.money import parse
-        >>> write = PricePattern.of("0.000,00 €").write
-        >>> write(parse("7.5")), write(parse("1,234.565")), write(parse("99 ct"))
+        >>> from labeltools.tables.money import read_price
+        >>> write = PricePattern.from_text("0.000,00 €").write
+        >>> write(read_price("7.5")), write(read_price("1,234.565")), write(read_price("99 ct"))
         ('7,50 €', '1.234,57 €', '0,99 €')
-        >>> PricePattern.of("0,– ¤").write(parse("4.00"), "CHF")
+        >>> PricePattern.from_text("0,– ¤").write(read_price("4.00"), "CHF")
         '4,– CHF'
-        >>> PricePattern.of("¤ 0,00").write(parse("3 kr."))
+        >>> PricePattern.from_text("¤ 0,00").write(read_price("3 kr."))
         'kr 3,00'
-        >>> write(parse("8.330000000000002 €", most_decimals=17))
+        >>> write(read_price("8.330000000000002 €", most_decimals=17))
         '8,33 €'
-        >>> write(parse("$3"))
+        >>> write(read_price("$3"))
         Traceback (most recent call last):
         labeltools.tables.money.NotMoney: has $, and the format of prices has EUR
-        >>> PricePattern.of("0 €").write(parse("4,99"))
+        >>> PricePattern.from_text("0 €").write(read_price("4,99"))
         Traceback (most recent call last):
         labeltools.tables.money.NotMoney: has decimals, and the format of prices has none
         """
         if price.words:
             raise NotMoney(Text("has words, which the format of prices would lose"))
         self.check_currency(price, currency)
-        shown = self.rounded(price.value)
+        shown = self.rounded_value(price.value)
         if self.decimals < 2 and shown != price.value:
             raise NotMoney(Text("has decimals, and the format of prices has none"))
         if not shown and price.value:
@@ -253,25 +232,25 @@ class PricePattern:
         if abs(shown - price.value) > price.value * MOST_LOST:
             raise NotMoney(Text("would be rounded by more than 1 %"))
         own = currency or SIGN_OF.get(price.currency, price.currency)
-        number = (self.front + self.number(shown) + self.end).replace("¤", own)
+        number = (self.front + self.number_text(shown) + self.end).replace("¤", own)
         unit = f" {price.unit}".replace(" /", "/") if price.unit else ""
         return f"{price.basis}{number}{unit}{price.end}"
 
-    def rounded(self, value: Decimal) -> Decimal:
+    def rounded_value(self, value: Decimal) -> Decimal:
         """Returns a value with the decimals of the pattern."""
         return value.quantize(Decimal(1).scaleb(-self.decimals), ROUND_HALF_UP)
 
-    def changes(self, value: Decimal) -> bool:
+    def changes_amount(self, value: Decimal) -> bool:
         """Returns whether rounding makes another amount of a value, and not only takes away what a
         program's arithmetic has left.
 
-        >>> changes = PricePattern.of("0.00").changes
+        >>> changes = PricePattern.from_text("0.00").changes_amount
         >>> changes(Decimal("1.859")), changes(Decimal("8.330000000000002"))
         (True, False)
         """
-        return abs(self.rounded(value) - value) > ARITHMETIC
+        return abs(self.rounded_value(value) - value) > ARITHMETIC
 
-    def number(self, shown: Decimal) -> str:
+    def number_text(self, shown: Decimal) -> str:
         """Returns a rounded number with the signs of the pattern."""
         whole, _, decimals = f"{shown:,f}".partition(".")
         behind = self.point + (self.dash or decimals) if self.point else ""
@@ -285,7 +264,7 @@ class PricePattern:
         found = currency_of_row(price, currency) or price.currency
         wanted = currency_of(plain_signs(own)) if own not in ("", "¤") else ""
         has_one = found not in ("", "cent")
-        if has_one and wanted and not is_same(found, wanted):
+        if has_one and wanted and not is_same_currency(found, wanted):
             raise NotMoney(Text("has {}, and the format of prices has {}", found, wanted))
         if "¤" in own and not has_one:
             raise NotMoney(Text("has no currency, and the format of prices wants one"))
@@ -297,8 +276,9 @@ def currency_of_row(price: Money, currency: str) -> str:
     """Returns the code of the currency of a row, which may be empty; raises `NotMoney` where the
     price has another one.
     """
-    row = currency_of(plain_signs(currency), plain_signs(currency)) or "" if currency else ""
-    if currency and price.currency not in ("", "cent") and not is_same(price.currency, row):
+    row = currency_of_cell(currency)
+    has_own = price.currency not in ("", "cent")
+    if currency and has_own and not is_same_currency(price.currency, row):
         what = Text("has {}, and its row has {}", price.currency, currency)
         raise NotMoney(what, Text("write the same currency in both"))
     return row
@@ -309,8 +289,8 @@ def with_currency(price: Money, text: str, currency: str | None) -> str:
     `currency` is None where the table has no column of them. Raises `NotMoney` where there is none
     or another one.
 
-    >>> from labeltools.tables.money import parse_unit_price
-    >>> with_currency(parse_unit_price("(1 l = 4,98)"), "(1 l = 4,98)", "€")
+    >>> from labeltools.tables.money import read_unit_price
+    >>> with_currency(read_unit_price("(1 l = 4,98)"), "(1 l = 4,98)", "€")
     '(1 l = 4,98 €)'
     """
     if currency is None:
@@ -326,15 +306,6 @@ def with_currency(price: Money, text: str, currency: str | None) -> str:
     if unit is None:
         return f"{bare} {currency}{price.end}"
     return f"{bare[: unit.start()]} {currency}{bare[unit.start() :]}{price.end}"
-
-
-def are_currencies(texts: Sequence[str]) -> bool:
-    """Returns whether all texts of a column are codes of currencies.
-
-    >>> are_currencies(["EUR", "CHF"]), are_currencies(["EUR", ""]), are_currencies([])
-    (True, False, False)
-    """
-    return bool(texts) and WORDS["codes"].issuperset(texts)
 
 
 def pattern_for(texts: Sequence[str], name: str, has_codes: bool) -> str:
@@ -355,9 +326,9 @@ def pattern_for(texts: Sequence[str], name: str, has_codes: bool) -> str:
     prices = []
     for text in texts:
         with suppress(NotMoney):
-            prices.append(parse(text, most_decimals=PROGRAM_DECIMALS))
+            prices.append(read_price(text, most_decimals=PROGRAM_DECIMALS))
     odd = [price for price in prices if price.decimals not in USUAL_DECIMALS and not price.unit]
-    named = WORDS["codes"].intersection(re.findall("[A-Z]{3}", name))
+    named = PRICE_WORDS["codes"].intersection(re.findall("[A-Z]{3}", name))
     have_currencies = bool(prices) and all(price.currency for price in prices)
     if has_codes or have_currencies:
         named = frozenset("¤")

@@ -65,13 +65,13 @@ def probabilities(evidences: Evidences, weights: Weights) -> dict[int, float]:
     power of the sum of its evidence by its weights.
     """
     every = {**evidences.columns, NONE: evidences.none}
-    sums = {place: score(evidence, weights) for place, evidence in every.items()}
+    sums = {place: weighted_sum(evidence, weights) for place, evidence in every.items()}
     most = max(sums.values())
     counts = {place: exp(total - most) for place, total in sums.items()}
     whole = sum(counts.values())
     return {place: count / whole for place, count in counts.items()}
 
 
-def score(evidence: Evidence, weights: Weights) -> float:
+def weighted_sum(evidence: Evidence, weights: Weights) -> float:
     """Returns the sum of the parts of an evidence by their weights."""
     return sum(weights.get(name, 0.0) * part for name, part in evidence.items())

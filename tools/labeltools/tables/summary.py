@@ -26,13 +26,13 @@ class Totals:
     bare: int = 0  # prices without a currency
     left_out: int = 0
 
-    def add(self, symbology: str, copies: int) -> None:
+    def count_row(self, symbology: str, copies: int) -> None:
         """Counts a row."""
         self.symbologies[symbology] += 1
         self.labels += copies
         self.copies.add(copies)
 
-    def add_price(self, value: Decimal, text: str) -> None:
+    def count_price(self, value: Decimal, text: str) -> None:
         """Counts a price by its value, and as it is printed."""
         self.prices += 1
         self.bare += not text.strip(NUMBER)
@@ -42,15 +42,15 @@ class Totals:
             self.highest = (value, text)
 
 
-def summary(totals: Totals) -> Text:
+def summary_line(totals: Totals) -> Text:
     """Returns the summary, on one line.
 
     >>> totals = Totals(left_out=1)
-    >>> totals.add("ean13", 1)
-    >>> totals.add("ean13", 3)
-    >>> totals.add_price(Decimal("0.8"), "0,80 €")
-    >>> totals.add_price(Decimal(12), "12,00 €")
-    >>> summary(totals)
+    >>> totals.count_row("ean13", 1)
+    >>> totals.count_row("ean13", 3)
+    >>> totals.count_price(Decimal("0.8"), "0,80 €")
+    >>> totals.count_price(Decimal(12), "12,00 €")
+    >>> summary_line(totals)
     '4 labels from 2 rows: 2 EAN-13; prices 0,80 € to 12,00 €; copies 1 to 3; 1 row skipped'
     """
     rows = totals.symbologies.total()
@@ -73,7 +73,7 @@ def sentences(totals: Totals) -> Text:
     """Returns what a window says in place of the summary: it lists beside it what is left out.
 
     >>> totals = Totals(bare=2, lowest=(Decimal("0.8"), "0,80"), highest=(Decimal(12), "12,00"))
-    >>> totals.add("ean13", 4)
+    >>> totals.count_row("ean13", 4)
     >>> sentences(totals)
     '4 labels from 1 row, with prices from 0,80 to 12,00. 2 prices have no currency.'
     """

@@ -10,7 +10,7 @@ from labeltools.common.budget import Budget
 from labeltools.common.messages import BAD_ARGUMENTS, quoted, RowError, Talk, ToolError
 from labeltools.common.text import Remedy, Text
 from labeltools.lines.symbologies import CODE128
-from labeltools.sheets.cells import seen
+from labeltools.sheets.cells import seen_text
 from labeltools.sheets.csv_table import csv_table
 from labeltools.sheets.file_options import CsvOptions
 from labeltools.sheets.number_format import Formatter, local_date, local_signs
@@ -87,7 +87,7 @@ def lines_of_table(data: bytes, name: str, options: TableOptions, talk: Talk) ->
     if work.unmarked and not writer.taken:
         raise nothing_marked(columns, name)
     output = writer.finish()
-    findings.say(talk, start.formatter)
+    findings.say_all(talk, start.formatter)
     left_out = tuple(writer.left_out)
     return Lines(output, findings.count, left_out, findings.hidden, findings.totals)
 
@@ -102,21 +102,28 @@ def head_of(
     formatter = Formatter(local_signs(options.file.decimal), options.file.date_as, local_date())
     rows = table_rows(data, options, formatter, talk, budget)
     wanted = options.file.header_row
-    below = (row for row in rows if wanted or not row.is_blank())
-    first = next((row for row in below if row.number >= (wanted or 0)), None)
-    if first is None or wanted and (first.number != wanted or first.is_blank()):
-        what = (
-            Text("{} has nothing in row {}", name, wanted)
-            if wanted
-            else Text("{} has only empty cells", name)
-        )
-        raise ToolError(what)
+    first = row_with_names(rows, wanted)
+    if first is None and wanted:
+        raise ToolError(Text("{} has nothing in row {}", name, wanted))
+    if first is None:
+        raise ToolError(Text("{} has only empty cells", name))
     if first.problem:
         problem = first.problem
         raise ToolError(Text("{}: row {}: {}", name, first.number, problem.what), problem.hint)
     if options.file.has_header is False:
         return Start(Head(first, ()), chain([first], rows), formatter)
     return Start(Head(first, column_names(first)), rows, formatter)
+
+
+def row_with_names(rows: Iterator[Row], wanted: int | None) -> Row | None:
+    """Returns the row of a number, or else the first one that is not blank; None where there is
+    none, or where that of the number is blank.
+    """
+    if not wanted:
+        return next((row for row in rows if not row.is_blank()), None)
+    found = next((row for row in rows if row.number >= wanted), None)
+    is_there = found is not None and found.number == wanted and not found.is_blank()
+    return found if is_there else None
 
 
 def table_rows(
@@ -140,7 +147,7 @@ def table_rows(
             raise ToolError(what, Text("leave out {}", remedy), BAD_ARGUMENTS)
     if is_csv:
         how = CsvOptions(options.file, options.columns.asked, options.codes.is_free)
-        return csv_table(data, how, budget).rows()
+        return csv_table(data, how, budget).read_rows()
     return rows_of_workbook(data, options.file.sheet, formatter, talk, budget)
 
 
@@ -193,15 +200,15 @@ class TableRun:
             if row.is_hidden and not self.options.file.hidden:
                 self.findings.hidden += 1
             else:
-                self.take(row)
+                self.take_row(row)
 
-    def take(self, row: Row) -> None:
+    def take_row(self, row: Row) -> None:
         """Takes one row that is not blank, or leaves it out."""
         try:
             draft = self.reader.draft(row)
         except RowError as problem:
             place = self.columns.code.place if problem.column is None else problem.column
-            cell = seen(row.cells[place] if place < len(row.cells) else "")
+            cell = seen_text(row.cells[place] if place < len(row.cells) else "")
             self.wrong_digits += isinstance(problem, WrongDigit)
             self.held.append((row.number, cell, problem))
             if not self.is_holding or len(self.held) > MOST_HELD:
@@ -211,7 +218,7 @@ class TableRun:
             self.unmarked += 1
             return
         self.leave_out_held()
-        self.writer.take(draft)
+        self.writer.take_draft(draft)
 
     def leave_out_held(self) -> None:
         """Leaves out the rows that are held, and holds no more: one message is not for all."""

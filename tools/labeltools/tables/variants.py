@@ -48,12 +48,12 @@ class Variants:
     findings: Findings
     titles: dict[str, tuple[int, str]] = field(default_factory=dict)
 
-    def see(self, row: Row) -> None:
+    def see_title(self, row: Row) -> None:
         """Keeps the title of a row, if it is the first one of its article that has one."""
         if self.columns.variants_of:
             with suppress(RowError):  # which leaves out that row alone
-                key = self.columns.variants_of.mark(row)
-                texts = [column.text(row) for column in self.columns.title]
+                key = self.columns.variants_of.compared_text(row)
+                texts = [column.printed_text(row) for column in self.columns.title]
                 if key and key not in self.titles and any(texts):
                     self.titles[key] = row.number, "\n".join(filter(None, texts))
 
@@ -63,7 +63,7 @@ class Variants:
         """
         if not self.columns.variants_of:
             return ""
-        key = self.columns.variants_of.mark(row)
+        key = self.columns.variants_of.compared_text(row)
         first, title = self.titles.get(key, (0, ""))
         if title:
             said = Text("row {} has the title of row {}, {}", row.number, first, quoted(title))

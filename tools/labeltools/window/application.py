@@ -36,7 +36,7 @@ class Application(Gtk.Application):
         """Adds what the keys do."""
         Gtk.Application.do_startup(self)
         add_style()
-        add_actions(self, {"help": self.help, "quit": self.end})
+        add_actions(self, {"help": self.help, "quit": self.close_windows})
         for action, keys in KEYS.items():
             self.set_accels_for_action(action, [keys])
 
@@ -49,7 +49,7 @@ class Application(Gtk.Application):
     def do_open(self, files: Sequence[Any], *_hint: Any) -> None:
         """Opens each table in a window."""
         for file in files:
-            self.do_activate().open(Path(file.get_path() or file.get_uri()))
+            self.do_activate().open_table(Path(file.get_path() or file.get_uri()))
 
     def help(self) -> None:
         """Opens the help in the language of the window, with the browser of the desktop."""
@@ -60,7 +60,7 @@ class Application(Gtk.Application):
         except GLib.Error as error:
             window.show_problem(ToolError(Text("{}: {}", page, error)))
 
-    def end(self) -> None:
+    def close_windows(self) -> None:
         """Closes all windows, which ends the program."""
         for window in self.get_windows():
             window.destroy()

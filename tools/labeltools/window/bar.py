@@ -44,11 +44,11 @@ class Bar:
         self.event: Event | None = None  # the one that is shown
         window.widgets.bar_act.connect("clicked", lambda _button: self.act())
 
-    def show(self, event: Event) -> None:
+    def show_event(self, event: Event) -> None:
         """Shows an event. One that is bad stays until it is closed or work begins: what is good
         about something else is only listed.
         """
-        named = self.window.of_printers.named(without_folder(event.sentence))
+        named = self.window.of_printers.with_printer_names(without_folder(event.sentence))
         event = replace(event, sentence=named)
         self.list(event)
         shown = self.event if self.window.widgets.bar.get_visible() else None

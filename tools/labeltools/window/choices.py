@@ -70,7 +70,7 @@ class Choices:
         """The further options by which labels are printed."""
         return Further(self.for_print, self.given_print)
 
-    def changes(self, other: "Choices") -> dict[str, Any]:
+    def differing_values(self, other: "Choices") -> dict[str, Any]:
         """Returns the fields that other choices have another value of, with that."""
         before = asdict(self)
         return {name: value for name, value in asdict(other).items() if value != before[name]}
@@ -105,7 +105,7 @@ def further_kept(kept: Kept, typed: str) -> Further:
     texts = kept.get(typed.replace("_", "-"), ""), kept.get(FURTHER[typed].replace("_", "-"))
     if not isinstance(texts[0], str):  # somebody has written into the file of choices
         return Further()
-    return Further.of(texts[0]) if texts[1] is None else Further(texts[0], str(texts[1]))
+    return Further.from_text(texts[0]) if texts[1] is None else Further(texts[0], str(texts[1]))
 
 
 def with_further(kept: Kept) -> dict[str, Any]:
@@ -141,7 +141,7 @@ def table_options_of(
     chosen["title"] = [*filter(None, [choices.title])]
     chosen["text"] = [*filter(None, [choices.text, choices.text_2])]
     if choices.price_as:
-        chosen["price_as"] = PricePattern.of(choices.price_as)
+        chosen["price_as"] = PricePattern.from_text(choices.price_as)
     chosen |= {**header_of(choices.header_row), "new_since": since, "delimiter": delimiter}
     typed = [*choices.further_of_table.words, *(["--", path] if path else [])]
     arguments = table_command.understood(typed, chosen)

@@ -98,13 +98,13 @@ def picture_of_design(design: str) -> Any:
         picture = GdkPixbuf.Pixbuf.new_from_file_at_scale(
             str(pictures / f"design-{name}.png"), WIDE - 2, HIGH - 2, True
         )
-        return framed(picture)
+        return with_edge(picture)
     return None
 
 
-def framed(picture: Any) -> Any:
+def with_edge(picture: Any) -> Any:
     """Returns a picture of a label with its edge, since paper is white."""
-    surface, canvas = paper(picture.get_width() + 2, picture.get_height() + 2)
+    surface, canvas = empty_label(picture.get_width() + 2, picture.get_height() + 2)
     Gdk.cairo_set_source_pixbuf(canvas, picture, 1, 1)
     canvas.paint()
     return Gdk.pixbuf_get_from_surface(surface, 0, 0, surface.get_width(), surface.get_height())
@@ -114,7 +114,7 @@ def drawn_label(digits: float, price: tuple[float, float], bars: tuple[float, fl
     """Returns a picture of a label of 60 by 40 mm: a title, a price of a height at a place, and
     bars of a height at another one.
     """
-    surface, canvas = paper(60, HIGH)
+    surface, canvas = empty_label(60, HIGH)
     canvas.set_source_rgb(0, 0, 0)
     canvas.rectangle(5, 5, 34, 3)
     left, top, high = bars
@@ -128,7 +128,7 @@ def drawn_label(digits: float, price: tuple[float, float], bars: tuple[float, fl
     return Gdk.pixbuf_get_from_surface(surface, 0, 0, 60, HIGH)
 
 
-def paper(wide: int, high: int) -> tuple[Any, Any]:
+def empty_label(wide: int, high: int) -> tuple[Any, Any]:
     """Returns an empty label with its edge, and a canvas on it."""
     surface = cairo.ImageSurface(cairo.FORMAT_ARGB32, wide, high)
     canvas = cairo.Context(surface)

@@ -8,7 +8,7 @@ from dataclasses import replace
 from functools import reduce
 from typing import NamedTuple
 
-from labeltools.common.messages import named, ToolError
+from labeltools.common.messages import named_character, ToolError
 from labeltools.common.text import Remedy, Text
 from labeltools.sheets.encoding import letters_by
 
@@ -33,11 +33,11 @@ class Further(NamedTuple):
         return (*option_words(self.given), *option_words(self.typed))
 
     @classmethod
-    def of(cls, text: str) -> "Further":
+    def from_text(cls, text: str) -> "Further":
         """Returns the options of a text, such as an older window kept: those that a button gives
         are not taken as typed.
 
-        >>> Further.of("--sheet Bread --where Name=Tea --hidden")
+        >>> Further.from_text("--sheet Bread --where Name=Tea --hidden")
         Further(typed='--where Name=Tea', given='--sheet Bread --hidden')
         """
         try:
@@ -101,7 +101,7 @@ def between_cells(mark: str) -> Text:
     """
     if mark == "none":
         return Text("each row is one cell")
-    return Text("{} is between cells", named("\t" if mark == "tab" else mark))
+    return Text("{} is between cells", named_character("\t" if mark == "tab" else mark))
 
 
 # what is said of each option that a button or a guess gives, by its value

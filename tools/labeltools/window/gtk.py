@@ -9,7 +9,7 @@ from typing import Any, TYPE_CHECKING
 import gi
 
 from labeltools.common.language import _
-from labeltools.common.text import Remedy, whole
+from labeltools.common.text import Remedy, whole_sentence
 from labeltools.window.further import options_in, said_of, typed_without
 
 try:
@@ -52,7 +52,7 @@ __all__ = [
     "add_style",
     "leave_wheel",
     "widen",
-    "within",
+    "widgets_within",
 ]
 LETTERS = 14  # that a choice shows at least
 LINE = 30  # letters of a line of the panel, of words that are wrapped
@@ -134,14 +134,14 @@ def widen(choice: Any, *columns: int) -> None:
         shown.set_size_request(min(sum(widths) + beside, WIDEST), -1)
 
 
-def within(widget: Any) -> Iterator[Any]:
+def widgets_within(widget: Any) -> Iterator[Any]:
     """Yields a widget, and all that are in it, those of GTK's own too."""
     yield widget
     if isinstance(widget, Gtk.Container):
         parts: list[Any] = []
         widget.forall(parts.append)
         for part in parts:
-            yield from within(part)
+            yield from widgets_within(part)
 
 
 class Report(Gtk.InfoBar):
@@ -152,7 +152,7 @@ class Report(Gtk.InfoBar):
     def __init__(self, **properties: Any) -> None:
         super().__init__(**properties)
         self.connect("response", lambda bar, _response: bar.hide())
-        for part in within(self):
+        for part in widgets_within(self):
             if isinstance(part, Gtk.Button):
                 part.get_accessible().set_name(_("Close"))
 
@@ -175,7 +175,9 @@ class Question(Gtk.Box):
             box.add(part)
             part.show()
 
-    def ask(self, text: str, answers: Sequence[tuple[str, Callable[[], object]]]) -> None:
+    def ask_with_buttons(
+        self, text: str, answers: Sequence[tuple[str, Callable[[], object]]]
+    ) -> None:
         """Asks, with a button for each answer."""
         self.text.set_text(text)
         self.answers.foreach(Gtk.Widget.destroy)
@@ -217,22 +219,22 @@ class Given(Gtk.Box):
     def show_options(self) -> None:
         """Shows each option in words, and tells that they are others than before."""
         options = [*options_in(self.words)]
-        shown = [whole(said_of(option, self.word_of(option))) for option in options]
+        shown = [whole_sentence(said_of(option, self.encoding_word(option))) for option in options]
         if shown != self.shown:  # else a button that has the focus would lose it
             self.shown = shown
             self.foreach(Gtk.Widget.destroy)
             for place, (option, said) in enumerate(zip(options, shown)):
-                self.add(self.line_of(said, partial(self.take_back, place, option)))
+                self.add(self.option_line(said, partial(self.take_back, place, option)))
         self.set_visible(self.words)
         if self.words != self.told:
             self.told = self.words
             self.emit("changed")
 
-    def word_of(self, option: Remedy) -> str:
+    def encoding_word(self, option: Remedy) -> str:
         """Returns the word by which an encoding is known; nothing for another option."""
         return self.word_by(option.value) if option.option == "encoding" else ""
 
-    def line_of(self, said: str, take_back: Callable[[Any], None]) -> Any:
+    def option_line(self, said: str, take_back: Callable[[Any], None]) -> Any:
         """Returns a line with what is said of an option, and a button that takes it back."""
         text = Gtk.Label(label=said, xalign=0, wrap=True, max_width_chars=LINE, hexpand=True)
         image = Gtk.Image(icon_name="window-close-symbolic")

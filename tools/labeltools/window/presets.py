@@ -21,12 +21,12 @@ class Presets:
 
     def __init__(self, window: "Window") -> None:
         self.window = window
-        add_actions(window, {"keep-preset": self.ask})
-        add_actions(window, {"preset": self.use, "forget-preset": self.forget}, "s")
-        window.widgets.menu_button.connect("toggled", lambda _button: self.fill())
-        self.fill()
+        add_actions(window, {"keep-preset": self.ask_for_name})
+        add_actions(window, {"preset": self.use, "forget-preset": self.forget_preset}, "s")
+        window.widgets.menu_button.connect("toggled", lambda _button: self.fill_menu())
+        self.fill_menu()
 
-    def fill(self) -> None:
+    def fill_menu(self) -> None:
         """Fills the menu with what there is now."""
         menu = self.window.widgets.presets_menu
         menu.remove_all()
@@ -38,7 +38,7 @@ class Presets:
             add_items(old, "win.forget-preset", names)
             menu.append_submenu(_("Delete"), old)
 
-    def ask(self) -> None:
+    def ask_for_name(self) -> None:
         """Asks for a name for the paper and the printer, and keeps them by it."""
         if confirmed(self.window.widgets.naming):
             name = self.window.widgets.preset_name.get_text().strip()
@@ -46,7 +46,7 @@ class Presets:
             if name:
                 PRESETS.keep(name, {option: kept[option] for option in KEPT})
 
-    def forget(self, name: str) -> None:
+    def forget_preset(self, name: str) -> None:
         """Forgets a preset."""
         PRESETS.keep(name, None)
 
@@ -54,7 +54,7 @@ class Presets:
         """Takes the paper and the printer of a preset."""
         with self.window.filling():
             kept = with_further(PRESETS.all().get(name, {}))
-            self.window.take(**values_kept(kept))
+            self.window.take_values(**values_kept(kept))
             self.window.of_printers.recall(kept)
         self.window.make()
 

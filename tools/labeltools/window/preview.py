@@ -51,7 +51,7 @@ class Preview:
     def page_of(self, row: str) -> int:
         """Returns the number of the page, from 1, that has the label of a row; 0 for none."""
         for number, item in enumerate(self.prints, 1):
-            if str(item.record.origin.number) == row:
+            if str(item.record.origin_number) == row:
                 return self.press.job.pages_of(number)
         return 0
 
@@ -75,9 +75,9 @@ class Preview:
         if job.form.is_drawn:
             self.press.draw(canvas, page)
         else:
-            self.draw_dots(canvas, page)
+            self.draw_seen_dots(canvas, page)
 
-    def draw_dots(self, canvas: Any, page: Page) -> None:
+    def draw_seen_dots(self, canvas: Any, page: Page) -> None:
         """Draws the dots that are seen, on a canvas whose unit is a dot."""
         left, top, right, bottom = (math.floor(side) for side in canvas.clip_extents())
         size = right - left + 1, bottom - top + 1

@@ -10,23 +10,29 @@ from typing import Any, TYPE_CHECKING
 from labeltools.common.language import _
 from labeltools.common.messages import ToolError
 from labeltools.common.text import translated
-from labeltools.printing.job import is_direct, planned, PrintOptions
+from labeltools.printing.job import (
+    DRAWING_DPI,
+    is_direct,
+    LABELS_DPI,
+    planned,
+    PrintOptions,
+)
 from labeltools.printing.press import labels_of
 from labeltools.sending.network import address_of, SCHEME
 from labeltools.sending.printers import (
     default_queue,
+    known_printers,
     lost_printer,
     Printer,
-    printers,
     QUEUE,
     USB,
 )
 from labeltools.sending.queue import Queue, queue_of
-from labeltools.sending.sender import send_to
+from labeltools.sending.sender import send_labels_to
 from labeltools.window.choices import Kept
 from labeltools.window.gtk import GLib, Gtk, widen
 from labeltools.window.memory import PRINTERS
-from labeltools.window.questions import said
+from labeltools.window.questions import reason_and_hint
 from labeltools.window.shop import WindowTalk
 
 if TYPE_CHECKING:
@@ -35,8 +41,6 @@ if TYPE_CHECKING:
 ADD, FILE, NONE = "add", "file", "-"  # rows of the list that are no printers
 ICONS = {QUEUE: "printer-symbolic", USB: "printer-symbolic"}
 LANGUAGES = ("zpl", "escpos")  # of printers that take labels one by one
-USUAL_DPI = 203  # of these printers
-DRAWING_DPI = 600
 PDF = ("pdf", DRAWING_DPI)  # a form, and its dots an inch
 NAMES = {"pdf": "PDF", "zpl": "ZPL", "escpos": "ESC/POS"}
 TEST = b'#{"title":"Test","price":"1,00"}\ncode128 TEST-123\n'
@@ -57,26 +61,26 @@ class Printers:
         self.thread = ThreadPoolExecutor(1)
         window.widgets.printer.set_row_separator_func(lambda model, row: model[row][3] == NONE)
         window.widgets.printer.connect("notify::popup-shown", lambda *_: self.refresh())
-        self.fill([])
+        self.fill_list([])
         self.refresh()
 
     def refresh(self) -> None:
         """Looks for printers, in a thread of its own."""
         future = self.thread.submit(found_printers)
-        future.add_done_callback(partial(GLib.idle_add, self.show))
+        future.add_done_callback(partial(GLib.idle_add, self.show_found))
 
-    def show(self, future: "Future[tuple[Sequence[Printer], str]]") -> None:
+    def show_found(self, future: "Future[tuple[Sequence[Printer], str]]") -> None:
         """Shows the printers that were found, and chooses one where none is chosen."""
         if future.exception() is not None or not self.window.get_visible():
             return
         found, default = future.result()
-        self.fill(found)
+        self.fill_list(found)
         if not self.wanted:
             first = default or next((printer.key for printer in found), FILE)
             first = first if first in self.all else FILE
             (self.settle if self.is_decided else self.choose)(first)
 
-    def fill(self, found: Sequence[Printer]) -> None:
+    def fill_list(self, found: Sequence[Printer]) -> None:
         """Fills the list; a printer that is wanted and not there is in it, too."""
         self.all = {printer.key: printer for printer in found}
         if self.wanted and self.wanted not in (*self.all, FILE):
@@ -104,11 +108,11 @@ class Printers:
         printer = self.chosen
         return printer is not None and (printer.form in LANGUAGES or printer.key in self.of_rolls)
 
-    def name_of(self, key: str) -> str:
+    def shown_name(self, key: str) -> str:
         """Returns the name of a printer, as the list shows it."""
         return self.all[key].name if key in self.all else key
 
-    def named(self, text: str) -> str:
+    def with_printer_names(self, text: str) -> str:
         """Returns a text with the names of printers in the place of their addresses."""
         for key in sorted(filter(is_direct, self.all), key=len, reverse=True):
             text = text.replace(key, self.all[key].name)
@@ -122,15 +126,17 @@ class Printers:
         if not key and kept.get("to") in LANGUAGES and kept.get("address"):
             key = SCHEME + kept["address"].removeprefix(SCHEME)
             name = key.removeprefix(SCHEME)
-            known = {"name": name, "to": kept["to"], "dpi": str(kept.get("dpi", USUAL_DPI))}
+            known = {"name": name, "to": kept["to"], "dpi": str(kept.get("dpi", LABELS_DPI))}
             PRINTERS.keep(key, known)
             self.all |= {
-                printer.key: printer for printer in printers({key: known}) if printer.key == key
+                printer.key: printer
+                for printer in known_printers({key: known})
+                if printer.key == key
             }
         self.is_decided = bool(kept.get("to"))
         form, is_roll = kept.get("to"), kept.get("roll")
         if is_roll and form in LANGUAGES:
-            self.of_files[True] = form, int(kept.get("dpi") or USUAL_DPI)
+            self.of_files[True] = form, int(kept.get("dpi") or LABELS_DPI)
         if key:
             self.settle(key)
         if key == FILE:
@@ -139,15 +145,15 @@ class Printers:
     def settle(self, key: str) -> None:
         """Shows a printer as chosen; it decides nothing."""
         self.wanted = key
-        self.fill([printer for printer in self.all.values() if not printer.is_lost])
+        self.fill_list([printer for printer in self.all.values() if not printer.is_lost])
         self.window.fit_paper()
         self.show_button()
         printer = self.chosen
         if printer and printer.way == QUEUE and printer.form not in LANGUAGES:
             future = self.thread.submit(queue_of, key)
-            future.add_done_callback(partial(GLib.idle_add, self.learn, key))
+            future.add_done_callback(partial(GLib.idle_add, self.learn_paper, key))
 
-    def learn(self, key: str, future: "Future[Queue]") -> None:
+    def learn_paper(self, key: str, future: "Future[Queue]") -> None:
         """Learns whether a queue has sheets; one that does not answer may have some."""
         if future.exception() is None and self.window.get_visible():
             self.see_paper(key, future.result())
@@ -184,7 +190,7 @@ class Printers:
         elif not printer.form:
             self.ask_language(printer)
         elif printer.form in LANGUAGES:
-            self.of_files[True] = printer.form, printer.dpi or USUAL_DPI
+            self.of_files[True] = printer.form, printer.dpi or LABELS_DPI
             self.decide(*self.of_files[True], True)
         else:
             self.window.has_labels = False  # they are for another printer
@@ -192,7 +198,7 @@ class Printers:
             future = self.thread.submit(queue_of, key)
             future.add_done_callback(partial(GLib.idle_add, self.decide_by_queue, key))
 
-    def close(self) -> None:
+    def stop_looking(self) -> None:
         """Looks for no printers any more."""
         self.thread.shutdown(wait=False)
 
@@ -201,7 +207,7 @@ class Printers:
         if key == ADD:
             with self.window.filling():
                 self.window.widgets.printer.set_active_id(self.wanted or None)
-            self.add()
+            self.ask_for_printer()
         elif key:
             self.choose(key)
 
@@ -213,7 +219,7 @@ class Printers:
         form, dpi = self.of_files[chosen.roll]
         if self.wanted in (FILE, "") and chosen.to != form:
             with self.window.filling():
-                self.window.take(to=form, dpi=str(dpi))
+                self.window.take_values(to=form, dpi=str(dpi))
         self.show_button()
 
     def decide_by_queue(self, key: str, future: "Future[Queue]") -> None:
@@ -231,11 +237,11 @@ class Printers:
     def decide(self, form: str, dpi: int, is_roll: bool) -> None:
         """Makes the labels for a printer."""
         with self.window.filling():
-            self.window.take(to=form, dpi=str(dpi))
-            self.window.take(**{"roll" if is_roll else "sheet": True})
+            self.window.take_values(to=form, dpi=str(dpi))
+            self.window.take_values(**{"roll" if is_roll else "sheet": True})
         self.window.make()
 
-    def ask(self) -> None:
+    def ask_about_chosen(self) -> None:
         """Asks what is not known of the printer that is chosen."""
         printer = self.chosen
         if printer is not None and not printer.form and not printer.is_lost:
@@ -247,8 +253,7 @@ class Printers:
         """
         printer = self.chosen
         if printer is None:
-            usual = USUAL_DPI if form in LANGUAGES else DRAWING_DPI
-            self.of_files[self.window.choices().roll] = form, usual
+            self.of_files[self.window.choices().roll] = form, usual_dpi(form)
             self.show_button()
         if printer is None or printer.way == QUEUE:
             return False
@@ -256,7 +261,7 @@ class Printers:
             self.know(printer.key, {"to": form})
         else:
             with self.window.filling():
-                self.window.take(to=printer.form or LANGUAGES[0])
+                self.window.take_values(to=printer.form or LANGUAGES[0])
         return True
 
     def ask_language(self, printer: Printer) -> None:
@@ -266,7 +271,7 @@ class Printers:
             (text, partial(self.know, printer.key, {"to": one}))
             for text, one in zip(shown, LANGUAGES)
         ]
-        self.window.questions.ask("printer", _("What does this printer print?"), answers)
+        self.window.questions.ask_below("printer", _("What does this printer print?"), answers)
         self.window.let_out(self.window.has_labels)
 
     def know(self, key: str, more: Mapping[str, str]) -> None:
@@ -274,13 +279,15 @@ class Printers:
         PRINTERS.keep(key, {**PRINTERS.all().get(key, {}), **more})
         known = PRINTERS.all()
         self.all = {printer.key: printer for printer in self.all.values()} | {
-            printer.key: printer for printer in printers({key: known[key]}) if printer.key == key
+            printer.key: printer
+            for printer in known_printers({key: known[key]})
+            if printer.key == key
         }
         self.wanted = key
-        self.fill([*self.all.values()])
+        self.fill_list([*self.all.values()])
         self.choose(key)
 
-    def add(self) -> None:
+    def ask_for_printer(self) -> None:
         """Asks for a printer in the network, and chooses it."""
         window = self.window
         window.widgets.new_said.set_text("")
@@ -292,7 +299,7 @@ class Printers:
             try:
                 address_of(key)
             except ToolError as error:
-                window.widgets.new_said.set_text(said(error.what, error.hint))
+                window.widgets.new_said.set_text(reason_and_hint(error.what, error.hint))
                 continue
             self.know(key, kept)
             break
@@ -322,10 +329,15 @@ class Printers:
         error = future.exception()
         text = _("Sent: look whether it comes out.")
         if isinstance(error, ToolError):
-            text = said(error.what, error.hint)
+            text = reason_and_hint(error.what, error.hint)
         elif error is not None:
             text = str(error)
         self.window.widgets.new_said.set_text(text)
+
+
+def usual_dpi(form: str) -> int:
+    """Returns the dots an inch that printers of a form mostly have."""
+    return LABELS_DPI if form in LANGUAGES else DRAWING_DPI
 
 
 def show_rows(model: Any, rows: Sequence[Shown]) -> None:
@@ -348,7 +360,7 @@ def icon_of(printer: Printer) -> str:
 
 def found_printers() -> tuple[Sequence[Printer], str]:
     """Returns the printers, and the queue that is used if none is named."""
-    return [*printers(PRINTERS.all())], default_queue()
+    return [*known_printers(PRINTERS.all())], default_queue()
 
 
 def print_test(key: str, kept: Mapping[str, str]) -> None:
@@ -356,4 +368,4 @@ def print_test(key: str, kept: Mapping[str, str]) -> None:
     address_of(key)
     options = PrintOptions(paper=TEST_SIZE, to=kept["to"], dpi=int(kept["dpi"]))
     talk = WindowTalk()
-    send_to(labels_of(planned(options), "test", TEST, talk), key, talk)
+    send_labels_to(labels_of(planned(options), "test", TEST, talk), key, talk)

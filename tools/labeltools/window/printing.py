@@ -9,9 +9,10 @@ from typing import Any, TYPE_CHECKING
 from urllib.parse import quote
 
 from labeltools.common.language import _, ngettext
-from labeltools.common.report import Ranges
-from labeltools.common.text import whole
+from labeltools.common.report import is_in_ranges, Ranges
+from labeltools.common.text import whole_sentence
 from labeltools.layout.layout import LaidOut
+from labeltools.printing.job import is_direct
 from labeltools.printing.press import Prepared
 from labeltools.printing.selection import ranges_in
 from labeltools.sending.printers import MEDIA, Printer, TRAY
@@ -60,7 +61,9 @@ class Printing:
         self.rows = Rows(window)
         self.printer = ""
 
-    def ask(self, printer: Printer, labels: Prepared, options: Options) -> Printout | None:
+    def ask_what_is_printed(
+        self, printer: Printer, labels: Prepared, options: Options
+    ) -> Printout | None:
         """Asks what is to be printed; returns nothing if that is cancelled."""
         window = self.window
         self.labels, self.printer = labels, printer.key
@@ -74,14 +77,14 @@ class Printing:
         window.widgets.print_what.set_active_id("rows")
         window.widgets.print_what.set_visible(not is_roll)
         window.widgets.print_some.set_label(_("_Only rows") if is_roll else _("_Only"))
-        self.fill(options)
+        self.fill_options(options)
         self.show_what()
         window.widgets.print_yes.grab_focus()  # Enter prints
         answer = window.widgets.printing.run()
         window.widgets.printing.hide()
         return self.wanted() if answer == Gtk.ResponseType.OK else None
 
-    def fill(self, options: Options) -> None:
+    def fill_options(self, options: Options) -> None:
         """Fills the choices of a driver, with those of the last time."""
         kept = PRINTERS.all().get(self.printer, {})
         for name, choice in ((TRAY, self.window.widgets.tray), (MEDIA, self.window.widgets.media)):
@@ -93,11 +96,11 @@ class Printing:
             choice.set_active_id(kept[name] if is_known else "")
             for part in (choice, *choice.list_mnemonic_labels()):
                 part.set_visible(name in options)
-        self.window.widgets.print_queue.set_visible("/" not in self.printer)
+        self.window.widgets.print_queue.set_visible(not is_direct(self.printer))
 
     def on_choose(self, _button: Any) -> None:
         """Asks for the rows in a list."""
-        chosen = self.rows.choose(self.labels, self.window.widgets.print_rows.get_text())
+        chosen = self.rows.ask_for_rows(self.labels, self.window.widgets.print_rows.get_text())
         if chosen is not None:
             self.window.widgets.print_what.set_active_id("rows")
             self.window.widgets.print_rows.set_text(chosen)
@@ -125,7 +128,7 @@ class Printing:
         is_sheet = not (job.form.is_roll or job.plan.sheet.is_single)
         put = text.format(count=count, stock=stock) if is_sheet else ""
         count = self.window.made.left_out
-        left_out = whole(skipped(count)) if count else ""
+        left_out = whole_sentence(skipped(count)) if count else ""
         self.window.widgets.print_put.set_text("\n".join(filter(None, (put, left_out))))
 
     def wanted(self) -> Printout:
@@ -170,29 +173,24 @@ def all_text(labels: Prepared, is_roll: bool) -> str:
     return f"{text}, {sheets}"
 
 
-def is_in(number: int, ranges: Ranges) -> bool:
-    """Returns whether a number is in one of some ranges."""
-    return any(first <= number <= last for first, last in ranges)
-
-
 def of_rows(labels: Prepared, ranges: Ranges) -> Prepared:
     """Returns the labels of some rows of the table."""
     return replace(
-        labels, prints=[item for item in labels.prints if is_in(table_row(item), ranges)]
+        labels, prints=[item for item in labels.prints if is_in_ranges(table_row(item), ranges)]
     )
 
 
 def table_row(item: LaidOut) -> int:
     """Returns the row of a label in its table."""
-    return item.record.origin.number
+    return item.record.origin_number
 
 
 def on_sheets(labels: Prepared, ranges: Ranges) -> Prepared:
     """Returns the labels that are on some sheets; only the first one may begin at a later cell."""
     job = labels.job
     pages = enumerate(labels.prints, 1)
-    prints = [item for number, item in pages if is_in(job.pages_of(number), ranges)]
-    first = job.options.first if is_in(1, ranges) else 1
+    prints = [item for number, item in pages if is_in_ranges(job.pages_of(number), ranges)]
+    first = job.options.first if is_in_ranges(1, ranges) else 1
     return replace(
         labels, prints=prints, job=replace(job, options=replace(job.options, first=first))
     )

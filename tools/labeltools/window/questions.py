@@ -5,7 +5,7 @@ in place of the page where the file cannot be read without it. Nothing is printe
 from collections.abc import Sequence
 from typing import Any, TYPE_CHECKING
 
-from labeltools.common.text import NOTHING, Text, translated, whole, windowed
+from labeltools.common.text import NOTHING, Text, translated, whole_sentence, windowed
 from labeltools.window.bar import Answer
 from labeltools.window.gtk import Gtk
 
@@ -45,13 +45,13 @@ class Questions:
         """Returns where it is asked about a control."""
         return getattr(self.window.widgets, f"ask_{name}")
 
-    def ask(self, name: str, text: str, answers: Answers) -> None:
+    def ask_below(self, name: str, text: str, answers: Answers) -> None:
         """Asks below a control."""
-        self.box(name).ask(
-            text, [(shown, lambda act=act: self.answer(name, act)) for shown, act in answers]
+        self.box(name).ask_with_buttons(
+            text, [(shown, lambda act=act: self.do_answered(name, act)) for shown, act in answers]
         )
 
-    def answer(self, name: str, act: Any) -> None:
+    def do_answered(self, name: str, act: Any) -> None:
         """Does what was answered; the focus stays beside the answer, which goes."""
         getattr(self.window.widgets, name).grab_focus()
         self.clear()
@@ -93,6 +93,6 @@ def which(kind: str) -> str:
     return translated(WHICH[kind])
 
 
-def said(what: Text, hint: Text = NOTHING) -> str:
+def reason_and_hint(what: Text, hint: Text = NOTHING) -> str:
     """Returns what a window says: a reason, and below it what to do."""
-    return "\n".join(filter(None, (whole(windowed(text)) for text in (what, hint))))
+    return "\n".join(filter(None, (whole_sentence(windowed(text)) for text in (what, hint))))

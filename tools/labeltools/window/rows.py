@@ -6,7 +6,7 @@ from collections.abc import Sequence
 from typing import Any, TYPE_CHECKING
 
 from labeltools.common.language import ngettext
-from labeltools.common.report import range_words, ranges_of
+from labeltools.common.report import is_in_ranges, range_words, ranges_of
 from labeltools.layout.layout import LaidOut
 from labeltools.lines.file import Record
 from labeltools.printing.press import Prepared
@@ -38,35 +38,35 @@ class Rows:
             (window.widgets.rows_none, lambda _row: False),
             (window.widgets.rows_new, lambda row: row[IS_NEW]),
         ):
-            button.connect("clicked", self.mark, rule)
+            button.connect("clicked", self.mark_shown, rule)
 
-    def choose(self, labels: Prepared, typed: str) -> str | None:
+    def ask_for_rows(self, labels: Prepared, typed: str) -> str | None:
         """Asks which rows are printed, first those that were typed; returns them as they are typed,
         or nothing if that is cancelled.
         """
         window = self.window
         printed = window.made.table.printed_records()
-        self.fill(labels.prints, typed, printed)
+        self.fill_rows(labels.prints, typed, printed)
         window.widgets.rows_new.set_visible(printed)
         window.widgets.rows_search.set_text("")
-        self.count()
+        self.show_count()
         answer = window.widgets.choosing.run()
         window.widgets.choosing.hide()
         marked = [row[ROW] for row in window.widgets.rows if row[MARK]]
         ranges = range_words(ranges_of(marked))
         return ",".join(ranges) if answer == Gtk.ResponseType.OK else None
 
-    def fill(self, prints: Sequence[LaidOut], typed: str, printed: Sequence[Record]) -> None:
+    def fill_rows(self, prints: Sequence[LaidOut], typed: str, printed: Sequence[Record]) -> None:
         """Fills the list with the rows of labels, each once."""
         before: dict[Any, set[Any]] = {}
         for old in printed:
-            before.setdefault(old.key, set()).add(old.shown)
+            before.setdefault(old.key, set()).add(old.printed_beside)
         ranges = ranges_in(typed.replace(" ", ""))
-        records = {item.record.origin.number: item.record for item in prints}
+        records = {item.record.origin_number: item.record for item in prints}
         self.window.widgets.rows.clear()
         for number, record in sorted(records.items()):
-            is_marked = any(first <= number <= last for first, last in ranges)
-            is_new = record.shown not in before.get(record.key, ())
+            is_marked = is_in_ranges(number, ranges)
+            is_new = record.printed_beside not in before.get(record.key, ())
             code = record.data.decode("utf-8", "replace")
             shown = (code, record.title, record.price)
             self.window.widgets.rows.append([is_marked, number, *shown, is_new])
@@ -77,7 +77,7 @@ class Rows:
         texts = (str(model[row][column]) for column in (CODE, TITLE, PRICE))
         return not wanted or any(wanted in text.casefold() for text in texts)
 
-    def inner(self, row: Any) -> Any:
+    def row_of_all(self, row: Any) -> Any:
         """Returns a row of the whole list that is shown."""
         return self.window.widgets.rows[self.found.convert_iter_to_child_iter(row.iter)]
 
@@ -86,25 +86,25 @@ class Rows:
         dialog.
         """
         if search.get_text():
-            self.mark(search, lambda _row: True)
+            self.mark_shown(search, lambda _row: True)
             search.set_text("")
         else:
             self.window.widgets.choosing.response(Gtk.ResponseType.OK)
 
     def on_mark(self, path: Any) -> None:
         """Marks a row, or takes its mark away."""
-        row = self.inner(self.found[path])
+        row = self.row_of_all(self.found[path])
         row[MARK] = not row[MARK]
-        self.count()
+        self.show_count()
 
-    def mark(self, _button: Any, rule: Any) -> None:
+    def mark_shown(self, _button: Any, rule: Any) -> None:
         """Marks the rows that are shown by a rule."""
         for row in self.found:
-            inner = self.inner(row)
+            inner = self.row_of_all(row)
             inner[MARK] = rule(inner)
-        self.count()
+        self.show_count()
 
-    def count(self) -> None:
+    def show_count(self) -> None:
         """Shows how many rows have a mark."""
         count = sum(row[MARK] for row in self.window.widgets.rows)
         text = ngettext("{count} row is ticked", "{count} rows are ticked", count)

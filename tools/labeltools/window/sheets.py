@@ -9,7 +9,7 @@ import cairo
 
 from labeltools.common.messages import ToolError
 from labeltools.common.text import counted, Text, translated
-from labeltools.paper.stock import glabels_sheet, list_stock, parts, Sheet, size_text
+from labeltools.paper.stock import glabels_parts, glabels_sheet, list_stock, Sheet, size_text
 from labeltools.window.gtk import Gdk
 
 SIDE = 40  # pixels of the longer side of a picture
@@ -17,7 +17,7 @@ GAP = 1.0  # pixels between two cells at least
 BETWEEN = (0.55, 0.6, 0.68)
 
 
-def offer_sheets(model: Any, typed: str) -> None:
+def fill_with_sheets(model: Any, typed: str) -> None:
     """Fills a model with the sheets that label-print lists for what is typed, first those that
     begin so.
     """
@@ -42,7 +42,7 @@ def show_picture(_layout: Any, renderer: Any, model: Any, row: Any, _data: Any) 
 @cache
 def keys() -> Mapping[str, tuple[str, str]]:
     """Returns the keys of the parts of glabels, by their names."""
-    return {" ".join(key): key for key in parts()}
+    return {" ".join(key): key for key in glabels_parts()}
 
 
 @cache

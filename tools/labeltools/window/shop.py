@@ -27,10 +27,10 @@ from labeltools.sheets.file_options import CsvOptions
 from labeltools.tables.codes import AUTO
 from labeltools.tables.columns import column_word
 from labeltools.tables.guess import guess_of
-from labeltools.tables.money import NotMoney, parse
+from labeltools.tables.money import NotMoney, PROGRAM_DECIMALS, read_price
 from labeltools.tables.name_words import column_words, words_in
 from labeltools.tables.old_encoding import old_encoding
-from labeltools.tables.prices import PricePattern, PROGRAM_DECIMALS
+from labeltools.tables.prices import PricePattern
 from labeltools.tables.summary import labels_from, sentences
 from labeltools.tables.table import Lines, lines_of_table, ZIP
 from labeltools.tables.table_options import TableOptions
@@ -147,35 +147,35 @@ class Table:
         _, self.data = read_input(str(path), TABLE)
         self.path = path
         is_first = further is None  # time that it is read
-        before = Further.of(FILES.all().get(path.name, "")) if is_first else Further()
+        before = Further.from_text(FILES.all().get(path.name, "")) if is_first else Further()
         try:
-            self.read(further or before, header, talk)
+            self.guess_columns(further or before, header, talk)
         except ToolError:
             old = old_encoding(self.data, path.name, TableOptions()) if is_first else None
             if not any(before) and old is None:
                 raise
             # it has another encoding now, or other sheets
             encoding = Remedy("encoding", old.name) if old else Remedy("encoding", is_less=True)
-            self.read(Further(given=typed_with("", encoding)), header, talk)
+            self.guess_columns(Further(given=typed_with("", encoding)), header, talk)
             self.of_file = [LeftOut(None, "", old.text, old.hint)] if old else ()
         kept = further_kept(self.kept, "for_table")
         if is_first and any(kept) and kept != self.further:
             with suppress(ToolError):
-                self.read(kept, header, talk)
+                self.guess_columns(kept, header, talk)
                 self.of_file = ()
         if (is_first or header is not None) and not self.kept:
             self.further = self.with_guessed()
         last: Kept = next(reversed(TABLES.all().values()), {})
         self.paper = {name: value for name, value in last.items() if name in PAPER}
-        self.settle()
+        self.settle_waiting()
 
-    def read(self, further: Further, header: int | None, talk: WindowTalk) -> None:
+    def guess_columns(self, further: Further, header: int | None, talk: WindowTalk) -> None:
         """Guesses the columns of the table as options read it, and finds what is kept for these."""
         columns = {"code": "1", "title": ["1"], "price": "1"}
         arguments = table_command.understood(further.words, {**columns, **header_of(header)})
         options = table_command.table_options(arguments)
         self.guess = guess_of(self.data, self.path.name, options, talk)
-        self.delimiter = self.delimiter_of_names(options)
+        self.delimiter = self.known_delimiter(options)
         self.further = further
         self.key = "\n".join(self.guess.names) if any(self.guess.names) else ""
         self.kept = TABLES.all().get(self.key, {}) if self.key else {}
@@ -210,14 +210,14 @@ class Table:
         currency = "" if place is None else self.guess.examples[place]
         for pattern in filter(None, (self.guessed_pattern(price), *patterns)):
             with suppress(NotMoney):
-                money = parse(example, most_decimals=PROGRAM_DECIMALS)
-                yield PricePattern.of(pattern).write(money, currency), pattern
+                money = read_price(example, most_decimals=PROGRAM_DECIMALS)
+                yield PricePattern.from_text(pattern).write(money, currency), pattern
 
     def made(self, choices: Choices, talk: WindowTalk) -> MadeLabels:
         """Returns what is made by choices; raises `ToolError` and `OSError`."""
         options = print_options_of(choices)
         job = planned(options)
-        since = str(self.printed) if choices.new_only else None
+        since = str(self.last_printed) if choices.new_only else None
         delimiter = self.delimiter_for(choices)
         own = words_of({"new-since": since, "delimiter": delimiter})
         words = [*own, *table_words(choices), "--", str(self.path)]
@@ -244,7 +244,7 @@ class Table:
         is_asked = options.file.delimiter is None and csv_options(options).may_have_delimiter
         return self.delimiter if self.delimiter and is_asked else None
 
-    def delimiter_of_names(self, options: TableOptions) -> str:
+    def known_delimiter(self, options: TableOptions) -> str:
         """Returns the character that divides the names of the columns, which are known as such;
         empty if none does.
         """
@@ -280,15 +280,15 @@ class Table:
         return keeps_good_rows(self.lines.output, lines.output)
 
     @property
-    def printed(self) -> Path:
+    def last_printed(self) -> Path:
         """The lines that went out the last time, of a table with the same names."""
         mark = hashlib.sha256(self.key.encode()).hexdigest()[:16]
         return memory.FOLDER / f"{mark}.lines"
 
-    def printed_on(self) -> str:
+    def last_printed_on(self) -> str:
         """Returns the day on which labels of such a table went out; empty where none did."""
-        if self.key and self.printed.exists():
-            return time.strftime("%x", time.localtime(self.printed.stat().st_mtime))
+        if self.key and self.last_printed.exists():
+            return time.strftime("%x", time.localtime(self.last_printed.stat().st_mtime))
         return ""
 
     def keep_printed(self, made: MadeLabels, sent: Prepared) -> None:
@@ -311,13 +311,13 @@ class Table:
         before = self.printed_records()
         old = (record for record in before if (record.symbology, record.data) not in codes)
         with suppress(OSError):
-            memory.write_own(self.printed, file_of([*old, *new]))
+            memory.write_own(self.last_printed, file_of([*old, *new]))
 
     def keep_waiting(self, made: MadeLabels, sent: Prepared, job: SentJob) -> Path:
         """Keeps the lines of the labels of a job until it is known whether they were printed, for a
         later window too; returns their file.
         """
-        path = self.printed.with_suffix(f".{job.key}{WAITING}")
+        path = self.last_printed.with_suffix(f".{job.name_of_file}{WAITING}")
         with suppress(OSError):
             data = file_of(self.records_of(made, sent)) if self.key else b""
             memory.write_own(path, data)
@@ -331,17 +331,17 @@ class Table:
                 self.keep_records(read_lines(data, path.name).records)
         path.unlink(missing_ok=True)
 
-    def waiting(self) -> dict[SentJob, Path]:
+    def waiting_jobs(self) -> dict[SentJob, Path]:
         """Returns the jobs of which it is not known yet whether they were printed."""
         found = {}
-        for path in sorted(memory.FOLDER.glob(f"{self.printed.stem}.*{WAITING}")):
+        for path in sorted(memory.FOLDER.glob(f"{self.last_printed.stem}.*{WAITING}")):
             with suppress(ValueError):  # of another version
                 found[job_of(path.name.removesuffix(WAITING).partition(".")[2])] = path
         return found
 
-    def settle(self) -> None:
+    def settle_waiting(self) -> None:
         """Asks CUPS what became of jobs that waited when a window was closed."""
-        for job, path in self.waiting().items() if self.key else ():
+        for job, path in self.waiting_jobs().items() if self.key else ():
             with suppress(ToolError):  # CUPS has forgotten it, or is not there: it is asked for
                 state = job.state()
                 if state.is_over:
@@ -350,10 +350,10 @@ class Table:
     def printed_records(self) -> tuple[Record, ...]:
         """Returns the lines that went out before; none where they cannot be read."""
         with suppress(OSError, ToolError):
-            return read_lines(self.printed.read_bytes(), self.printed.name).records
+            return read_lines(self.last_printed.read_bytes(), self.last_printed.name).records
         return ()
 
-    def keep(self, choices: Choices) -> None:
+    def keep_choices(self, choices: Choices) -> None:
         """Keeps choices by which labels went out; those of columns only where columns have names,
         since two tables without names have nothing in common. The words by which the file was read
         are kept for its name, too: without its sheet or encoding it would not open.
@@ -386,7 +386,8 @@ def are_known(names: Sequence[str]) -> bool:
     """
     kinds = column_words().values()
     return (
-        sum(any(kind.has(word) for kind in kinds for word in words_in(name)) for name in names) > 1
+        sum(any(kind.knows(word) for kind in kinds for word in words_in(name)) for name in names)
+        > 1
     )
 
 

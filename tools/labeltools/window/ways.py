@@ -12,13 +12,13 @@ from typing import Any, NamedTuple, TYPE_CHECKING
 
 from labeltools.common.language import _
 from labeltools.common.messages import ToolError
-from labeltools.common.text import counted, joined, Text, translated, whole, windowed
+from labeltools.common.text import counted, joined, Text, translated, whole_sentence, windowed
 from labeltools.printing.press import Prepared
 from labeltools.sending.job import AWAY, JobState, SentJob, UnknownJob
-from labeltools.sending.on_queue import print_on
+from labeltools.sending.on_queue import print_by_cups
 from labeltools.sending.printers import choices_of, Printer, QUEUE
 from labeltools.sending.queue import Queue, queue_of
-from labeltools.sending.sender import save_to, send_to, Sender, Unfinished
+from labeltools.sending.sender import save_to, send_labels_to, Sender, Unfinished
 from labeltools.window.bar import Answer, ERROR, Event, INFO, SUCCESS, WARNING
 from labeltools.window.gtk import GLib, Gtk
 from labeltools.window.memory import PRINTERS
@@ -56,18 +56,20 @@ class WaysOut:
         self.of: tuple[Table, MadeLabels]  # what they are of
         self.printing = Printing(window)
 
-    def send(self, way: Way, labels: Prepared, counts: bool = True, is_rest: bool = False) -> None:
+    def send_out(
+        self, way: Way, labels: Prepared, counts: bool = True, is_rest: bool = False
+    ) -> None:
         """Sends labels by a way, or the rest of those that were sent before, and keeps what is
         chosen for the next table like this. A trial does not count as printed.
         """
         made = self.window.made
         table = made.table
-        table.keep(self.window.choices())
+        table.keep_choices(self.window.choices())
         self.of = table, made
         if not is_rest:
             self.sending = labels, counts
         then = partial(self.on_sent, table, made)
-        self.window.work.start(partial(way, labels), then, is_sending=True)
+        self.window.work.begin_work(partial(way, labels), then, is_sending=True)
 
     def on_sent(self, table: Table, made: MadeLabels, sent: Sent) -> None:
         """Says which labels went out, and from then on what becomes of a job of CUPS. Keeps them,
@@ -104,7 +106,7 @@ class WaysOut:
         following = (job.options.first - 1 + len(labels.prints)) % cells + 1
         if cells < 2 or following == self.window.choices().first:
             return ""
-        self.window.take(first=following)
+        self.window.take_values(first=following)
         text = Text("The next labels begin at label {} of the last sheet.", following)
         return translated(text) if following > 1 else ""
 
@@ -112,7 +114,7 @@ class WaysOut:
         """Says which jobs of a table are not over since a window was closed, and looks at them; of
         one that CUPS has forgotten the keeper is asked whether it was printed.
         """
-        for job, path in table.waiting().items():
+        for job, path in table.waiting_jobs().items():
             if job in self.waiting:
                 continue
             self.waiting[job] = table, path
@@ -124,7 +126,7 @@ class WaysOut:
         if future.exception() is None:
             self.show_state(job, 0, future)
         elif self.window.get_visible():
-            name = self.window.of_printers.name_of(job.queue)
+            name = self.window.of_printers.shown_name(job.queue)
             what = Text("Nobody knows whether job {} was printed on {}.", job.number, name)
             ask = partial(self.ask_of_job, job, translated(what))
             self.report(WARNING, what, job, (_("Was it printed?"), ask))
@@ -134,9 +136,9 @@ class WaysOut:
         answers = {True: _("It is on paper"), False: _("It is not")}
         is_printed = self.window.asked_in_dialog(text, answers)
         if is_printed is not None:
-            self.end(job, is_printed)
+            self.end_job(job, is_printed)
 
-    def end(self, job: SentJob, is_printed: bool) -> None:
+    def end_job(self, job: SentJob, is_printed: bool) -> None:
         """Counts the labels of a job as printed, or forgets them."""
         if job in self.waiting:
             table, path = self.waiting.pop(job)
@@ -146,7 +148,7 @@ class WaysOut:
         self, kind: str, text: Text, job: SentJob | None = None, answer: Answer | None = None
     ) -> None:
         """Says what happened to labels."""
-        self.window.events.show(Event(kind, whole(text), answer, job))
+        self.window.events.show_event(Event(kind, whole_sentence(text), answer, job))
 
     def watch(self, job: SentJob, count: int) -> None:
         """Looks at a job."""
@@ -159,7 +161,7 @@ class WaysOut:
         """
         if not self.window.get_visible():
             return
-        name = self.window.of_printers.name_of(job.queue)
+        name = self.window.of_printers.shown_name(job.queue)
         error = future.exception()
         if error is not None:
             self.show_away(job, count, error)
@@ -172,9 +174,9 @@ class WaysOut:
             event = replace(event, sentence=f"{event.sentence} {moved}".strip())
         if event is not None and self.told.get(job) != event.sentence:
             self.told[job] = event.sentence
-            self.window.events.show(event)
+            self.window.events.show_event(event)
         if state.is_over:
-            self.end(job, state.is_printed)
+            self.end_job(job, state.is_printed)
         else:
             GLib.timeout_add(WATCH, self.watch, job, count)
 
@@ -186,7 +188,7 @@ class WaysOut:
         is_gone = isinstance(error, UnknownJob)
         is_given_up = is_gone or time.monotonic() - since > AWAY
         told = error if isinstance(error, UnknownJob) else job.unseen()
-        name = self.window.of_printers.name_of(job.queue)
+        name = self.window.of_printers.shown_name(job.queue)
         sent = Text("Job {} was sent to {}.", job.number, name)
         if count:
             sent = counted(
@@ -197,7 +199,7 @@ class WaysOut:
                 job.number,
             )
         hint = told.hint if is_given_up else Text("it is looked for again")
-        parts = sent, whole(told.what), whole(hint)
+        parts = sent, whole_sentence(told.what), whole_sentence(hint)
         text = joined(" ", parts)
         said = translated(text)
         answer = (_("Was it printed?"), partial(self.ask_of_job, job, said))
@@ -227,9 +229,9 @@ class WaysOut:
             text = counted("{} label is saved as {}.", "{} labels are saved as {}.", count, name)
             return Sent(None, text, count, SUCCESS)
 
-        self.send(way, self.window.made.labels)
+        self.send_out(way, self.window.made.labels)
 
-    def ask(self) -> None:
+    def ask_and_print(self) -> None:
         """Asks what is printed, and prints it; or asks for a file, if that is chosen."""
         printer = self.window.of_printers.chosen
         if printer is None:
@@ -238,7 +240,7 @@ class WaysOut:
             hint = Text("switch it on, or choose another printer")
             self.window.show_problem(ToolError(Text("{} is not found", printer.name), hint))
         elif printer.way == QUEUE:
-            self.window.work.start(partial(queue_and_choices, printer.key), self.ask_queue)
+            self.window.work.begin_work(partial(queue_and_choices, printer.key), self.ask_queue)
         else:
             self.ask_direct(printer)
 
@@ -253,9 +255,9 @@ class WaysOut:
         printer = self.window.of_printers.chosen
         if job.form.is_drawn and dpi % job.plan.dpi:
             what = Text("{} prints at {} dpi: the labels are drawn for it now", queue.name, dpi)
-            self.window.take(dpi=str(dpi))
+            self.window.take_values(dpi=str(dpi))
             self.window.make(problem=ToolError(what, Text("check them, and print again")))
-        elif printer and (wanted := self.printing.ask(printer, labels, options)):
+        elif printer and (wanted := self.printing.ask_what_is_printed(printer, labels, options)):
             if not wanted.is_trial:
                 kept = PRINTERS.all().get(printer.key, {})
                 others = {name: word for name, word in kept.items() if name not in options}
@@ -264,15 +266,16 @@ class WaysOut:
 
     def print_on(self, queue: Queue, wanted: Printout) -> None:
         """Prints labels on a queue as label-print does."""
-        name = self.window.of_printers.name_of(queue.name)
+        name = self.window.of_printers.shown_name(queue.name)
 
         def way(labels: Prepared, talk: WindowTalk) -> Sent:
-            sent, _text = print_on(labels, queue, talk, wanted.options)
+            sent, _text = print_by_cups(labels, queue, talk, wanted.options)
             count = len(labels.prints)
-            parts = whole(sent_to(count, name)), whole(windowed(queue.doubt(labels.job)))
+            doubt = windowed(queue.resolution_doubt(labels.job))
+            parts = whole_sentence(sent_to(count, name)), whole_sentence(doubt)
             return Sent(sent, joined(" ", filter(None, parts)), count)
 
-        self.send(way, wanted.labels, not wanted.is_trial)
+        self.send_out(way, wanted.labels, not wanted.is_trial)
 
     def ask_direct(self, printer: Printer) -> None:
         """Asks what is printed on a printer that takes labels one by one."""
@@ -280,7 +283,7 @@ class WaysOut:
         if not labels.job.form.is_roll:
             what = Text("{} needs labels one by one", printer.name)
             self.window.show_problem(ToolError(what, Text("choose what the printer takes")))
-        elif wanted := self.printing.ask(printer, labels, {}):
+        elif wanted := self.printing.ask_what_is_printed(printer, labels, {}):
             self.send_to(printer.key, wanted.labels, not wanted.is_trial)
 
     def ask_to_go_on(self, problem: Unfinished) -> None:
@@ -299,11 +302,11 @@ class WaysOut:
                 return
             done += is_there
         if done - labels.job.options.after < len(labels.prints):
-            self.go_on(problem.printer, done)
+            self.send_rest(problem.printer, done)
         elif counts:
             self.window.made.table.keep_printed(self.window.made, labels)
 
-    def go_on(self, printer: str, done: int) -> None:
+    def send_rest(self, printer: str, done: int) -> None:
         """Sends the labels of a job to a printer that took some of them, behind these."""
         labels, counts = self.sending
         job = labels.job
@@ -315,14 +318,14 @@ class WaysOut:
         self, printer: str, labels: Prepared, counts: bool = True, is_rest: bool = False
     ) -> None:
         """Sends to a printer in the network or on USB what label-print sends."""
-        name = self.window.of_printers.name_of(printer)
+        name = self.window.of_printers.shown_name(printer)
 
         def way(labels: Prepared, talk: WindowTalk) -> Sent:
             talk.printer = name
-            sender = send_to(labels, printer, talk, talk.stops)
+            sender = send_labels_to(labels, printer, talk, talk.stops)
             return direct_sent(sender, name, len(labels.prints))
 
-        self.send(way, labels, counts, is_rest)
+        self.send_out(way, labels, counts, is_rest)
 
 
 def confirmed(dialog: Any) -> bool:
@@ -347,7 +350,7 @@ def direct_sent(sender: Sender, name: str, count: int) -> Sent:
     """Returns what there is to say of labels that a printer took one by one, and says itself."""
     if sender.is_printed:
         return Sent(None, printed_on(count, name), count, SUCCESS)
-    parts = sent_to(count, name), *map(whole, sender.troubles)
+    parts = sent_to(count, name), *map(whole_sentence, sender.troubles)
     return Sent(None, joined(" ", parts), count, WARNING if sender.is_stuck else INFO)
 
 
@@ -358,10 +361,10 @@ def event_of(job: SentJob, count: int, state: JobState, name: str) -> Event | No
     if state.is_printed:
         text = Text("Job {} is printed on {}.", job.number, name)
         if count and state.is_raw:
-            text = joined(" ", (sent_to(count, name), whole(state.told)))
+            text = joined(" ", (sent_to(count, name), whole_sentence(state.told)))
         elif count:
             text = printed_on(count, name)
-        return Event(SUCCESS, whole(text), None, job)
+        return Event(SUCCESS, whole_sentence(text), None, job)
     if state.is_over and state.is_begun:
         why = state.trouble
         text = Text("Labels of job {} may be on paper: {}", job.number, why)
@@ -369,7 +372,7 @@ def event_of(job: SentJob, count: int, state: JobState, name: str) -> Event | No
             text = counted(
                 "{} label may be on paper: {}", "Some of {} labels may be on paper: {}", count, why
             )
-        return Event(ERROR, whole(text), None, job)
+        return Event(ERROR, whole_sentence(text), None, job)
     if state.is_over:
         why = state.trouble
         text = Text("Job {} is not printed: {}", job.number, why)
@@ -377,7 +380,7 @@ def event_of(job: SentJob, count: int, state: JobState, name: str) -> Event | No
             text = counted(
                 "{} label is not printed: {}", "{} labels are not printed: {}", count, why
             )
-        return Event(ERROR, whole(text), None, job)
+        return Event(ERROR, whole_sentence(text), None, job)
     if state.is_waiting or state.trouble:
         text = Text("Job {} is waiting.", job.number)
         if count:
@@ -386,7 +389,7 @@ def event_of(job: SentJob, count: int, state: JobState, name: str) -> Event | No
         parts = text, Text("{}: {}", name, reason), windowed(state.cure)
         show = partial(open_settings, job.queue)
         answer = _("Show the queue"), show
-        return Event(WARNING, " ".join(filter(None, map(whole, parts))), answer, job)
+        return Event(WARNING, " ".join(filter(None, map(whole_sentence, parts))), answer, job)
     return None
 
 

@@ -49,12 +49,12 @@ from labeltools.window.gtk import (
     Gtk,
     leave_wheel,
     widen,
-    within,
+    widgets_within,
 )
 from labeltools.window.presets import Presets
 from labeltools.window.preview import Preview
-from labeltools.window.printers import Printers
-from labeltools.window.questions import Answers, asked_at, CENTS, Questions, said, which
+from labeltools.window.printers import Printers, usual_dpi
+from labeltools.window.questions import Answers, asked_at, CENTS, Questions, reason_and_hint, which
 from labeltools.window.shop import MadeLabels, skipped, Table
 from labeltools.window.ways import WaysOut
 from labeltools.window.widgets import widgets_of
@@ -73,7 +73,6 @@ RANGES = {"header_row": (0, 1000), "first": (1, 10_000), "width": (5, 500), "hei
 MOST_NOTES = 2000
 MOST_HELPS = 3  # buttons above the notes
 LOW = 700  # pixels of a window in which the list of notes is closed at first
-USUAL_DPI = {"zpl": "203", "escpos": "203"}  # of the printers of these languages
 LISTED = 400  # milliseconds after a letter in which GTK shows the list of what fits
 LEAST_WRAP = 150  # pixels in which reasons are wrapped
 WRAP_MARGIN = 20  # pixels of the list beside the reasons
@@ -126,7 +125,7 @@ class Window(ApplicationWindow):
             {
                 "open": self.ask_table,
                 "save": partial(self.when_made, self.ways.ask_file),
-                "print": partial(self.when_made, self.ways.ask),
+                "print": partial(self.when_made, self.ways.ask_and_print),
                 "command": self.widgets.line.popup,
             },
         )
@@ -188,7 +187,7 @@ class Window(ApplicationWindow):
 
     def offer_sheets(self, entry: Any) -> None:
         """Offers the sheets that label-print lists for what is typed, first those that begin so."""
-        sheets.offer_sheets(self.widgets.sheets, entry.get_text().lower())
+        sheets.fill_with_sheets(self.widgets.sheets, entry.get_text().lower())
         GLib.timeout_add(LISTED, show_first)
 
     def show_problem(self, problem: ToolError, answers: Answers = ()) -> None:
@@ -210,13 +209,13 @@ class Window(ApplicationWindow):
         if self.table is None and not remedies and not any(self.further):
             self.widgets.stack.set_visible_child_name("empty")
         if self.table is None and remedies:
-            hint = said(NOTHING, problem.hint)
-            self.questions.ask_of_file(said(problem.what), hint, found)
+            hint = reason_and_hint(NOTHING, problem.hint)
+            self.questions.ask_of_file(reason_and_hint(problem.what), hint, found)
         elif len(found) > 1 and places:
-            self.questions.ask(places[0], said(problem.what, problem.hint), found)
+            self.questions.ask_below(places[0], reason_and_hint(problem.what, problem.hint), found)
         else:
-            text = said(problem.what, problem.hint)
-            self.events.show(Event(ERROR, text, found[0] if found else None))
+            text = reason_and_hint(problem.what, problem.hint)
+            self.events.show_event(Event(ERROR, text, found[0] if found else None))
 
     def offer(self, box: Any, answers: Answers) -> None:
         """Offers answers in a box, a button for each."""
@@ -240,20 +239,20 @@ class Window(ApplicationWindow):
             for remedy in every
             if remedy.says and self.is_wanted(remedy) and remedy not in harmful
         ]
-        return [(translated(remedy.says), partial(self.follow, remedy)) for remedy in found]
+        return [(translated(remedy.says), partial(self.take_remedy, remedy)) for remedy in found]
 
     def is_wanted(self, remedy: Remedy) -> bool:
         """Returns whether a button gives a remedy: prices whose form is chosen are no texts."""
         is_text = remedy.option == "price-text" and not remedy.is_less
         return remedy.option != "after" and not (is_text and self.choices().price_as)
 
-    def follow(self, remedy: Remedy) -> None:
+    def take_remedy(self, remedy: Remedy) -> None:
         """Takes a choice that helps: what is typed first, since its control is slow to tell."""
         choices = self.choices()
-        changed = choices.changes(chosen_with(choices, remedy))
+        changed = choices.differing_values(chosen_with(choices, remedy))
         given = {name: value for name, value in changed.items() if name in FURTHER.values()}
-        self.take(**{name: value for name, value in changed.items() if name not in given})
-        self.take(**given)
+        self.take_values(**{name: value for name, value in changed.items() if name not in given})
+        self.take_values(**given)
 
     def ways_on(self, problem: ToolError) -> Answers:
         """Returns how labels go on that a printer took some of."""
@@ -283,7 +282,7 @@ class Window(ApplicationWindow):
     def take_together(self, sides: Mapping[str, float]) -> None:
         """Takes the sides of a label, and makes the labels once."""
         with self.filling():
-            self.take(**sides)
+            self.take_values(**sides)
         self.make()
 
     def asked_in_dialog(self, text: str, answers: Mapping[bool, str]) -> bool | None:
@@ -299,7 +298,7 @@ class Window(ApplicationWindow):
 
     def tell(self, text: str) -> None:
         """Tells what happened that is neither good nor bad."""
-        self.events.show(Event(INFO, text))
+        self.events.show_event(Event(INFO, text))
 
     def on_key(self, _window: "Window", event: Any) -> bool:
         """Closes the bar by Escape, where nothing else takes that key."""
@@ -328,8 +327,8 @@ class Window(ApplicationWindow):
 
     def on_destroy(self, _window: "Window") -> None:
         """Ends work."""
-        self.work.close()
-        self.of_printers.close()
+        self.work.abandon()
+        self.of_printers.stop_looking()
 
     def on_stop(self, _button: Any) -> None:
         """Ends work; where a table was being read, another one can be opened."""
@@ -349,7 +348,7 @@ class Window(ApplicationWindow):
         finally:
             self.is_filling = before
 
-    def open(self, path: Path, header: int | None = None, is_again: bool = False) -> None:
+    def open_table(self, path: Path, header: int | None = None, is_again: bool = False) -> None:
         """Reads a table, guesses its columns or takes those of the last time, and makes labels."""
         if not is_again:
             if self.work.talk.is_sending:
@@ -365,15 +364,15 @@ class Window(ApplicationWindow):
         with self.filling():
             self.widgets.columns.clear()
             self.widgets.price_as.remove_all()
-            self.take(**further_values(self.further))
-            self.take(symbology=None)  # nothing is read yet
+            self.take_values(**further_values(self.further))
+            self.take_values(symbology=None)  # nothing is read yet
         for part in (self.widgets.new_only, self.widgets.result):
             part.hide()
         self.questions.clear()
         self.widgets.head.set_subtitle(path.name)
         self.widgets.stack.set_visible_child_name("work")
         doing = _("reading {file}…").format(file=path.name)
-        self.work.start(partial(Table, path, further, header), self.take_table, doing)
+        self.work.begin_work(partial(Table, path, further, header), self.take_table, doing)
 
     def go_back(self, before: "Before") -> None:
         """Opens the table again that was open before a file that is no table, and says what that
@@ -383,20 +382,20 @@ class Window(ApplicationWindow):
         self.chosen, self.names = before.choices, before.names
         self.path = before.path
         with self.filling():
-            self.take(**further_values(before.further))
-        self.open(before.path, is_again=True)
+            self.take_values(**further_values(before.further))
+        self.open_table(before.path, is_again=True)
 
     def take_table(self, table: Table) -> None:
         """Makes the labels of a table that was read."""
         with self.filling():
-            self.fill(table)
+            self.fill_columns(table)
         self.is_new = self.table is None and not self.chosen
         self.table = table
         problem, self.before = self.before.problem if self.before else None, None
         Gtk.RecentManager.get_default().add_item(table.path.absolute().as_uri())
         self.make(problem=problem)
 
-    def fill(self, table: Table) -> None:
+    def fill_columns(self, table: Table) -> None:
         """Fills the choices of columns for a table."""
         guess = table.guess
         self.widgets.columns.append([_("no column"), ""])
@@ -404,8 +403,8 @@ class Window(ApplicationWindow):
             name = name or _("column {number}").format(number=number)
             self.widgets.columns.append([with_example(name, example), str(number)])
         columns = {field_of(kind): str(place + 1) for kind, place in guess.columns.items()}
-        self.take(**{**dict.fromkeys(COLUMNS, ""), "code": "1", **columns})
-        self.take(**dict.fromkeys(map(field_of, guess.doubts)))  # only the keeper knows
+        self.take_values(**{**dict.fromkeys(COLUMNS, ""), "code": "1", **columns})
+        self.take_values(**dict.fromkeys(map(field_of, guess.doubts)))  # only the keeper knows
         # a table that is read again, by other words, keeps what is chosen
         is_same = guess.names == self.names
         kept = kept_of(self.chosen) if self.chosen and is_same else self.kept(table)
@@ -414,20 +413,20 @@ class Window(ApplicationWindow):
         self.widgets.given_table.word_by = partial(first_word, table.data)
         for name in COLUMNS:
             widen(self.control(name), 0)
-        self.take(**{"symbology": guess.rules.symbology, **own})
+        self.take_values(**{"symbology": guess.rules.symbology, **own})
         self.of_printers.recall(kept)
         self.offer_patterns(table)
-        self.take(**({"price_as": own["price_as"]} if "price_as" in own else {}))
+        self.take_values(**({"price_as": own["price_as"]} if "price_as" in own else {}))
         self.widgets.text_2.set_visible(self.choices().text_2)
         self.further = table.further
-        self.take(header_row=guess.header)
-        since = table.printed_on()
+        self.take_values(header_row=guess.header)
+        since = table.last_printed_on()
         text = _("Onl_y what is new or changed since {date}").format(date=since)
         self.widgets.new_only.set_label(text)
         self.widgets.new_only.get_child().set_line_wrap(True)  # of a label that is new, too
         self.widgets.new_only.set_visible(since)
         if not since:
-            self.take(new_only=False)
+            self.take_values(new_only=False)
 
     def kept(self, table: Table) -> Kept:
         """Returns the choices that are kept for a table, or else those of the one before."""
@@ -438,7 +437,7 @@ class Window(ApplicationWindow):
         """Returns the further options by which a table is to be read."""
         return self.choices().further_of_table
 
-    def take(self, **values: Any) -> None:
+    def take_values(self, **values: Any) -> None:
         """Takes values of choices by their fields, but for what somebody has written into the file
         of them.
         """
@@ -488,7 +487,7 @@ class Window(ApplicationWindow):
             chosen = self.choices()
             self.chosen = chosen
             self.questions.clear()
-            self.of_printers.ask()
+            self.of_printers.ask_about_chosen()
             guess = self.table.guess
             doubts: dict[str, Sequence[int]] = {"code": [*guess.codes], **guess.doubts}
             for kind, places in doubts.items():
@@ -500,7 +499,7 @@ class Window(ApplicationWindow):
                 return
             work = partial(self.table.made, chosen)
             doing = _("reading {file}…").format(file=self.table.path.name)
-            self.work.start(work, partial(self.show_labels, problem, then), doing)
+            self.work.begin_work(work, partial(self.show_labels, problem, then), doing)
 
     def ask_column(self, table: Table, kind: str, places: Sequence[int]) -> None:
         """Asks which of some columns has something: only the keeper knows."""
@@ -512,7 +511,7 @@ class Window(ApplicationWindow):
             )
             for place in places
         ]
-        self.questions.ask(kind, which(kind), answers)
+        self.questions.ask_below(kind, which(kind), answers)
 
     def on_price(self, _price: Any) -> None:
         """Makes the labels with the prices of another column, which are printed as they are."""
@@ -529,14 +528,14 @@ class Window(ApplicationWindow):
         self.widgets.price_as.append("", with_example(_("as in the table"), example))
         for shown, pattern in table.price_patterns(price) if price else ():
             self.widgets.price_as.append(pattern, shown)
-        self.take(price_as=table.guessed_pattern(price or ""))
+        self.take_values(price_as=table.guessed_pattern(price or ""))
 
     def on_more(self, _button: Any) -> None:
         """Asks for a second text, or for none any more."""
         is_asked = not self.widgets.text_2.get_visible()
         self.widgets.text_2.set_visible(is_asked)
         if not is_asked:
-            self.take(text_2="")
+            self.take_values(text_2="")
 
     def on_printer(self, printer: Any) -> None:
         """Makes the labels for another printer."""
@@ -552,7 +551,7 @@ class Window(ApplicationWindow):
         form = language.get_active_id()
         if not self.is_filling and not self.of_printers.take_language(form):
             with self.filling():
-                self.take(dpi=USUAL_DPI.get(form, "600"))
+                self.take_values(dpi=str(usual_dpi(form)))
             self.make()
 
     def offer_resolution(self, dpi: str) -> None:
@@ -598,7 +597,7 @@ class Window(ApplicationWindow):
         self.widgets.design_opener.set_current_folder(str((last or Path()).absolute().parent))
         is_found = self.widgets.design_opener.run() == Gtk.ResponseType.ACCEPT
         name = self.widgets.design_opener.get_filename() if is_found else self.last_design
-        self.take(design=name)
+        self.take_values(design=name)
 
     def on_sheet(self, entry: Any, _event: Any = None) -> bool:
         """Makes the labels once a sheet is named as it is listed; else they are made when its name
@@ -629,7 +628,7 @@ class Window(ApplicationWindow):
         notes = [note for note in made.notes if note.origin or note not in asked]
         for note in notes[:MOST_NOTES]:
             row = str(note.origin.number) if note.origin else ""
-            why = designs.without_folder(said(note.reason, note.hint))
+            why = designs.without_folder(reason_and_hint(note.reason, note.hint))
             self.widgets.notes.append([row, note.data, why])
         hints = [note.hint for note in notes if note not in asked]
         self.offer(self.widgets.helps, self.remedies(hints, made.harmful)[:MOST_HELPS])
@@ -639,15 +638,15 @@ class Window(ApplicationWindow):
         self.widgets.result.show()
         if asked:
             first = asked[0]
-            text = translated(CENTS) if first.origin else said(first.reason)
-            self.questions.ask("price", text, self.remedies([first.hint]))
+            text = translated(CENTS) if first.origin else reason_and_hint(first.reason)
+            self.questions.ask_below("price", text, self.remedies([first.hint]))
         if made.labels.prints or not asked:
             check_count(made.labels.job, made.labels.prints)
             self.has_labels = True
         self.let_out(self.has_labels)
-        self.go_on(problem, then)
+        self.do_when_shown(problem, then)
 
-    def go_on(self, problem: ToolError | None, then: Callable[[], object] | None) -> None:
+    def do_when_shown(self, problem: ToolError | None, then: Callable[[], object] | None) -> None:
         """Does what has to wait for labels, once they are shown."""
         if self.is_new:
             self.is_new = False
@@ -726,16 +725,16 @@ class Window(ApplicationWindow):
         folder = self.path.absolute().parent if self.path else documents or Path.home()
         self.widgets.opener.set_current_folder(str(folder))
         if self.widgets.opener.run() == Gtk.ResponseType.ACCEPT:
-            self.open(Path(self.widgets.opener.get_filename()))
+            self.open_table(Path(self.widgets.opener.get_filename()))
 
     def on_drop(self, _widget: Any, *event: Any) -> None:
         """Opens a table that was dropped."""
         for uri in event[3].get_uris()[:1]:
-            self.open(Path(Gio.File.new_for_uri(uri).get_path() or uri))
+            self.open_table(Path(Gio.File.new_for_uri(uri).get_path() or uri))
 
     def on_recent(self, recent: Any) -> None:
         """Opens a table that was opened before."""
-        self.open(Path(recent.get_current_item().get_uri_display()))
+        self.open_table(Path(recent.get_current_item().get_uri_display()))
 
     def reopen(self, control: Any) -> None:
         """Reads the table by other words, such as its encoding, or with names in another row."""
@@ -743,7 +742,7 @@ class Window(ApplicationWindow):
             is_header = control is self.widgets.header_row
             if is_header or self.further_chosen() != self.further:
                 header = control.get_value_as_int() if is_header else None
-                self.open(self.path, header, is_again=True)
+                self.open_table(self.path, header, is_again=True)
 
 
 def show_first() -> bool:
@@ -752,7 +751,7 @@ def show_first() -> bool:
     """
     for toplevel in Gtk.Window.list_toplevels():
         if toplevel.get_type_hint() == Gdk.WindowTypeHint.COMBO and toplevel.get_visible():
-            for part in within(toplevel):
+            for part in widgets_within(toplevel):
                 if isinstance(part, Gtk.TreeView):
                     part.scroll_to_point(-1, 0)
     return False

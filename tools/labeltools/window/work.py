@@ -29,7 +29,7 @@ class Work:
         self.thread = ThreadPoolExecutor(1)
         self.talk = WindowTalk()
 
-    def start(
+    def begin_work(
         self,
         work: Callable[[WindowTalk], Any],
         then: Callable[[Any], object],
@@ -43,10 +43,12 @@ class Work:
         self.window.widgets.working.hide()
         self.window.let_out(False)
         future = self.thread.submit(work, self.talk)
-        future.add_done_callback(partial(GLib.idle_add, self.end, self.talk, then))
+        future.add_done_callback(partial(GLib.idle_add, self.show_result, self.talk, then))
         GLib.timeout_add(PATIENCE, self.show_progress, self.talk)
 
-    def end(self, talk: WindowTalk, then: Callable[[Any], object], future: "Future[Any]") -> None:
+    def show_result(
+        self, talk: WindowTalk, then: Callable[[Any], object], future: "Future[Any]"
+    ) -> None:
         """Shows what came of work, but of what nobody wants any more."""
         is_wanted = talk.is_sending or not talk.stops
         if not (is_wanted and self.window.get_visible()):
@@ -80,7 +82,7 @@ class Work:
             self.leave()
         return not self.talk.is_sending
 
-    def close(self) -> None:
+    def abandon(self) -> None:
         """Ends work, of which nobody is told."""
         self.talk.stop()
         self.talk = WindowTalk()

@@ -6,9 +6,9 @@ from collections.abc import Collection, Mapping, Sequence, Set
 from decimal import Decimal
 
 from labeltools.tables.column_samples import ColumnSample
-from labeltools.tables.money import WORDS
+from labeltools.tables.price_words import PRICE_WORDS
 
-RATES = [1 + Decimal(rate) / 100 for rate in WORDS["tax-rates"]]
+RATES = [1 + Decimal(rate) / 100 for rate in PRICE_WORDS["tax-rates"]]
 MOST_RATES = 2  # of a tax in a table, beside zero
 MOST_WRONG = Decimal("0.2")  # part of the amounts with a tax that somebody typed wrong
 ROUNDED_OFF = Decimal("0.012")  # what rounding may change in a price
