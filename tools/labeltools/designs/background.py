@@ -7,11 +7,10 @@ from typing import Any
 import cairo
 
 from labeltools.designs.design import Below
-from labeltools.designs.places import Place
 from labeltools.designs.svg_design import lightness, SvgDesign
-from labeltools.designs.svg_layout import svg_layout
 from labeltools.layout.layout import Page
 from labeltools.layout.medium import Medium
+from labeltools.layout.place import Place
 from labeltools.paper.plan import Dots, MILLIMETRES, POINTS
 
 UPRIGHT = cairo.Matrix()
@@ -69,12 +68,11 @@ class Background(Below):
         is_dots = self.medium.is_dots
         is_first = is_dots and [place for _, place in page] == [(0, 0)]
         if is_first and canvas.get_matrix() == UPRIGHT:
-            self.begin(canvas.get_target(), svg_layout(page[0][0]).absent)
+            self.begin(canvas.get_target(), page[0][0].absent)
             return
         for item, place in page:
-            absent = svg_layout(item).absent
             own = place if self.has_patterns else None
-            drawing = self.dots(absent, None) if is_dots else self.recorded(absent, own)
+            drawing = self.dots(item.absent, None) if is_dots else self.recorded(item.absent, own)
             if drawing:
                 canvas.save()
                 canvas.translate(*place)

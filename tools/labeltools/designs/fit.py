@@ -12,11 +12,12 @@ from typing import NamedTuple
 
 from labeltools.common.messages import quoted, ToolError
 from labeltools.common.text import Text
-from labeltools.designs.places import Place
 from labeltools.layout.fitting import Style
 from labeltools.layout.frame import common_value, HINTING, LEAST_TEXT, LINE
 from labeltools.layout.glyphs import LINE_END
+from labeltools.layout.layout import PlacedText
 from labeltools.layout.letters import BLANK, extent_of, Letters, Sign
+from labeltools.layout.place import Place
 from labeltools.paper.box import Box
 
 SIDE = 1 / 8  # white at both sides of wrapped lines, in letters
@@ -33,15 +34,6 @@ ENLARGE = Text("enlarge it")
 
 class NoRoom(ToolError):
     """Why a price or a symbol has no room in its place."""
-
-
-class PlacedText(NamedTuple):
-    """A text in the box of a place, with the ends of its lines, and how it is written."""
-
-    place: Place
-    text: str
-    box: Box
-    style: Style
 
 
 class Fit(NamedTuple):
@@ -89,7 +81,7 @@ class Room:
     def new_largest(self, lines: int) -> int:
         """Returns the largest letters of a number of lines."""
         size = int(self.high / ((lines - 1) * LINE + self.bottom - self.top))
-        wished = int(self.place.size / self.dot)
+        wished = self.place.letters_in(self.dot)
         return min(size, wished) if wished else size
 
     def of(self, text: str) -> Letters:

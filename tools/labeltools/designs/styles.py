@@ -5,7 +5,7 @@ from functools import cache, lru_cache
 from itertools import accumulate, pairwise
 from typing import Mapping, NamedTuple, Sequence
 
-from labeltools.layout.fitting import Fitted, LEFT, MIDDLE, Placed, RIGHT, Style
+from labeltools.layout.fitting import Fitted, LEFT, Placed, RIGHT, Style
 from labeltools.layout.frame import HINTING, styles_from
 from labeltools.layout.glyphs import GlyphRow, LineFont
 from labeltools.layout.letters import Letters
@@ -66,19 +66,18 @@ class PriceLine(NamedTuple):
         return Placed(text, self.style, self.box)
 
 
-def chosen_style(
-    shape: str, wanted: str, arrangement: str, size: int, box: Box, letters: Letters
-) -> ChosenStyle:
+def chosen_style(shape: str, wanted: str, style: Style, box: Box, letters: Letters) -> ChosenStyle:
     """Returns how prices of a shape are written in a box: in the first of their styles that has
     room.
     """
+    size = style.size
     for name in styles_from(wanted):
         own = letters_of(name, shape, letters)
         found = raised(shape, own) if name.endswith("raised") else None
         wide = found.width if found else own.width(shape, True)
         if HINTING * wide * size <= box.width + size / ROUNDED_PRICE:
             break
-    style = style_of(own.family, "price", arrangement, size, 0)
+    style = in_font(style, own.family)
     if found is None:
         return ChosenStyle(own, style, found, box.left, box.right)
     size = min(size, math.floor(box.width / wide / HINTING))
@@ -89,10 +88,10 @@ def chosen_style(
 
 @lru_cache(KEPT)
 def price_places(
-    shape: str, wanted: str, arrangement: str, size: int, box: Box, letters: Letters
+    shape: str, wanted: str, style: Style, box: Box, letters: Letters
 ) -> Sequence[PricePlace]:
     """Returns where the parts of prices of a shape are in a box."""
-    own, style, found, start, end = chosen_style(shape, wanted, arrangement, size, box, letters)
+    own, style, found, start, end = chosen_style(shape, wanted, style, box, letters)
     if found is None:
         return [PricePlace(0, len(shape), style, box)]
     size = style.size
@@ -115,12 +114,12 @@ def price_places(
 
 @lru_cache(KEPT)
 def price_line(
-    shape: str, wanted: str, arrangement: str, size: int, box: Box, letters: Letters
+    shape: str, wanted: str, style: Style, box: Box, letters: Letters
 ) -> PriceLine | None:
     """Returns prices of a shape with raised cents as a line of glyphs in a box; None where cents
     are not raised, or no font can be made of their letters.
     """
-    own, style, found, start, end = chosen_style(shape, wanted, arrangement, size, box, letters)
+    own, style, found, start, end = chosen_style(shape, wanted, style, box, letters)
     font = price_font(shape, own) if found else None
     if found is None or font is None:
         return None
@@ -179,17 +178,6 @@ def letter_places(
 
 
 @cache
-def style_of(family: str, kind: str, arrangement: str, size: int, lines: int) -> Style:
-    """Returns how a part of a label is written; `lines` are those of each line of a title."""
-    words, numbers = {
-        "below": (MIDDLE, MIDDLE),
-        "left": (LEFT, LEFT),
-    }.get(arrangement, (LEFT, RIGHT))
-    across, down = {
-        "title": (words, 0.0),
-        "text": (RIGHT, 1.0) if arrangement == "foot" else (words, 0.0),
-        "price": (numbers, 0.5),
-        "details": (numbers, 1.0 if arrangement == "below" else 0.0),
-    }[kind]
-    is_bold = kind in ("title", "price")
-    return Style(family, is_bold, size, lines, across, down, 0)
+def in_font(style: Style, family: str) -> Style:
+    """Returns a style in the letters of a font."""
+    return style._replace(family=family)

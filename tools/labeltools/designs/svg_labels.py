@@ -5,14 +5,13 @@ from typing import Iterator, Mapping, Sequence
 
 from labeltools.common.messages import Talk
 from labeltools.designs.background import Background
-from labeltools.designs.design import Below, NO_BOX, PlacedSymbol, Setting
+from labeltools.designs.design import Below, Setting
 from labeltools.designs.svg_design import BLACK, SvgDesign
-from labeltools.designs.svg_layout import svg_layout, SvgLayouts
+from labeltools.designs.svg_layout import SvgLayouts
 from labeltools.layout.fitting import Colour, Fitter, Placed, Style
 from labeltools.layout.layout import LaidOut, LaidOutFile
 from labeltools.layout.medium import Medium
 from labeltools.lines.file import Record
-from labeltools.paper.box import Box
 
 LIGHTEST = 0.999  # a part of a colour that is white in 255 steps
 
@@ -41,15 +40,10 @@ class SvgLabels:
         """Returns the drawing."""
         return Background(self.design, medium)
 
-    def symbols(self, item: LaidOut, area: Box = NO_BOX) -> Sequence[PlacedSymbol]:
-        """Returns the symbols of a label."""
-        return svg_layout(item).symbols
-
     def texts(self, item: LaidOut, fitter: Fitter, below: Below) -> Iterator[Placed]:
         """Yields the texts of a label as they fit their boxes."""
-        layout = svg_layout(item)
-        colours = self.colours(layout.absent) if layout.absent else {}
-        for place, text, box, style in layout.texts:
+        colours = self.colours(item.absent) if item.absent else {}
+        for place, text, box, style in item.texts:
             colour = colours.get(place, place.colour) or BLACK
             is_black = colour == BLACK
             is_edged = is_black and below.is_tinted(place)
@@ -58,9 +52,9 @@ class SvgLabels:
             shown = None if is_black else off_white(colour)
             yield Placed(fitted, style, box, place.quarters, shown, is_edged)
 
-    def cut_texts(self, item: LaidOut, fitter: Fitter) -> Iterator[tuple[str, Style, int, int]]:
+    def cut_texts(self, item: LaidOut) -> Iterator[tuple[str, Style, int, int]]:
         """Yields the texts of a label that may be cut, with their room."""
-        for place, text, box, style in svg_layout(item).texts:
+        for place, text, box, style in item.texts:
             yield text, style, *place.as_read(box)
 
 

@@ -11,14 +11,13 @@ from typing import Iterator, Mapping, NamedTuple, Sequence
 
 from labeltools.common.messages import sentence, Talk, ToolError
 from labeltools.common.text import Remedy, Text
-from labeltools.designs.design import PlacedSymbol
-from labeltools.designs.fit import ENLARGE, NoRoom, PlacedText, Room
-from labeltools.designs.places import key_of, PARTS, Place
+from labeltools.designs.fit import ENLARGE, NoRoom, Room
 from labeltools.designs.svg_design import mixed_text, NEAR, SvgDesign, UNREAD
 from labeltools.layout.area import Area, LARGEST_MODULE
-from labeltools.layout.frame import DIGITS_ROOM, Frame, LOWEST
-from labeltools.layout.layout import ASKED, LaidOut, LaidOutFile, Layout, short
+from labeltools.layout.frame import DIGITS_ROOM, LOWEST
+from labeltools.layout.layout import ASKED, LaidOut, LaidOutFile, PlacedSymbol, short
 from labeltools.layout.letters import Letters
+from labeltools.layout.place import key_of, PARTS, Place
 from labeltools.lines.engine import drawn, Modules
 from labeltools.lines.file import Record, symbology_and_data
 from labeltools.lines.reasons import Refused
@@ -29,18 +28,6 @@ from labeltools.paper.stock import size_text
 
 FIELDS = ("title", "price", "unit", "was", "code")  # of each label
 KEPT = 16  # columns of labels
-NO_FRAME = Frame("own", {}, {}, 0, 0, 0, 0, 0, 0, True, 0.0, 0.0, "price", 0.0)
-
-
-@dataclass(frozen=True, slots=True)
-class SvgLayout(Layout):
-    """What is on a label beside the drawing, and the parts that it has not, whose groups are not
-    drawn; as a layout it is that of its finest symbol of QR, or else of its finest one.
-    """
-
-    texts: tuple[PlacedText, ...]
-    symbols: tuple[PlacedSymbol, ...]
-    absent: frozenset[str]
 
 
 class Values(NamedTuple):
@@ -111,18 +98,9 @@ class SvgLayouts:
         self.own = frozenset(key for place in self.places for key in (place.key, place.part))
         self.known = self.own | {*groups, *groups.values()}.difference(PARTS)
         self.asked = frozenset(PARTS).union(map(key_of, self.empty))
-        self.boxes = {place: self.box_of(place) for place in self.places}
+        self.boxes = {place: place.box_in(self.area) for place in self.places}
         self.boxes_of = cache(self.new_boxes)
         self.unread = cache(lambda absent: self.design.mixed(absent, UNREAD, 0.5))
-
-    def box_of(self, place: Place) -> Box:
-        """Returns the dots of a place that the paper takes."""
-        dot = self.area.dot
-        left, top = (max(0, math.ceil(at / dot - TINY)) for at in (place.left, place.top))
-        right = math.floor((place.left + place.width) / dot + TINY)
-        bottom = math.floor((place.top + place.height) / dot + TINY)
-        wide, high = min(right, self.area.width) - left, min(bottom, self.area.height) - top
-        return Box(left, top, max(1, wide), max(1, high))
 
     def lay_out(self, labels: Sequence[Record], talk: Talk) -> LaidOutFile:
         """Returns labels with their layouts, why others are left out, and what is said of all."""
@@ -141,11 +119,9 @@ class SvgLayouts:
             texts = values[number].texts
             absent = frozenset(key for key, part in groups.items() if part not in texts)
             try:
-                layout = self.layout(label, rows[number], absent, rooms, symbols)
+                placed.append(self.laid_out(label, rows[number], absent, rooms, symbols))
             except NoRoom as problem:
                 self.left_out[label.number] = sentence(problem.what, problem.hint)
-            else:
-                placed.append(LaidOut(label, layout))
         said = ((labels[0].origin, one) for one in self.said(labels, values, rows, rooms))
         return LaidOutFile(tuple(placed), self.area, self.left_out, tuple(said if labels else ()))
 
@@ -188,15 +164,15 @@ class SvgLayouts:
             found[key] = one if isinstance(one, Refused) else (one, data)
         return found
 
-    def layout(
+    def laid_out(
         self,
         label: Record,
         row: Sequence[str],
         absent: frozenset[str],
         rooms: Mapping[Place, Room],
         made: SecondSymbols,
-    ) -> SvgLayout:
-        """Returns the layout of a label whose texts are those of a row; raises `NoRoom`."""
+    ) -> LaidOut:
+        """Returns a label whose texts are those of a row as it is laid out; raises `NoRoom`."""
         texts = []
         symbols = []
         unread = self.unread(absent)
@@ -217,9 +193,7 @@ class SvgLayouts:
             module, boxes = self.boxes_of(place, symbology.name, modules.width, modules.height)
             how = (data, modules, symbology, module, boxes)
             symbols.append(PlacedSymbol(place, self.boxes[place], *how))
-        finest = min(symbols, key=lambda one: (one.symbology.nominal > 0, one.module))
-        found = (finest.symbology, finest.module, finest.boxes, False)
-        return SvgLayout(NO_FRAME, *found, tuple(texts), tuple(symbols), absent)
+        return LaidOut(label, tuple(symbols), tuple(texts), absent)
 
     def new_boxes(
         self, place: Place, name: str, width: int, height: int
@@ -314,9 +288,3 @@ def line_of(place: Place, text: str) -> bytes:
     escaped = text.replace("\\", "\\\\").replace("\n", "\\n")
     line = f"{','.join((place.symbology, *place.settings))} {escaped}"
     return line.encode("utf-8", "surrogateescape")
-
-
-def svg_layout(item: LaidOut) -> SvgLayout:
-    """Returns the layout of a label in a design."""
-    assert isinstance(item.layout, SvgLayout)
-    return item.layout

@@ -6,23 +6,31 @@ from typing import NamedTuple, Sequence
 from labeltools.layout.area import Area
 from labeltools.layout.frame import Frame, HINTING, Need, Needs, PRICE_STYLES, styles_from
 from labeltools.layout.joint_needs import module_in
+from labeltools.lines.symbologies import SYMBOLOGIES
 from labeltools.paper.box import Box
 
 NARROWER = 0.88  # of bold titles: the usual letters, in widths of those of other scripts
 
 
-def code_boxes(frame: Frame, need: Need, area: Area) -> dict[str, Box] | None:
-    """Returns the places of a code and of what is below its bars; None where it does not fit."""
+def code_boxes(
+    frame: Frame, name: str, width: int, height: int, area: Area
+) -> dict[str, Box] | None:
+    """Returns the places of a code, of a symbology and a size in modules, and of what is below its
+    bars; None where it does not fit.
+    """
+    symbology = SYMBOLOGIES[name]
     code = frame.boxes["code"]
-    module = module_in(area, need, frame.module, code.width)
-    if not need.is_bars:
-        module = area.qr_module(need.kind, need.width, min(code.width, code.height))
-    wide = need.width * module
+    is_bars = symbology.nominal > 0
+    if is_bars:
+        module = module_in(area, name, width, frame.module, code.width)
+    else:
+        module = area.qr_module(symbology, width, min(code.width, code.height))
+    wide = width * module
     left = code.left + ((code.width - wide) // 2 if frame.kind == "below" else 0)
-    if not need.is_bars:
+    if not is_bars:
         top = code.top + (code.height - wide) // 2
         return {"bars": Box(left, top, wide, wide)} if module else None
-    high = need.height * module if need.height > 1 else frame.bars - frame.bars % max(1, module)
+    high = height * module if height > 1 else frame.bars - frame.bars % max(1, module)
     if not module or not 0 < high <= code.height - frame.digits:
         return None
     low = code.bottom - frame.digits
@@ -64,8 +72,8 @@ class Least(NamedTuple):
 
 def has_code_of(least: Frame, frame: Frame, need: Need, area: Area) -> bool:
     """Returns whether the code of a need is no smaller in a frame than in another one."""
-    old = code_boxes(least, need, area)
-    new = code_boxes(frame, need, area)
+    old = code_boxes(least, *need.code, area)
+    new = code_boxes(frame, *need.code, area)
     if old is None or new is None:
         return old is None
     _, _, wide, high = new["bars"]

@@ -46,7 +46,7 @@ def begun_at(box: Box, left: float) -> Box:
 
 def code_ink(frame: Frame, need: Need, demand: JointNeeds) -> int | None:
     """Returns where the ink of a code begins: at its first bar, or at the digit beside that."""
-    boxes = code_boxes(frame, need, demand.area)
+    boxes = code_boxes(frame, *need.code, demand.area)
     if boxes is None:
         return None
     bars = boxes["bars"]
