@@ -546,7 +546,7 @@ class Edges(unittest.TestCase):
         heights = []
         for (size, dpi), design in itertools.product(STOCKS, ("article", "shelf")):
             laid = laid_out(filed(line), size, dpi, design=design, is_roll=True)
-            letters = laid.millimetres(sizes_of(laid.labels[0])["details"])
+            letters = laid.millimetres(sizes_of(laid.labels[0])["unit"])
             heights.append(0.729 * letters)
         self.assertGreaterEqual(min(heights), 1.5)
         self.assertGreaterEqual(sum(height >= 2 for height in heights), 14, heights)

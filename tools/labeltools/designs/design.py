@@ -1,11 +1,10 @@
 """What a design does with labels: each built-in one, and a page of SVG."""
 
-from typing import Any, Iterator, Mapping, NamedTuple, Protocol, Sequence
+from typing import Any, Mapping, NamedTuple, Protocol, Sequence
 
 from labeltools.common.messages import Talk
 from labeltools.layout.area import Area
-from labeltools.layout.fitting import Fitter, Placed, Style
-from labeltools.layout.layout import LaidOut, LaidOutFile, Page
+from labeltools.layout.layout import LaidOutFile, Page
 from labeltools.layout.letters import Letters
 from labeltools.layout.medium import Medium
 from labeltools.layout.place import Place
@@ -46,12 +45,6 @@ class Design(Protocol):
         """Returns the texts of labels that are printed in letters, by the numbers of their
         lines.
         """
-
-    def texts(self, item: LaidOut, fitter: Fitter, below: Below) -> Iterator[Placed]:
-        """Yields the texts of a label as they fit their boxes."""
-
-    def cut_texts(self, item: LaidOut) -> Iterator[tuple[str, Style, int, int]]:
-        """Yields the texts of a label that may be cut, with their room."""
 
     def below(self, medium: Medium) -> Below:
         """Returns what is below the symbols and texts of labels."""

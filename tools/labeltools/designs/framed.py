@@ -8,24 +8,32 @@ from typing import Iterator, Mapping, Sequence
 
 from labeltools.common.messages import Talk
 from labeltools.designs.design import Below, Setting
-from labeltools.designs.styles import price_line, price_places
+from labeltools.designs.fit import count_of, SIDE, Wrapping
+from labeltools.designs.styles import price_places
 from labeltools.layout.area import Area
 from labeltools.layout.code_boxes import code_boxes
-from labeltools.layout.fitting import Fitted, Fitter, LEFT, Placed, SIDE, Style
-from labeltools.layout.frame import Frame, HINTING, LINE, Need, styles_from
+from labeltools.layout.fitting import height_of, LEFT, side_of, Style
+from labeltools.layout.frame import (
+    Frame,
+    HINTING,
+    hinting_of,
+    LINE,
+    Need,
+    STYLE_NUMBERS,
+    styles_from,
+)
 from labeltools.layout.frame_places import framed_places
 from labeltools.layout.framing import frames_for
 from labeltools.layout.layout import LaidOut, LaidOutFile, PlacedSymbol, PlacedText
 from labeltools.layout.left_edge import TITLE_INK
-from labeltools.layout.letters import Letters
+from labeltools.layout.letters import extent_of, Letters
 from labeltools.layout.medium import Medium
-from labeltools.layout.pango import UNIT
+from labeltools.layout.place import Place
 from labeltools.layout.price import shape_of
 from labeltools.lines.file import Record
 from labeltools.paper.box import Box
 
 BETWEEN = "   "  # old price and unit price on one line
-WITHOUT_END = 1 << 20  # dots: the height of a text of which all lines are wanted
 
 
 class FramedDesign:
@@ -54,36 +62,6 @@ class FramedDesign:
         """Returns that nothing is below."""
         return Below()
 
-    def texts(self, item: LaidOut, fitter: Fitter, below: Below) -> Iterator[Placed]:
-        """Yields the texts of a label as they fit their boxes: a text below the title begins where
-        that ends, and an old price is at the left of the price, where that has room.
-        """
-        texts = {text.place.part: text for text in item.texts}
-        text = texts.get("text")
-        has_own_box = text is not None and text.place.down == 1.0
-        yield from head(texts.get("title"), None if has_own_box else text, fitter)
-        if text and has_own_box:
-            yield fitted(text, fitter)
-        has_was = False
-        if price := texts.get("price"):
-            numbers = fitted_price(price, fitter)
-            yield from numbers
-            was = old_price(texts, numbers, fitter)
-            if was:
-                has_was = True
-                yield was
-        details = texts.get("details")
-        if details and has_was:
-            details = unit_price(details, item.record.unit, fitter.letters)
-        if details and details.text:
-            yield fitted(details, fitter)
-
-    def cut_texts(self, item: LaidOut) -> Iterator[tuple[str, Style, int, int]]:
-        """Yields the texts of a label that may be cut, with the room of their lines."""
-        for place, text, box, style in item.texts:
-            if place.part in ("title", "text"):
-                yield text, style, box.width, WITHOUT_END
-
 
 class FramedLabels:
     """Lays out labels in the places that a frame has for them."""
@@ -94,13 +72,19 @@ class FramedLabels:
         self.letters = letters
         self.places = framed_places(frame, area.dot)
         self.boxes = {part: place.box_in(area) for part, place in self.places.items()}
+        self.sizes = {part: place.letters_in(area.dot) for part, place in self.places.items()}
+        self.is_text_below = "text" not in frame.boxes
+        self.wrapping = Wrapping(self.places.get("title", Place("title")), letters)
         self.style = cache(self.new_style)
         self.boxes_of = cache(self.new_boxes)
+        self.price_start = cache(self.new_price_start)
+        self.is_small = cache(self.new_is_small)
 
     def laid_out(self, label: Record, need: Need) -> LaidOut:
         """Returns a label of which each part is in its place."""
+        is_small_price = self.is_small(need.prices)
         texts = tuple(self.texts(label, need))
-        return LaidOut(label, (self.symbol(label),), texts, is_small_price=self.is_small(need))
+        return LaidOut(label, (self.symbol(label),), texts, is_small_price=is_small_price)
 
     def symbol(self, label: Record) -> PlacedSymbol:
         """Returns the symbol of a label."""
@@ -125,43 +109,109 @@ class FramedLabels:
 
     def texts(self, label: Record, need: Need) -> Iterator[PlacedText]:
         """Yields the texts of a label in their places."""
-        places = self.places
-        if need.title and "title" in places:
-            yield self.title(label.head)
-        if need.lines:
-            yield self.text(label.body, bool(need.title))
-        if need.price > 0 and "price" in places:
-            yield self.placed("price", label.price, 0)
-            if need.was and "was" in places:
-                yield self.placed("was", label.was, 0)
-        if (need.was or need.unit) and "details" in places:
-            yield self.details(label.was, label.unit)
+        has_text_below = need.lines > 0 and self.is_text_below
+        if need.title or has_text_below:
+            yield from self.words(label, need, has_text_below)
+        if need.lines and not self.is_text_below:
+            yield self.placed("text", label.body, 1)
+        was = None
+        if need.price > 0 and "price" in self.places:
+            price = self.placed("price", label.price, 0)
+            was = self.old_price(label, price) if need.was else None
+            if was is None:
+                yield price
+            else:
+                yield price._replace(style=price.style._replace(base=was.style.base))
+                yield was
+        if (need.unit or need.was and not was) and "unit" in self.places:
+            yield self.unit_price("" if was else label.was, label.unit)
 
-    def title(self, text: str) -> PlacedText:
-        """Returns a title, whose lines are one where there is no room for so many."""
-        lines = self.frame.lines - text.count("\n")
-        if lines < 1:
-            text, lines = text.replace("\n", " "), max(1, self.frame.lines)
-        return self.placed("title", text, lines)
+    def words(self, label: Record, need: Need, has_text: bool) -> Iterator[PlacedText]:
+        """Yields the title of a label, and the text below it if it has one there."""
+        title, lines = self.title(label.head, need.title) if need.title else (None, 0)
+        down = self.places["title"].down
+        if title and not has_text and not down:
+            yield title
+            return
+        left, top, width, height = self.boxes["title"]
+        room = height - (math.ceil(need.lines * LINE * self.sizes["text"]) if has_text else 0)
+        used = min(height_of(lines, self.sizes["title"]), room)
+        start = top + int((room - used) * down)
+        if title:
+            high = used if has_text else top + height - start
+            yield title._replace(box=Box(left, start, width, high))
+        if has_text:
+            inset = self.inset(label.body) if title else 0
+            rest = Box(left + inset, start + used, width - inset, top + height - start - used)
+            yield self.placed("text", label.body, 1)._replace(box=rest)
 
-    def text(self, text: str, has_title: bool) -> PlacedText:
-        """Returns a text; below a title it begins as far to the right as the ink of that."""
-        placed = self.placed("text", text, 1)
-        place, _, box, style = placed
-        is_below = has_title and "text" not in self.frame.boxes and place.across == LEFT
-        if not is_below:
-            return placed
+    def title(self, text: str, widths: Sequence[float]) -> tuple[PlacedText, int]:
+        """Returns a title, the ink of whose lines is so wide, with the ends of its lines if it is
+        whole, and the number of these.
+        """
+        most = self.frame.lines
+        if text.count("\n") >= most:
+            text = text.replace("\n", " ")
+        title = self.placed("title", text, max(1, most - text.count("\n")))
+        room = title.box.width / title.style.size / hinting_of(title.style.size)
+        if len(widths) == 1 and widths[0] <= room - SIDE:  # most titles fit so
+            return title, 1
+        whole = self.wrapping.in_lines(text, room)
+        if whole is None or count_of(whole) > most:
+            return title, most
+        return title._replace(text=whole), count_of(whole)
+
+    def inset(self, text: str) -> int:
+        """Returns by how much a text below a title is farther to the right: as far as the ink of
+        titles begins, if the text has room there.
+        """
+        if self.places["text"].across != LEFT:
+            return 0
+        size = self.sizes["text"]
         letters = self.letters.of(text)
         wide = max(letters.width(line, False) for line in text.split("\n"))
-        spare = box.width - math.ceil(HINTING * wide * style.size) - 2 * (style.size // SIDE)
-        inset = round(TITLE_INK * (self.frame.sizes["title"] - style.size))
-        by = max(0, min(spare, inset))
-        return placed._replace(box=box._replace(left=box.left + by, width=box.width - by))
+        taken = math.ceil(HINTING * wide * size) + 2 * side_of(size)
+        wished = round(TITLE_INK * (self.sizes["title"] - size))
+        return max(0, min(self.boxes["text"].width - taken, wished))
 
-    def details(self, was: str, unit: str) -> PlacedText:
-        """Returns the old price and the unit price of a label, on a line or on two."""
+    def old_price(self, label: Record, price: PlacedText) -> PlacedText | None:
+        """Returns the old price of a label at the left of the price, on its base line; None where
+        that has no room.
+        """
+        place = self.places.get("was")
+        if place is None:
+            return None
+        text, box = label.was, self.boxes["was"]
+        start, base = self.price_start(shape_of(label.price, self.letters))
+        room = start - box.left - price.style.size // 4
+        letters = self.letters.of(text)
+        wide = HINTING * letters.width(text, False)
+        size = math.floor(min(room / wide, self.sizes["was"]))
+        if size < self.sizes["unit"]:
+            return None
+        style = Style(letters.family, False, size, 0, LEFT, 0.0, len(text.encode()), base)
+        return PlacedText(place, text, box._replace(width=room), style)
+
+    def new_price_start(self, shape: str) -> tuple[int, int]:
+        """Returns where prices of a shape begin in the area, and their base line in their box."""
+        place, _, box, style = self.placed("price", shape, 0)
+        first, *others = price_places(shape, place.price_style, style, box, self.letters)
+        if first.style.base is not None:
+            return first.box.left, max(part.style.base or 0 for part in (first, *others))
+        letters = self.letters.of(shape, first.style.family != style.family)
+        sign = letters.line(shape, True) or letters.whole_sign(shape, True)
+        spare = box.width - extent_of(sign).width * style.size
+        middle = (box.height - letters.sign("0", True).top * style.size) / 2
+        lowest = box.height - math.ceil(sign.bottom * style.size)  # so that all ink is in the box
+        start = box.left + math.floor(spare * (style.across + 1) / 2)
+        return start, min(round(middle), lowest)
+
+    def unit_price(self, was: str, unit: str) -> PlacedText:
+        """Returns a unit price, and an old price before it, on a line or on two."""
         between = BETWEEN if self.frame.details_lines == 1 else "\n"
-        placed = self.placed("details", between.join(filter(None, (was, unit))), 0)
+        placed = self.placed("unit", between.join(filter(None, (was, unit))), 0)
+        if not was:
+            return placed
         return placed._replace(style=placed.style._replace(struck=len(was.encode())))
 
     def placed(self, part: str, text: str, lines: int) -> PlacedText:
@@ -174,95 +224,15 @@ class FramedLabels:
     def new_style(self, part: str, family: str, lines: int) -> Style:
         """Returns how a part is written in the letters of a font."""
         place = self.places[part]
-        size = place.letters_in(self.area.dot)
         is_in_block = self.boxes[part] == self.boxes.get("title")  # one below another
         down = 0.0 if is_in_block else place.down
-        return Style(family, place.is_bold, size, lines, place.across, down, 0)
+        return Style(family, place.is_bold, self.sizes[part], lines, place.across, down, 0)
 
-    def is_small(self, need: Need) -> bool:
-        """Returns whether the price of a label is smaller than those of others."""
-        place = self.places.get("price")
-        if not need.price or place is None:
+    def new_is_small(self, widths: Sequence[float]) -> bool:
+        """Returns whether prices, which are so wide in each style, are smaller than others."""
+        if not widths[0] or "price" not in self.places:
             return False
-        size = place.letters_in(self.area.dot)
-        wide = min(map(need.price_width, styles_from(place.price_style)))
+        size = self.sizes["price"]
+        styles = styles_from(self.places["price"].price_style)
+        wide = min(widths[STYLE_NUMBERS[style]] for style in styles)
         return HINTING * size * wide > self.boxes["price"].width + size / 4
-
-
-def fitted(text: PlacedText, fitter: Fitter) -> Placed:
-    """Returns a text as it fits its box."""
-    _, words, box, style = text
-    return Placed(fitter.found(words, style, box.width, box.height), style, box)
-
-
-def head(title: PlacedText | None, text: PlacedText | None, fitter: Fitter) -> Iterator[Placed]:
-    """Yields a title, and the text below it, which are in one box."""
-    first = title or text
-    if first is None:
-        return
-    left, top, width, height = first.box
-    room = height
-    if text:
-        room -= math.ceil((text.text.count("\n") + 1) * LINE * text.style.size)
-    used = 0
-    if title:
-        most = min(math.ceil(title.place.lines * LINE * title.style.size), room)
-        found = fitter.found(title.text, title.style, width, most)
-        used = min(found.height, room)
-    start = top + int((room - used) * first.place.down)
-    if title:
-        yield Placed(found, title.style, Box(left, start, width, most))
-    if text:
-        below = text.box._replace(top=start + used, height=top + height - start - used)
-        yield fitted(text._replace(box=below), fitter)
-
-
-def fitted_price(price: PlacedText, fitter: Fitter) -> Sequence[Placed]:
-    """Returns a price, or in dots its parts, where cents are raised: the currency too is one by
-    itself.
-    """
-    text = price.text
-    shape = shape_of(text, fitter.letters)
-    how = (price.place.price_style, price.style, price.box, fitter.letters)
-    line = None if fitter.is_dots else price_line(shape, *how)
-    if line:
-        return [line.placed(text)]
-    return [
-        Placed(fitter.found(text[first:last], style, box.width, box.height), style, box)
-        for first, last, style, box in price_places(shape, *how)
-    ]
-
-
-def old_price(
-    texts: Mapping[str, PlacedText], numbers: Sequence[Placed], fitter: Fitter
-) -> Placed | None:
-    """Returns an old price at the left of the price, on its base line; None where it is not there,
-    or has no room.
-    """
-    if "was" not in texts:
-        return None
-    _, was, box, largest = texts["was"]
-    first = numbers[0].text
-    ink = numbers[0].box.left + max(0, first.x)
-    room = ink - box.left - texts["price"].style.size // 4
-    wide = HINTING * fitter.letters.of(was).width(was, False)
-    size = math.floor(min(room / wide, largest.size))
-    if size < texts["details"].style.size:
-        return None
-    base = max(number.style.base or 0 for number in numbers)
-    if not base:
-        base = first.y + math.floor(base_of(first))
-    style = largest._replace(size=size, struck=len(was.encode()), base=base)
-    place = box._replace(width=room)
-    return Placed(fitter.found(was, style, room, box.height), style, place)
-
-
-def base_of(text: Fitted) -> float:
-    """Returns where the base line of a text is below its top."""
-    return text.glyphs.base if text.glyphs else float(text.layout.get_baseline() / UNIT)
-
-
-def unit_price(details: PlacedText, unit: str, letters: Letters) -> PlacedText:
-    """Returns details that are a unit price alone."""
-    style = details.style._replace(family=letters.of(unit).family, struck=0)
-    return details._replace(text=unit, style=style)

@@ -4,7 +4,7 @@ module that their place takes. Lengths are in dots.
 
 import math
 from collections import Counter
-from dataclasses import dataclass, field
+from dataclasses import dataclass, field, replace
 from functools import cache, lru_cache
 from itertools import combinations, compress, repeat
 from typing import Iterator, Mapping, NamedTuple, Sequence
@@ -101,6 +101,7 @@ class SvgLayouts:
         self.boxes = {place: place.box_in(self.area) for place in self.places}
         self.boxes_of = cache(self.new_boxes)
         self.unread = cache(lambda absent: self.design.mixed(absent, UNREAD, 0.5))
+        self.coloured = cache(self.new_coloured)
 
     def lay_out(self, labels: Sequence[Record], talk: Talk) -> LaidOutFile:
         """Returns labels with their layouts, why others are left out, and what is said of all."""
@@ -175,14 +176,15 @@ class SvgLayouts:
         """Returns a label whose texts are those of a row as it is laid out; raises `NoRoom`."""
         texts = []
         symbols = []
-        unread = self.unread(absent)
+        unread, coloured = self.unread(absent), self.coloured(absent)
         for place, text in zip(self.places, row):
             if not text:
                 continue
             if place in unread:
                 raise NoRoom(mixed_text(self.design.page.file, place.title))
             if place in rooms:
-                texts.append(rooms[place].text(short(text)))
+                placed = rooms[place].text(short(text))
+                texts.append(placed._replace(place=coloured[place]) if absent else placed)
                 continue
             symbology, modules, data = label.kind, label.modules, label.data
             if place.symbology:
@@ -194,6 +196,11 @@ class SvgLayouts:
             how = (data, modules, symbology, module, boxes)
             symbols.append(PlacedSymbol(place, self.boxes[place], *how))
         return LaidOut(label, tuple(symbols), tuple(texts), absent)
+
+    def new_coloured(self, absent: frozenset[str]) -> Mapping[Place, Place]:
+        """Returns the places of texts on the drawing without some parts, with their colours."""
+        colours = self.design.colours(absent) if absent else {}
+        return {place: replace(place, colour=colour) for place, colour in colours.items()}
 
     def new_boxes(
         self, place: Place, name: str, width: int, height: int

@@ -12,9 +12,10 @@ from labeltools.common.messages import FAULT, ToolError
 from labeltools.common.text import Text
 from labeltools.designs.design import Design
 from labeltools.designs.svg_design import is_light
+from labeltools.drawing.texts import fitted_texts
 from labeltools.layout.fitting import Fitted, Fitter, MIDDLE, Placed, Style
 from labeltools.layout.glyphs import LINE_END
-from labeltools.layout.layout import LaidOut, Page, PlacedSymbol
+from labeltools.layout.layout import LaidOut, Page, PlacedSymbol, PlacedText
 from labeltools.layout.letters import DATA_FONT, digits_face, Letters
 from labeltools.layout.medium import Medium
 from labeltools.layout.pango import asked_size, font_options, PangoCairo
@@ -52,7 +53,6 @@ class Pen:
     def __init__(self, medium: Medium, letters: Letters, design: Design) -> None:
         self.medium = medium
         self.letters = letters
-        self.design = design
         self.below = design.below(medium)
         self.options = font_options(medium.is_dots)
         self.fitter = Fitter(letters, medium.is_dots)
@@ -114,19 +114,21 @@ class Pen:
 
     def texts(self, item: LaidOut) -> Iterator[Placed]:
         """Yields the texts of a label as they fit their boxes."""
-        return self.design.texts(item, self.fitter, self.below)
+        return fitted_texts(item, self.fitter, self.below)
 
     def is_shortened(self, item: LaidOut) -> bool:
         """Returns whether a text of a label ends in an ellipsis."""
-        texts = self.design.cut_texts(item)
-        return item.record.is_cut or any(self.fitter.shown(*text) != text[0] for text in texts)
+        return item.record.is_cut or any(self.shown(text) != text.text for text in item.words())
 
     def shown_texts(self, item: LaidOut) -> tuple[str, ...]:
         """Returns the texts of a label that may be cut as they are seen: up to the ellipsis, where
         they have one.
         """
-        texts = self.design.cut_texts(item)
-        return tuple(self.fitter.shown(*text).replace(LINE_END, " ") for text in texts)
+        return tuple(self.shown(text).replace(LINE_END, " ") for text in item.words())
+
+    def shown(self, text: PlacedText) -> str:
+        """Returns a text as it is seen."""
+        return self.fitter.shown(text.text, text.style, *text.place.as_read(text.box))
 
     def draw_digits(self, canvas: Any, symbol: PlacedSymbol, place: Dots, runs: GlyphRuns) -> None:
         """Draws what is below the bars of a symbol of a label whose area begins at a place; digits

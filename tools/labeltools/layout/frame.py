@@ -142,6 +142,16 @@ def styles_from(style: str) -> list[str]:
     return [one for one in styles[styles.index(style) :] if one.endswith("raised") or one == style]
 
 
+def hinting_of(size: int) -> float:
+    """Returns by how much lines of letters of so many dots may be longer than they are measured: by
+    half a dot for each letter, which is half as wide as high.
+
+    >>> [hinting_of(size) for size in (20, 100)]
+    [1.03, 1.01]
+    """
+    return min(HINTING, 1 + 1 / size)
+
+
 def common_value(values: Mapping[float, int]) -> float:
     """Returns what nine of ten values keep to, or the largest one where that is not much more.
     Values are given with how often they come; 0 where there is none.

@@ -11,16 +11,18 @@ MOST_WAS = 0.5  # the same in letters of the price
 def framed_places(frame: Frame, dot: float) -> dict[str, Place]:
     """Returns the places of a frame by the parts that they are for; `dot` is in millimetres.
 
-    A text without a box of its own is in that of the title, below it. In that of the price an old
-    price may be, at its left.
+    A text without a box of its own is in that of the title, below it. An old price is in that of
+    the price, at its left, where it has room there, or else in that of the unit price.
     """
     boxes = {"text": frame.boxes["title"], **frame.boxes}
     sizes: dict[str, float] = {**frame.sizes}
-    if frame.kind == "foot" and frame.details_lines and "price" in boxes:
-        least = sizes["details"]
-        boxes["was"] = boxes["price"]
-        sizes["was"] = max(least, min(LARGER_WAS * least, MOST_WAS * sizes["price"]))
-    lines = {"title": frame.lines, "text": 1, "details": frame.details_lines}
+    if frame.details_lines:
+        boxes["unit"] = boxes.pop("details")
+        least = sizes["unit"] = sizes["details"]
+        if frame.kind == "foot" and "price" in boxes:
+            boxes["was"] = boxes["price"]
+            sizes["was"] = max(least, min(LARGER_WAS * least, MOST_WAS * sizes["price"]))
+    lines = {"title": frame.lines, "text": 1, "unit": frame.details_lines}
     places = {}
     for part, box in boxes.items():
         if box.height > 0:
@@ -36,7 +38,7 @@ def framed_places(frame: Frame, dot: float) -> dict[str, Place]:
                 is_bold=part in ("title", "price"),
                 size=sizes.get(part, 0) * dot,
                 lines=lines.get(part, 0),
-                price_style=frame.price_style,
+                price_style=frame.price_style if part == "price" else "",
             )
     return places
 
@@ -52,6 +54,6 @@ def where_in(frame: Frame, part: str) -> tuple[int, float]:
         return words, 0.5 if is_block else 0.0
     if part == "price":
         return LEFT if frame.is_flush_left else numbers, 0.5
-    if part == "details":
+    if part == "unit":
         return numbers, 1.0 if is_middle else 0.0
     return words if part == "code" else LEFT, 0.5

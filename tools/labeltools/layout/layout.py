@@ -10,7 +10,7 @@ from labeltools.common.messages import Origin
 from labeltools.common.text import Text
 from labeltools.layout.area import Area
 from labeltools.layout.fitting import Style
-from labeltools.layout.place import Place
+from labeltools.layout.place import Place, PRICES
 from labeltools.lines.engine import Modules
 from labeltools.lines.file import Record
 from labeltools.lines.symbologies import Symbology
@@ -64,6 +64,10 @@ class LaidOut:
     def finest(self) -> PlacedSymbol:
         """Its finest symbol of QR, or else its finest one."""
         return min(self.symbols, key=lambda symbol: (symbol.symbology.nominal > 0, symbol.module))
+
+    def words(self) -> Iterator[PlacedText]:
+        """Yields its texts but for prices: these are never cut."""
+        return (text for text in self.texts if text.place.part not in PRICES)
 
     def boxes(self) -> Iterator[Box]:
         """Yields where it has codes and letters."""

@@ -14,9 +14,11 @@ from labeltools.paper.box import Box
 from labeltools.paper.plan import Dots, TINY
 
 PARTS = ("code", "title", "text", "price", "unit", "was", "note")
+PRICES = ("price", "unit", "was")  # they stay on one line, and are never cut
 AGAIN = re.compile(r"(.+?) \d+")
 AFTER_HYPHEN = re.compile(r"-\d+\s*$")
 MOST_KNOWN = 1024  # names whose keys are kept
+Sides = tuple[float, float, float, float]  # left, top, width, height in millimetres
 
 
 @dataclass(frozen=True, eq=False)
@@ -24,8 +26,8 @@ class Place:
     """The place of a part: its name, its sides in millimetres, by how many quarters it is turned to
     the right; how its letters are written, and their colour (None: what can be read on the
     drawing); the symbology and settings of a symbol that is made of its text; its module, the
-    largest and the least letters in millimetres, the most lines: 0 for what suits; in which style
-    prices are written, one of `PRICE_STYLES`.
+    largest and the least letters in millimetres, the most lines: 0 for what suits; in which of
+    `PRICE_STYLES` a price is written, if not as other texts.
     """
 
     title: str
@@ -45,7 +47,7 @@ class Place:
     size: float = 0.0
     least: float = 0.0
     lines: float = 0.0
-    price_style: str = "price"
+    price_style: str = ""
 
     @property
     def is_symbol(self) -> bool:
@@ -61,6 +63,11 @@ class Place:
     def part(self) -> str:
         """The part or column that it is for, as names are compared, without a number behind it."""
         return part_of(self.title)
+
+    @property
+    def sides(self) -> Sides:
+        """Its sides."""
+        return self.left, self.top, self.width, self.height
 
     def as_read(self, box: Box) -> Dots:
         """Returns how wide and high its box on a label is, as it is read."""
