@@ -97,15 +97,17 @@ class FramedLabels:
         """Returns the box of symbols of a size in modules, their module, and where bars and digits
         are in the box.
         """
-        boxes = code_boxes(self.frame, name, width, height, self.area)
-        assert boxes
-        bars = boxes["bars"]
-        whole = bars._replace(height=max(box.bottom for box in boxes.values()) - bars.top)
+        found = code_boxes(self.frame, name, width, height, self.area)
+        assert found
+        module, boxes = found
+        code, bars = self.boxes["code"], boxes["bars"]
+        left, top = code.left + bars.left, code.top + bars.top
+        high = max(box.bottom for box in boxes.values()) - bars.top
         inside = {
             part: box._replace(left=box.left - bars.left, top=box.top - bars.top)
             for part, box in boxes.items()
         }
-        return whole, bars.width // width, inside
+        return Box(left, top, bars.width, high), module, inside
 
     def texts(self, label: Record, need: Need) -> Iterator[PlacedText]:
         """Yields the texts of a label in their places."""

@@ -18,6 +18,7 @@ from labeltools.layout.frame import DIGITS_ROOM, LOWEST
 from labeltools.layout.layout import ASKED, LaidOut, LaidOutFile, PlacedSymbol, short
 from labeltools.layout.letters import Letters
 from labeltools.layout.place import key_of, PARTS, Place
+from labeltools.layout.symbol_room import SymbolRoom
 from labeltools.lines.engine import drawn, Modules
 from labeltools.lines.file import Record, symbology_and_data
 from labeltools.lines.reasons import Refused
@@ -207,25 +208,16 @@ class SvgLayouts:
     ) -> tuple[int, Mapping[str, Box]]:
         """Returns the module and the boxes of symbols of a size in modules; raises `NoRoom`."""
         symbology = SYMBOLOGIES[name]
-        box = self.boxes[place]
-        wide, high = place.as_read(box)
+        wide, high = place.as_read(self.boxes[place])
         least, most = self.allowed(place, symbology)
-        rows = height if height > 1 else 0  # else bars are as high as there is room
+        lowest = math.ceil(LOWEST / self.area.dot)
         below = DIGITS_ROOM if symbology.nominal else 0
-        lowest = rows * least or math.ceil(LOWEST / self.area.dot)
-        down = high // (rows + below) if rows else (high - lowest) // below
-        module = min(most, wide // width, down)
-        tall = rows * module or high - below * module
-        if module < least or tall < lowest:
-            raise self.no_room(place, symbology, (width * least, lowest + below * least))
-        tall -= tall % module
-        left = (wide - width * module) * (place.across + 1) // 2
-        top = int((high - tall - below * module) * place.down)
-        bars = Box(left, top, width * module, tall)
-        boxes = {"bars": bars}
-        if below:
-            boxes["digits"] = bars._replace(top=bars.bottom, height=below * module)
-        return module, boxes
+        where = (wide, high, place.across, place.down)
+        room = SymbolRoom(*where, least, most, lowest, high, below)
+        found = room.boxes(width, height)
+        if found is None:
+            raise self.no_room(place, symbology, room.least_of(width, height))
+        return found
 
     def allowed(self, place: Place, symbology: Symbology) -> tuple[int, int]:
         """Returns the least and the most dots of a module. EAN and UPC have a largest one."""

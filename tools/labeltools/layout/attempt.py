@@ -158,7 +158,6 @@ class Attempt(NamedTuple):
             },
             module=self.module,
             bars=bars,
-            digits=rooms.digits,
             lines=head.lines,
             text_lines=demand.lines,
             details_lines=made.details.lines,

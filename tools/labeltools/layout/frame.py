@@ -1,4 +1,4 @@
-"""What labels need, and the frame that they have: places for their parts, alike for all of them.
+"""What labels need, and the frame that they have: boxes for their parts, alike for all of them.
 Lengths are in dots, those of texts in sizes of their letters.
 """
 
@@ -98,14 +98,14 @@ Needs = Mapping[Need, Mapping[Need, int]]
 
 @dataclass(frozen=True, eq=False)
 class Frame:
-    """Places for the parts of labels, from the left upper corner of the area: `code`, `title`,
+    """Boxes for the parts of labels, from the left upper corner of the area: `code`, `title`,
     `price`, `details`, and `text` where that is beside the code.
 
-    `sizes` are those of letters; `module` is that of bars, `bars` their height, `digits` the height
-    below them; `lines`, `text_lines` and `details_lines` are the most of each; `is_whole` is
-    whether most titles are, and `room_of_titles` the width of all lines of a title, in letters of
-    its size, or infinite where each has one line and is whole; `title_line` that of one line;
-    `price_style` is one of `PRICE_STYLES`.
+    `sizes` are those of letters; `module` is the largest one of bars, `bars` their largest height;
+    `lines`, `text_lines` and `details_lines` are the most of each; `is_whole` is whether most
+    titles are, and `room_of_titles` the width of all lines of a title, in letters of its size, or
+    infinite where each has one line and is whole; `title_line` that of one line; `price_style` is
+    one of `PRICE_STYLES`.
     """
 
     kind: str
@@ -113,7 +113,6 @@ class Frame:
     sizes: Mapping[str, int]
     module: int
     bars: int
-    digits: int
     lines: int
     text_lines: int
     details_lines: int
