@@ -73,7 +73,7 @@ class FramedLabels:
         self.places = framed_places(frame, area.dot)
         self.boxes = {part: place.box_in(area) for part, place in self.places.items()}
         self.sizes = {part: place.letters_in(area.dot) for part, place in self.places.items()}
-        self.is_text_below = "text" not in frame.boxes
+        self.is_text_below = self.boxes.get("text") == self.boxes.get("title")
         self.wrapping = Wrapping(self.places.get("title", Place("title")), letters)
         self.style = cache(self.new_style)
         self.boxes_of = cache(self.new_boxes)
@@ -151,7 +151,7 @@ class FramedLabels:
         """Returns a title, the ink of whose lines is so wide, with the ends of its lines if it is
         whole, and the number of these.
         """
-        most = self.frame.lines
+        most = int(self.places["title"].lines)
         if text.count("\n") >= most:
             text = text.replace("\n", " ")
         title = self.placed("title", text, max(1, most - text.count("\n")))
@@ -210,7 +210,7 @@ class FramedLabels:
 
     def unit_price(self, was: str, unit: str) -> PlacedText:
         """Returns a unit price, and an old price before it, on a line or on two."""
-        between = BETWEEN if self.frame.details_lines == 1 else "\n"
+        between = BETWEEN if self.places["unit"].lines == 1 else "\n"
         placed = self.placed("unit", between.join(filter(None, (was, unit))), 0)
         if not was:
             return placed
