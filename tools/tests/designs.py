@@ -7,9 +7,8 @@ from typing import Any, Sequence
 import jobs
 import support
 from labeltools.common.messages import Silence
-from labeltools.designs.fit import PlacedText
-from labeltools.designs.svg_layout import SvgLayout
 from labeltools.drawing.pen import Pen
+from labeltools.layout.layout import PlacedText
 from labeltools.layout.medium import Medium
 from labeltools.printing.job import planned, PrintOptions
 from labeltools.printing.press import labels_of, Prepared
@@ -83,8 +82,7 @@ def dots_of(found: Prepared, number: int = 0) -> jobs.Dots:
 
 def texts_of(found: Prepared) -> list[PlacedText]:
     """The texts of all labels."""
-    layouts = [item.layout for item in found.labels]
-    return [text for layout in layouts if isinstance(layout, SvgLayout) for text in layout.texts]
+    return [text for item in found.labels for text in item.texts]
 
 
 def is_refused(message: object, why: str) -> bool:

@@ -16,6 +16,7 @@ from labeltools.commands.label_print import print_options
 from labeltools.common.messages import Silence
 from labeltools.printing.job import planned
 from labeltools.printing.press import labels_of
+from laying import boxes_of
 
 # The commands of a language, and what each does. The number in it, of digits or of one byte, is
 # that of the bytes or dots of a row, of rows that are skipped, or of the bytes of the row after it.
@@ -117,7 +118,7 @@ def bars_of(words: Sequence[str], lines: bytes) -> Iterator[Bars]:
     (part,) = press.batches(prepared.prints)
     for number, page in enumerate(part.pages):
         for item, (left, top) in page:
-            box, modules = item.layout.boxes["bars"], item.record.modules
+            box, modules = boxes_of(item)["bars"], item.record.modules
             bits = rows_of(modules.packed, modules.row_size)[:, : modules.width]
             dots = bits.repeat(box.width // modules.width, axis=1)
             dots = dots.repeat(box.height // len(bits), axis=0)

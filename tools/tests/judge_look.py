@@ -124,16 +124,17 @@ def measures_of(laid: Any, item: Any) -> dict[str, Any]:
         sizes[kind] = max(sizes[kind], size)
     shown = laid.pen.shown_texts(item)
     is_whole = not laid.pen.is_shortened(item)
-    bars = item.layout.boxes["bars"]
+    # trees whose labels have no symbols of their own ask their design
+    symbols = item.symbols if hasattr(item, "symbols") else laid.pen.design.symbols(item)
+    symbol = symbols[0]
     return {
         "row": whole.row,
         "texts": [*item.record.texts],
         **sizes,
-        "module": laid.millimetres(item.layout.module),
-        "bars": laid.millimetres(bars.height),
+        "module": laid.millimetres(symbol.module),
+        "bars": laid.millimetres(symbol.boxes["bars"].height),
         "is_whole": is_whole,
         "shown": [*shown],
-        "kind": item.layout.frame.kind,
     }
 
 

@@ -9,8 +9,9 @@ import jobs
 from labeltools.common.messages import Silence
 from labeltools.drawing.dots import drawn_page
 from labeltools.drawing.pen import Pen
-from labeltools.layout.layout import LaidOut
+from labeltools.layout.layout import LaidOut, PlacedText
 from labeltools.layout.medium import Medium
+from labeltools.paper.box import Box
 from labeltools.printing.job import Job, planned, PrintOptions
 from labeltools.printing.press import labels_of, Prepared
 from reading import fault_of
@@ -77,15 +78,47 @@ def documents_of(found: Prepared) -> list[bytes]:
     return [press.document(part, number == 0) for number, part in parts]
 
 
+def texts_in(item: LaidOut) -> dict[str, PlacedText]:
+    """The texts of a label of a built-in design, by their parts."""
+    return {text.place.part: text for text in item.texts}
+
+
+def sizes_of(item: LaidOut) -> dict[str, int]:
+    """The letters of the parts of a label of a built-in design."""
+    return {part: text.style.size for part, text in texts_in(item).items()}
+
+
+def boxes_of(item: LaidOut) -> dict[str, Box]:
+    """Where the parts of a label of a built-in design are in its area; a part that has room in the
+    box of another one has none of its own.
+    """
+    (symbol,) = item.symbols
+    left, top = symbol.box.left, symbol.box.top
+    found = {
+        name: box._replace(left=left + box.left, top=top + box.top)
+        for name, box in symbol.boxes.items()
+    }
+    for part, text in texts_in(item).items():
+        if not any(is_inside(text.box, box) for box in found.values()):
+            found[part] = text.box
+    return found
+
+
+def is_inside(box: Box, other: Box) -> bool:
+    """Whether a box is in another one."""
+    is_across = other.left <= box.left and box.right <= other.right
+    return is_across and other.top <= box.top and box.bottom <= other.bottom
+
+
 def look(test: unittest.TestCase, laid: Laid, item: LaidOut) -> None:
     """The ink of each part of a label is in its box; boxes do not overlap, none leaves the area,
     and none is without ink.
     """
     area = laid.prepared.laid_out.area
-    boxes = item.layout.boxes
+    boxes = boxes_of(item)
     dots = laid.dots(item, AROUND)
     inside = dots[AROUND : AROUND + area.height, AROUND : AROUND + area.width]
-    what = (item.record.texts, item.layout.frame.kind, boxes)
+    what = (item.record.texts, boxes)
     test.assertEqual(dots.sum(), inside.sum(), what)
     for box in boxes.values():
         test.assertGreaterEqual(min(box.left, box.top), 0, what)

@@ -5,11 +5,10 @@ from typing import Sequence
 
 import zxingcpp
 
-from labeltools.designs.design import CODE, PlacedSymbol
 from labeltools.drawing.dots import drawn_page
 from labeltools.drawing.pen import bits_of, Pen
 from labeltools.layout.area import Area
-from labeltools.layout.layout import LaidOut
+from labeltools.layout.layout import LaidOut, PlacedSymbol
 from labeltools.lines.engine import Modules
 from labeltools.paper.box import Box
 
@@ -22,9 +21,7 @@ def fault_of(item: LaidOut, area: Area, pen: Pen) -> str | None:
     """Returns what is wrong with a label as it is drawn in its area, if anything."""
     size = area.width, area.height
     picture = drawn_page(size, pen, [(item, (0, 0))])
-    return fault_in(
-        [bits_of(row) for row in picture.rows], pen.design.symbols(item, Box(0, 0, *size))
-    )
+    return fault_in([bits_of(row) for row in picture.rows], item.symbols)
 
 
 def fault_in(rows: list[str], symbols: Sequence[PlacedSymbol]) -> str | None:
@@ -36,7 +33,7 @@ def fault_in(rows: list[str], symbols: Sequence[PlacedSymbol]) -> str | None:
             place = ["".join(column) for column in zip(*place)][::-1]  # back to the left
         fault = fault_of_symbol(place, symbol)
         if fault is not None:
-            return fault if symbol.place is CODE else f"place {symbol.place.title}: {fault}"
+            return f"place {symbol.place.title}: {fault}"
     return None
 
 

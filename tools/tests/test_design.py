@@ -21,7 +21,6 @@ from labeltools.common.messages import Silence, ToolError
 from labeltools.common.text import Text
 from labeltools.designs import svg_page
 from labeltools.designs.svg_labels import SvgLabels
-from labeltools.designs.svg_layout import SvgLayout
 from labeltools.printing.job import planned, PrintOptions
 from labeltools.printing.press import labels_of, Prepared
 from laying import documents_of
@@ -835,7 +834,7 @@ class Symbols(OwnPages):
             found = self.found(body.format(words), [(line, {})], page, paper=(200.0, 100.0))
             (item,) = found.labels
             dot = found.laid_out.area.dot
-            self.assertTrue(module - dot <= item.layout.module * dot <= module + dot / 2, line)
+            self.assertTrue(module - dot <= item.finest.module * dot <= module + dot / 2, line)
 
     def test_a_low_place_has_smaller_modules(self) -> None:
         """Bars of the width of the place would have no room for their digits."""
@@ -850,9 +849,7 @@ class Symbols(OwnPages):
             (", right", None, 50),
         ):
             (item,) = self.found(place.format(words), [("qr A", {})]).labels
-            layout = item.layout
-            assert isinstance(layout, SvgLayout)
-            ((_, box, _, _, _, _, boxes),) = layout.symbols
+            ((_, box, _, _, _, _, boxes),) = item.symbols
             bars, dot = boxes["bars"], 25.4 / 203
             ends = (10 + bars.left * dot, 10 + bars.right * dot)
             wanted = (left, right) if words else (30 - bars.width * dot / 2, None)
@@ -862,9 +859,8 @@ class Symbols(OwnPages):
     def test_second_symbols(self) -> None:
         body = f'<rect data-place="Url, qr, level=Q" x="2" y="2" width="16" height="16"/>{CODE}'
         found = self.found(body, [("code128 A", {"text": {"Url": "a\\b\nc"}})])
-        layout = found.labels[0].layout
-        assert isinstance(layout, SvgLayout)
-        self.assertEqual([symbol.data for symbol in layout.symbols], [b"a\\b\nc", b"A"])
+        symbols = found.labels[0].symbols
+        self.assertEqual([symbol.data for symbol in symbols], [b"a\\b\nc", b"A"])
 
     def test_a_second_symbol_that_is_refused_leaves_its_label_out(self) -> None:
         body = f'<rect data-place="Ean, ean13" x="2" y="2" width="45" height="16"/>{CODE}'

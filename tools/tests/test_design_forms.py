@@ -15,7 +15,7 @@ import numpy
 import designs
 import jobs
 import support
-from labeltools.designs.svg_layout import SvgLayout
+from labeltools.layout.layout import LaidOut
 from laying import documents_of
 from reading import fault_in
 from rendering import dots_of_svg, rendered
@@ -142,21 +142,20 @@ class Shipped(unittest.TestCase):
         """Each design in each form, and each form at each of the dots an inch."""
         read = 0
         for name, dpi in zip(designs.SHIPPED, itertools.cycle(DPIS)):
-            layout = self.prepared(name, dpi).labels[0].layout
-            assert isinstance(layout, SvgLayout)
+            (item,) = self.prepared(name, dpi).labels
             dots = {form: printed(name, form, dpi) for form in ("pbm", "pdf", "svg", *DOTS)}
             for form in DOTS:
                 self.assertTrue(is_same(dots[form], dots["pbm"]), (name, dpi, form))
             for form in ("pbm", "pdf", "svg"):
-                fault = fault_in(rows_of(dots[form]), layout.symbols)
+                fault = fault_in(rows_of(dots[form]), item.symbols)
                 self.assertIsNone(fault, (name, dpi, form))
-                self.assertEqual(self.by_zbar(dots[form]), self.codes(layout), (name, dpi, form))
-                read += len(layout.symbols)
+                self.assertEqual(self.by_zbar(dots[form]), self.codes(item), (name, dpi, form))
+                read += len(item.symbols)
         self.assertEqual(read, 27)
 
-    def codes(self, layout: SvgLayout) -> list[str]:
+    def codes(self, item: LaidOut) -> list[str]:
         """The data of the symbols of a label, in their order."""
-        return sorted(symbol.data.decode() for symbol in layout.symbols)
+        return sorted(symbol.data.decode() for symbol in item.symbols)
 
     def by_zbar(self, dots: jobs.Dots) -> list[str]:
         """What zbar reads on a label, with white around it."""

@@ -10,12 +10,15 @@ from unittest import mock
 import designs
 import support
 from designs import Label
+from labeltools.common.messages import Silence
 from labeltools.drawing.pen import Pen
 from labeltools.layout.fitting import Fitted, Fitter, LEFT, Placed, Style
 from labeltools.layout.glyphs import LINE_END
 from labeltools.layout.layout import LaidOut
 from labeltools.layout.letters import FONT, Letters, OTHER_FONT
 from labeltools.layout.pango import UNIT
+from labeltools.printing.job import planned, PrintOptions
+from labeltools.printing.press import labels_of
 from laying import documents_of
 
 WORDS = (
@@ -200,6 +203,36 @@ class OwnLines(unittest.TestCase):
             with self.subTest(form=form):
                 rows = self.lines(design, labels, form, 203)
                 self.assertEqual(rows, [["Müller & Söhne GmbH, Obst", "und Gemüse"]])
+
+
+class TitleLines(unittest.TestCase):
+    """Lines of titles in the built-in designs: they end alike in each form."""
+
+    @classmethod
+    def setUpClass(cls) -> None:
+        support.labels_program()
+
+    def lines(self, data: bytes, form: str) -> list[list[int]]:
+        """How many letters each line of a title has as it is drawn."""
+        job = planned(PrintOptions(paper=(50.0, 40.0), dpi=203, to=form))
+        found = labels_of(job, "lines", data, Silence())
+        drawn = []
+        for item in found.labels:
+            title = next(found.pens[0].texts(item)).text
+            rows = [len(row.numbers) for row in title.rows]
+            drawn.append(rows or [len(line) for line in lines_in(title.layout)])
+        return drawn
+
+    def test_lines_end_alike(self) -> None:
+        chosen = random.Random(12)
+        titles = [" ".join(chosen.choices(WORDS, k=chosen.randrange(2, 9))) for _ in range(200)]
+        labels: list[Label] = [
+            (f"code128 A-{number}", {"title": title, "price": "1 €"})
+            for number, title in enumerate(titles)
+        ]
+        drawings, dots = (self.lines(support.file_of(labels), form) for form in ("pdf", "zpl"))
+        self.assertEqual(drawings, dots)
+        self.assertGreater(sum(len(rows) > 1 for rows in dots), 60)
 
 
 if __name__ == "__main__":

@@ -15,6 +15,7 @@ from labeltools.common.messages import Silence
 from labeltools.layout.layout import LaidOut
 from labeltools.printing.job import planned, PrintOptions
 from labeltools.printing.press import labels_of
+from laying import boxes_of
 from rendering import dots_of_svg, rendered
 
 LINES = (
@@ -65,7 +66,7 @@ def bars_of(data: bytes, dpi: int) -> tuple[slice, slice, jobs.Dots]:
     job = planned(options)
     found = labels_of(job, "lines", data, Silence())
     (item,) = found.laid_out.labels
-    box = item.layout.boxes["bars"]
+    box = boxes_of(item)["bars"]
     left, top = job.plan.places[0]
     rows = slice(top + box.top, top + box.bottom)
     return rows, slice(left + box.left, left + box.right), modules_of(item)
@@ -75,7 +76,7 @@ def modules_of(item: LaidOut) -> jobs.Dots:
     """The dots of the bars of a label."""
     modules = item.record.modules
     bits = jobs.bits_of(modules.rows(), modules.width)
-    box = item.layout.boxes["bars"]
+    box = boxes_of(item)["bars"]
     wide = bits.repeat(box.width // modules.width, axis=1)
     return wide.repeat(box.height // len(bits), axis=0)
 

@@ -13,8 +13,8 @@ import numpy
 import jobs
 import support
 from labeltools.common.messages import Silence
-from labeltools.designs.framed import styled_text
 from labeltools.layout.area import ROLL_SMALLEST
+from labeltools.layout.fitting import LEFT, MIDDLE, RIGHT
 from labeltools.layout.frame import PRICE_STYLES
 from labeltools.layout.layout import LaidOut
 from labeltools.layout.letters import (
@@ -27,7 +27,7 @@ from labeltools.lines.library import labels_library
 from labeltools.lines.symbologies import SYMBOLOGIES
 from labeltools.printing.job import planned, PrintOptions
 from labeltools.printing.press import labels_of, Prepared
-from laying import documents_of, Laid, laid_out, look, NO_EDGES
+from laying import boxes_of, documents_of, Laid, laid_out, look, NO_EDGES, sizes_of, texts_in
 from rendering import rendered
 
 EVERY = (
@@ -114,9 +114,9 @@ def digits_in_pdf(line: bytes) -> Iterator[Any]:
     page = rendered(["pdftoppm", "-r", "600", "-mono", "FILE", "out"], document)
     (item,) = prepared.laid_out.labels
     (corner,) = job.plan.places
-    box, module = item.layout.boxes["digits"], item.layout.module
+    box, module = boxes_of(item)["digits"], item.finest.module
     left, top = corner[0] + box.left, corner[1] + box.top
-    for place in item.layout.symbology.places:
+    for place in item.finest.symbology.places:
         inside = page[
             top : top + box.height, left + place.left * module : left + place.right * module
         ]
@@ -218,22 +218,22 @@ class Frames(unittest.TestCase):
         for font in (FONT, OTHER_FONT):
             laid = laid_out(filed(*usual, long), (63.5, 38.1), 300, font=font)
             alone = laid_out(filed(*usual), (63.5, 38.1), 300, font=font)
-            frame = laid.labels[0].layout.frame
-            sizes = alone.labels[0].layout.frame.sizes
-            self.assertEqual(frame.sizes["price"], sizes["price"])
-            self.assertGreaterEqual(frame.sizes["title"], 43)
+            sizes, usual_sizes = sizes_of(laid.labels[0]), sizes_of(alone.labels[0])
+            self.assertEqual(sizes["price"], usual_sizes["price"])
+            self.assertGreaterEqual(sizes["title"], 43)
             cut = (
                 "row 9: a text is too long, so it ends in “…”: shorten it, or choose a larger label"
             )
             said = [str(remark.reason) for remark in laid.prepared.remarks]
-            self.assertEqual(said, [cut] if frame.lines == 1 else [])
+            lines = texts_in(laid.labels[0])["title"].place.lines
+            self.assertEqual(said, [cut] if lines == 1 else [])
 
     def test_a_wide_price_among_many_equal_labels(self) -> None:
         """What nine of ten labels have counts, not what nine of ten different labels have."""
         usual = [{"price": "2,95 €"}] * 40
         laid = laid_out(filed(*usual, {"price": "12.999.499,00 €"}), (60.0, 40.0), 300)
         alone = laid_out(filed(*usual), (60.0, 40.0), 300)
-        self.assertEqual(laid.labels[0].layout.frame.sizes, alone.labels[0].layout.frame.sizes)
+        self.assertEqual(sizes_of(laid.labels[0]), sizes_of(alone.labels[0]))
 
     def test_labels_that_do_not_fit_together(self) -> None:
         """Each has room by itself, and no one frame serves both."""
@@ -250,13 +250,13 @@ class Frames(unittest.TestCase):
         laid = laid_out(data + b"code128 " + b"x" * 80 + b"\n", (60.0, 40.0), 300)
         alone = laid_out(filed(PRICED), (60.0, 40.0), 300)
         self.assertEqual(len(laid.labels), 1)
-        self.assertEqual(laid.labels[0].layout.frame.sizes, alone.labels[0].layout.frame.sizes)
+        self.assertEqual(sizes_of(laid.labels[0]), sizes_of(alone.labels[0]))
 
     def test_a_line_with_a_height_of_its_own(self) -> None:
         data = b"code128,height=40 SHELF-7\ncode128 SHELF-7\nean8,height=60 7351353\n"
         laid = laid_out(data, (70.0, 40.0), 300)
-        heights = [item.layout.boxes["bars"].height for item in laid.labels]
-        modules = [item.layout.module for item in laid.labels]
+        heights = [boxes_of(item)["bars"].height for item in laid.labels]
+        modules = [item.finest.module for item in laid.labels]
         self.assertEqual((heights[0], heights[2]), (40 * modules[0], 60 * modules[2]))
         self.assertEqual([laid.fault(item) for item in laid.labels], [None] * 3)
         tall = laid_out(b"ean8,height=400 7351353\nean8 7351353\n", (70.0, 40.0), 300)
@@ -265,7 +265,7 @@ class Frames(unittest.TestCase):
     def test_invisible_letters_are_no_price(self) -> None:
         plain = laid_out(filed({"title": "Seife"}), (80.0, 40.0), 300).labels[0]
         unseen = laid_out(filed({"title": "Seife", "price": "\u200b"}), (80.0, 40.0), 300).labels[0]
-        self.assertEqual(plain.layout.boxes, unseen.layout.boxes)
+        self.assertEqual(boxes_of(plain), boxes_of(unseen))
 
 
 class Sizes(unittest.TestCase):
@@ -274,12 +274,13 @@ class Sizes(unittest.TestCase):
     def test_the_designs(self) -> None:
         """For a till bars are half as high as wide; on a shelf the price is larger."""
         for size in ((57.0, 32.0), (63.5, 38.1), (70.0, 37.0)):
-            till = laid_out(filed(FULL), size, 600).labels[0].layout
-            shelf = laid_out(filed(FULL), size, 600, design="shelf").labels[0].layout
-            self.assertGreaterEqual(till.boxes["bars"].height, 0.35 * 95 * till.module, size)
+            till = laid_out(filed(FULL), size, 600).labels[0]
+            shelf = laid_out(filed(FULL), size, 600, design="shelf").labels[0]
+            bars = boxes_of(till)["bars"]
+            self.assertGreaterEqual(bars.height, 0.35 * 95 * till.finest.module, size)
             on_shelf, at_till = (
-                PRICE_STYLES[layout.frame.price_style] * layout.frame.sizes["price"]
-                for layout in (shelf, till)
+                PRICE_STYLES[price.place.price_style] * price.style.size
+                for price in (texts_in(item)["price"] for item in (shelf, till))
             )
             self.assertGreaterEqual(on_shelf, at_till, size)
 
@@ -293,8 +294,8 @@ class Sizes(unittest.TestCase):
             for size in ((120.0, 60.0), (40.0, 30.0)):
                 laid = laid_out(data, size, dpi, is_roll=is_roll)
                 for item in laid.labels:
-                    module = laid.millimetres(item.layout.module)
-                    symbology = item.layout.symbology
+                    module = laid.millimetres(item.finest.module)
+                    symbology = item.finest.symbology
                     seen.add(item.record.symbology)
                     least = 0.25
                     if symbology.is_number:
@@ -310,12 +311,12 @@ class Sizes(unittest.TestCase):
             laid = laid_out(data, size, dpi, design="shelf", is_roll=True)
             seen |= {item.record.symbology for item in laid.labels}
             for item in laid.labels:
-                self.assertGreaterEqual(laid.millimetres(item.layout.boxes["bars"].height), 5, size)
+                self.assertGreaterEqual(laid.millimetres(boxes_of(item)["bars"].height), 5, size)
         self.assertEqual(seen, {*SYMBOLOGIES} - {"qr"})
 
     def test_a_module_that_is_given(self) -> None:
         laid = laid_out(b"ean8 7351353\n", (60.0, 40.0), 300, module=0.5)
-        self.assertEqual(laid.labels[0].layout.module, 6)
+        self.assertEqual(laid.labels[0].finest.module, 6)
         refused = laid_out(filed(PRICED), (60.0, 40.0), 600, module=0.2)
         self.assertRegex(refused.reasons[0], "give no modules of 0.264 mm or more")
 
@@ -325,11 +326,11 @@ class Words(unittest.TestCase):
 
     def test_digits_are_in_their_places(self) -> None:
         laid = laid_out(b"ean13 400638133393\n", (60.0, 40.0), 600)
-        layout = laid.labels[0].layout
-        box = layout.boxes["digits"]
-        dots = laid.dots(laid.labels[0])[box.top + 6 * layout.module : box.bottom]
+        (item,) = laid.labels
+        box, module = boxes_of(item)["digits"], item.finest.module
+        dots = laid.dots(item)[box.top + 6 * module : box.bottom]
         inked = dots.any(axis=0).nonzero()[0]
-        places = sorted({(int(place) - box.left) // layout.module for place in inked})
+        places = sorted({(int(place) - box.left) // module for place in inked})
         spans = SYMBOLOGIES["ean13"].places
         for place in places:
             self.assertTrue(any(span.left - 2 <= place < span.right for span in spans), places)
@@ -385,9 +386,8 @@ class Words(unittest.TestCase):
         )
         cut = 0
         for item in laid.labels:
-            text, style = styled_text("title", item.record, item.layout, laid.pen.letters)
-            width = item.layout.boxes["title"].width
-            layout = laid.pen.fitter.laid_out(text, style, width, style.size)
+            _, text, box, style = texts_in(item)["title"]
+            layout = laid.pen.fitter.laid_out(text, style, box.width, style.size)
             self.assertEqual(laid.pen.is_shortened(item), layout.is_ellipsized(), item.record.title)
             cut += layout.is_ellipsized()
         self.assertTrue(5 < cut < 150, cut)
@@ -401,7 +401,7 @@ class Prices(unittest.TestCase):
         laid = laid_out(filed({"title": "Seife", "price": price, **fields}), size, 300)
         (item,) = laid.labels
         look(self, laid, item)
-        box = item.layout.boxes["price"]
+        box = boxes_of(item)["price"]
         texts = laid.pen.texts(item)
         return [text for text in texts if text.box.top == box.top and text.box.height == box.height]
 
@@ -413,7 +413,7 @@ class Prices(unittest.TestCase):
         parts = self.numbers("12,80 €", (63.5, 38.1))
         self.assertEqual(len(parts), 3)
         whole, cents, euro = parts
-        self.assertGreater(whole.text.size, item.layout.frame.sizes["price"])
+        self.assertGreater(whole.text.size, sizes_of(item)["price"])
         self.assertLess(cents.text.size, whole.text.size)
         self.assertGreaterEqual(cents.text.size * 25.4 / 300 * 0.729, 2.2)  # millimetres
         self.assertLess(whole.box.right - whole.text.size * 0.1, cents.box.left)
@@ -460,7 +460,7 @@ class Prices(unittest.TestCase):
             data = support.file_of([(EVERY[0], FULL)])
             laid = laid_out(data, size, 203, design=design, is_roll=True)
             for item in laid.labels:
-                box = item.layout.boxes["price"]
+                box = boxes_of(item)["price"]
                 texts = laid.pen.texts(item)
                 beside = [text for text in texts if text.box.top == box.top]
                 inside = [text for text in beside if not text.style.struck]
@@ -480,7 +480,7 @@ class Prices(unittest.TestCase):
                 look(self, laid, item)
                 struck = [text for text in laid.pen.texts(item) if text.style.struck]
                 self.assertEqual(len(struck), 1)
-                seen += struck[0].box.top == item.layout.boxes["price"].top
+                seen += struck[0].box.top == boxes_of(item)["price"].top
         self.assertGreater(seen, 0)
 
     def test_nothing_is_smaller_than_in_wide_letters(self) -> None:
@@ -491,11 +491,12 @@ class Prices(unittest.TestCase):
             wide = laid_out(data, size, 300, is_roll=True, font=WIDE)
             self.assertEqual(len(laid.labels), len(wide.labels), (line, size))
             for narrow, widened in zip(laid.labels, wide.labels):
-                self.assertGreaterEqual(narrow.layout.module, widened.layout.module)
-                bars, before = narrow.layout.boxes["bars"], widened.layout.boxes["bars"]
+                self.assertGreaterEqual(narrow.finest.module, widened.finest.module)
+                bars, before = boxes_of(narrow)["bars"], boxes_of(widened)["bars"]
                 self.assertGreaterEqual(bars.height, before.height)
-                for kind, least in widened.layout.frame.sizes.items():
-                    self.assertGreaterEqual(narrow.layout.frame.sizes[kind], least, (line, size))
+                sizes, least = sizes_of(narrow), sizes_of(widened)
+                for part in least.keys() - {"was"}:
+                    self.assertGreaterEqual(sizes[part], least[part], (line, size, part))
 
 
 class Edges(unittest.TestCase):
@@ -505,7 +506,7 @@ class Edges(unittest.TestCase):
 
     def edges(self, laid: Laid, item: LaidOut, *names: str) -> tuple[float, float]:
         """Where the ink in boxes of a label begins and ends, in millimetres."""
-        found = item.layout.boxes
+        found = boxes_of(item)
         boxes = [found[name] for name in names if name in found]
         dots = laid.dots(item)
         ends = []
@@ -516,26 +517,28 @@ class Edges(unittest.TestCase):
 
     def test_title_price_and_code_have_one_edge(self) -> None:
         fields = [{"title": "Butter", "price": "2,80 €"}, {"title": "Butter"}, FULL_BUT_TITLE]
-        seen = set[str]()
+        seen = set[tuple[int, int | None]]()
         for (size, dpi), design in itertools.product(STOCKS, ("article", "shelf")):
             for line, label in itertools.product(EVERY, fields):
                 laid = laid_out(filed(label, line=line), size, dpi, design=design, is_roll=True)
                 for item in laid.labels:
-                    frame = item.layout.frame
-                    what = (size, dpi, design, line, label, frame.boxes)
-                    seen.add(frame.alignment)
+                    boxes, texts = boxes_of(item), texts_in(item)
+                    what = (size, dpi, design, line, label, boxes)
+                    words = texts["title"].place.across
+                    numbers = texts["price"].place.across if "price" in texts else None
+                    seen.add((words, numbers))
                     title = self.edges(laid, item, "title")
                     code = self.edges(laid, item, "bars", "digits")
-                    if frame.kind == "below":
-                        bars = item.layout.boxes["bars"]
+                    bars = boxes["bars"]
+                    if words == MIDDLE:
                         middle = laid.millimetres(bars.left + bars.width / 2)
                         self.assertAlmostEqual(sum(title) / 2, middle, delta=self.NEAR, msg=what)
-                    elif frame.kind != "beside":
+                    elif boxes["title"].left < bars.right:  # not beside the code
                         self.assertAlmostEqual(title[0], code[0], delta=self.NEAR, msg=what)
-                    if frame.alignment == "left" and "price" in frame.boxes:
+                    if numbers == LEFT:
                         price = self.edges(laid, item, "price")
                         self.assertAlmostEqual(price[0], code[0], delta=self.NEAR, msg=what)
-        self.assertGreaterEqual(seen, {"below", "left", "split"})
+        self.assertGreaterEqual(seen, {(MIDDLE, MIDDLE), (LEFT, LEFT), (LEFT, RIGHT)})
 
     def test_unit_prices_can_be_read(self) -> None:
         """Their digits are 2 mm high where there is room, which is the case on most stocks."""
@@ -543,7 +546,7 @@ class Edges(unittest.TestCase):
         heights = []
         for (size, dpi), design in itertools.product(STOCKS, ("article", "shelf")):
             laid = laid_out(filed(line), size, dpi, design=design, is_roll=True)
-            letters = laid.millimetres(laid.labels[0].layout.frame.sizes["details"])
+            letters = laid.millimetres(sizes_of(laid.labels[0])["unit"])
             heights.append(0.729 * letters)
         self.assertGreaterEqual(min(heights), 1.5)
         self.assertGreaterEqual(sum(height >= 2 for height in heights), 14, heights)

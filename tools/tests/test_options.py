@@ -18,8 +18,7 @@ import jobs
 import support
 from labeltools.drawing.dots import drawn_page
 from labeltools.drawing.pen import bits_of
-from labeltools.paper.box import Box
-from laying import laid_out
+from laying import boxes_of, laid_out
 from reading import fault_in
 
 COMPARE = "compare the number with the article"
@@ -368,10 +367,10 @@ class ReadBack(unittest.TestCase):
     def test_a_wrong_label(self) -> None:
         laid = laid_out(b"ean13 400638133393\nean13 501234567890\n", (60.0, 40.0), 300)
         first, second = laid.labels
-        record = first.record._replace(drawn=second.record.modules)
-        wrong = replace(first, record=record)
+        symbol = first.symbols[0]._replace(modules=second.record.modules)
+        wrong = replace(first, symbols=(symbol,))
         self.assertIsNone(laid.fault(first))
-        self.assertEqual(laid.fault(wrong), "as drawn it is read as b'5012345678900'")
+        self.assertEqual(laid.fault(wrong), "place code: as drawn it is read as b'5012345678900'")
 
     def test_bars_that_are_turned(self) -> None:
         """zxing-cpp reads a label with a third of its bars turned round; each row of dots is
@@ -381,17 +380,16 @@ class ReadBack(unittest.TestCase):
         (item,) = laid.labels
         area = laid.prepared.laid_out.area
         picture = drawn_page((area.width, area.height), laid.pen, [(item, (0, 0))])
-        bars = item.layout.boxes["bars"]
-        symbols = laid.pen.design.symbols(item, Box(0, 0, area.width, area.height))
-        self.assertIsNone(fault_in([bits_of(row) for row in picture.rows], symbols))
+        bars = boxes_of(item)["bars"]
+        self.assertIsNone(fault_in([bits_of(row) for row in picture.rows], item.symbols))
         rows = list(picture.rows)
         for top in range(bars.top, bars.top + bars.height // 3):
             row = "".join(f"{byte:08b}" for byte in rows[top])
             part = row[bars.left : bars.right]
             turned = row[: bars.left] + part[::-1] + row[bars.right :]
             rows[top] = int(turned, 2).to_bytes(len(rows[top]), "big")
-        fault = fault_in([bits_of(row) for row in rows], symbols)
-        self.assertEqual(fault, "its bars as drawn are not those of labels")
+        fault = fault_in([bits_of(row) for row in rows], item.symbols)
+        self.assertEqual(fault, "place code: its bars as drawn are not those of labels")
 
 
 if __name__ == "__main__":

@@ -19,9 +19,8 @@ from labeltools.checking.read_pdf import drawn_pages, DrawnPage, is_at
 from labeltools.checking.read_svg import dots_of_svg
 from labeltools.common.messages import FAULT, Talk, ToolError
 from labeltools.common.text import Text
-from labeltools.designs.design import Design, PlacedSymbol
-from labeltools.designs.places import Place
-from labeltools.layout.layout import LaidOut
+from labeltools.layout.layout import LaidOut, PlacedSymbol
+from labeltools.layout.place import Place
 from labeltools.lines.engine import bytes_a_row, Engine, LABELS_FAILED
 from labeltools.lines.file import Record
 from labeltools.lines.reasons import Refused
@@ -117,14 +116,12 @@ class Comparison:
 
     def __init__(
         self,
-        design: Design,
         plan: Plan,
         form: str,
         is_escaped: bool,
         is_turned: bool,
         talk: Talk,
     ) -> None:
-        self.design = design
         self.plan = plan
         self.talk = talk
         self.form = form
@@ -193,7 +190,7 @@ class Comparison:
         """Yields what has to be on a page, in the order of its drawing; raises `Different`."""
         for item, at in labels:
             record = item.record
-            for spot in self.design.symbols(item, self.area):
+            for spot in item.symbols:
                 try:
                     symbol = self.symbol(spot, record)
                     kind = (symbol.symbology, symbol.quiet_zones, symbol.width, symbol.rows)

@@ -7,11 +7,10 @@ from typing import Any
 import cairo
 
 from labeltools.designs.design import Below
-from labeltools.designs.places import Place
 from labeltools.designs.svg_design import lightness, SvgDesign
-from labeltools.designs.svg_layout import svg_layout
 from labeltools.layout.layout import Page
 from labeltools.layout.medium import Medium
+from labeltools.layout.place import Place, Sides
 from labeltools.paper.plan import Dots, MILLIMETRES, POINTS
 
 UPRIGHT = cairo.Matrix()
@@ -30,7 +29,7 @@ class Background(Below):
         self.size = tuple(max(1, int(side * medium.dpi / MILLIMETRES)) for side in design.label)
         if medium.is_dots:
             design.page.check_dots(*self.size)
-        self.tinted: set[Place] = set()  # places that have dots of a tint behind them
+        self.tinted: set[Sides] = set()  # of places that have dots of a tint behind them
         self.recorded = cache(self.new_recorded)
         self.dots = cache(self.new_dots)
         # Ghostscript and MuPDF show a pattern in all places as it is in the first one
@@ -60,7 +59,7 @@ class Background(Below):
         light = lightness(lambda canvas: self.design.draw(canvas, scale, absent), wide, high)
         ends = {place: ends_of(place, scale) for place in self.design.places}
         drawing = BlackDots(light, (wide, high), [ends[place] for place in ends if place.is_symbol])
-        self.tinted.update(place for place in ends if drawing.is_tinted(ends[place]))
+        self.tinted.update(place.sides for place in ends if drawing.is_tinted(ends[place]))
         has_ink = drawing.picture.getextrema()[0] == 0
         return drawing.surface(size or (wide, high)) if has_ink else None
 
@@ -69,12 +68,11 @@ class Background(Below):
         is_dots = self.medium.is_dots
         is_first = is_dots and [place for _, place in page] == [(0, 0)]
         if is_first and canvas.get_matrix() == UPRIGHT:
-            self.begin(canvas.get_target(), svg_layout(page[0][0]).absent)
+            self.begin(canvas.get_target(), page[0][0].absent)
             return
         for item, place in page:
-            absent = svg_layout(item).absent
             own = place if self.has_patterns else None
-            drawing = self.dots(absent, None) if is_dots else self.recorded(absent, own)
+            drawing = self.dots(item.absent, None) if is_dots else self.recorded(item.absent, own)
             if drawing:
                 canvas.save()
                 canvas.translate(*place)
@@ -87,7 +85,7 @@ class Background(Below):
 
     def is_tinted(self, place: Place) -> bool:
         """Returns whether dots of a tint are drawn in a place."""
-        return place in self.tinted
+        return place.sides in self.tinted
 
     def begin(self, page: cairo.ImageSurface, absent: frozenset[str]) -> None:
         """Copies the drawing to a page that is one label: Cairo would be slow."""

@@ -1,35 +1,14 @@
 """What a design does with labels: each built-in one, and a page of SVG."""
 
-from typing import Any, Iterator, Mapping, NamedTuple, Protocol, Sequence
+from typing import Any, Mapping, NamedTuple, Protocol, Sequence
 
 from labeltools.common.messages import Talk
-from labeltools.designs.places import Place
 from labeltools.layout.area import Area
-from labeltools.layout.fitting import Fitter, Placed, Style
-from labeltools.layout.layout import LaidOut, LaidOutFile, Page
+from labeltools.layout.layout import LaidOutFile, Page
 from labeltools.layout.letters import Letters
 from labeltools.layout.medium import Medium
-from labeltools.lines.engine import Modules
+from labeltools.layout.place import Place
 from labeltools.lines.file import Record
-from labeltools.lines.symbologies import Symbology
-from labeltools.paper.box import Box
-
-CODE = Place("code")  # of a built-in design
-NO_BOX = Box(0, 0, 0, 0)
-
-
-class PlacedSymbol(NamedTuple):
-    """A symbol in a place: its box, its data and modules, and where its bars and digits are in that
-    as it is read.
-    """
-
-    place: Place
-    box: Box
-    data: bytes
-    modules: Modules
-    symbology: Symbology
-    module: int
-    boxes: Mapping[str, Box]
 
 
 class Setting(NamedTuple):
@@ -58,7 +37,7 @@ class Design(Protocol):
     """How labels look."""
 
     def lay_out(self, labels: Sequence[Record], on: Setting, talk: Talk) -> LaidOutFile:
-        """Returns labels with their layouts, why others are left out, and what is said of all;
+        """Returns labels as they are laid out, why others are left out, and what is said of all;
         raises what `talk.go_on` does.
         """
 
@@ -66,15 +45,6 @@ class Design(Protocol):
         """Returns the texts of labels that are printed in letters, by the numbers of their
         lines.
         """
-
-    def symbols(self, item: LaidOut, area: Box = NO_BOX) -> Sequence[PlacedSymbol]:
-        """Returns the symbols of a label, which has the whole of an area."""
-
-    def texts(self, item: LaidOut, fitter: Fitter, below: Below) -> Iterator[Placed]:
-        """Yields the texts of a label as they fit their boxes."""
-
-    def cut_texts(self, item: LaidOut, fitter: Fitter) -> Iterator[tuple[str, Style, int, int]]:
-        """Yields the texts of a label that may be cut, with their room."""
 
     def below(self, medium: Medium) -> Below:
         """Returns what is below the symbols and texts of labels."""

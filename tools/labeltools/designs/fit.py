@@ -12,17 +12,17 @@ from typing import NamedTuple
 
 from labeltools.common.messages import quoted, ToolError
 from labeltools.common.text import Text
-from labeltools.designs.places import Place
 from labeltools.layout.fitting import Style
 from labeltools.layout.frame import common_value, HINTING, LEAST_TEXT, LINE
 from labeltools.layout.glyphs import LINE_END
+from labeltools.layout.layout import PlacedText
 from labeltools.layout.letters import BLANK, extent_of, Letters, Sign
+from labeltools.layout.place import Place, PRICES
 from labeltools.paper.box import Box
 
 SIDE = 1 / 8  # white at both sides of wrapped lines, in letters
 STEP = 0.97  # the next smaller size of letters that is tried
 STEPS = 160  # of these: from the largest letters to less than a hundredth of them
-PRICES = ("price", "unit", "was")  # they stay on one line, and are never cut
 OUTLYING = 2.0  # by how much smaller letters have no part in the size that is common to labels
 NUMBER = re.compile(r"\W*\d[\d\W]+")
 LOW = 0.5  # of the size of letters: signs with lower ink, as hyphens, are as beside a LETTER
@@ -35,15 +35,6 @@ class NoRoom(ToolError):
     """Why a price or a symbol has no room in its place."""
 
 
-class PlacedText(NamedTuple):
-    """A text in the box of a place, with the ends of its lines, and how it is written."""
-
-    place: Place
-    text: str
-    box: Box
-    style: Style
-
-
 class Fit(NamedTuple):
     """The largest letters of a text in a place, and the text with the ends of its lines then, but
     of one that is cut.
@@ -54,18 +45,68 @@ class Fit(NamedTuple):
     is_cut: bool = False
 
 
-class Room:
+class Wrapping:
+    """Parts the texts of a place into lines, alike on each medium."""
+
+    def __init__(self, place: Place, letters: Letters) -> None:
+        self.place = place
+        self.letters = letters
+        self.sign = cache(self.new_sign)
+
+    def of(self, text: str) -> Letters:
+        """Returns the letters in which a text is."""
+        return self.letters.of(text, self.place.part == "price" and self.place.is_bold)
+
+    def new_sign(self, line: str, letters: Letters) -> Sign:
+        """Returns what a line takes in letters, also where they change beside others."""
+        is_bold = self.place.is_bold
+        if not line.strip():
+            return BLANK
+        return letters.line(line, is_bold) or letters.whole_sign(line, is_bold)
+
+    def in_lines(self, text: str, room: float) -> str | None:
+        """Returns a text with the ends of its lines in a room; None where a part of it is too
+        wide.
+        """
+        letters = self.of(text)
+        found = []
+        for paragraph in text.split("\n"):
+            lines = self.wrapped(paragraph, letters, room - SIDE)
+            if not lines:
+                return None
+            found.append(LINE_END.join(lines))
+        return "\n".join(found)
+
+    def wrapped(self, paragraph: str, letters: Letters, room: float) -> list[str]:
+        """Returns the lines of a paragraph; none where a part of it is too wide. A price is one
+        part.
+        """
+        is_price = self.place.part in PRICES
+        lines = [""]
+        used = 0.0
+        for part in [paragraph] if is_price else letters.wrapping_parts(paragraph):
+            bare = part.rstrip(" ")
+            wide = self.sign(bare, letters).advance
+            if wide > room:
+                return []
+            if used and used + wide > room:
+                lines.append("")
+                used = 0.0
+            lines[-1] += part
+            used += wide + letters.steps[self.place.is_bold][" "] * (len(part) - len(bare))
+        return [line.rstrip(" ") for line in lines]
+
+
+class Room(Wrapping):
     """The room of a place, and the texts of all labels in it, with how often each of them comes."""
 
     def __init__(
         self, place: Place, box: Box, letters: Letters, dot: float, counts: Counter[str]
     ) -> None:
-        self.place = place
+        super().__init__(place, letters)
         self.box = box
-        self.letters = letters
         self.dot = dot
         self.wide, self.high = place.as_read(box)
-        self.sign = cache(self.new_sign)
         self.largest = cache(self.new_largest)
         self.text = cache(self.new_text)
         lines = {(line, self.of(text)) for text in counts for line in text.split("\n")}
@@ -89,19 +130,8 @@ class Room:
     def new_largest(self, lines: int) -> int:
         """Returns the largest letters of a number of lines."""
         size = int(self.high / ((lines - 1) * LINE + self.bottom - self.top))
-        wished = int(self.place.size / self.dot)
+        wished = self.place.letters_in(self.dot)
         return min(size, wished) if wished else size
-
-    def of(self, text: str) -> Letters:
-        """Returns the letters in which a text is."""
-        return self.letters.of(text, self.place.part == "price" and self.place.is_bold)
-
-    def new_sign(self, line: str, letters: Letters) -> Sign:
-        """Returns what a line takes in letters, also where they change beside others."""
-        is_bold = self.place.is_bold
-        if not line.strip():
-            return BLANK
-        return letters.line(line, is_bold) or letters.whole_sign(line, is_bold)
 
     def with_lines(self, text: str) -> str:
         """Returns a text whose line ends are spaces where there is no room for so many lines."""
@@ -133,35 +163,12 @@ class Room:
         letters = self.of(text)
         if "\n" not in text and extent_of(self.sign(text, letters)).width <= room:
             return text
-        found = []
-        for paragraph in text.split("\n"):
-            lines = self.wrapped(paragraph, letters, room - SIDE)
-            if not lines:
-                return None
-            found.append(LINE_END.join(lines))
-        whole = "\n".join(found)
+        whole = self.in_lines(text, room)
+        if whole is None:
+            return None
         lines_there = count_of(whole)
         is_fitting = lines_there <= self.most_lines and size <= self.largest(lines_there)
         return whole if is_fitting else None
-
-    def wrapped(self, paragraph: str, letters: Letters, room: float) -> list[str]:
-        """Returns the lines of a paragraph; none where a part of it is too wide. A price is one
-        part.
-        """
-        is_price = self.place.part in PRICES
-        lines = [""]
-        used = 0.0
-        for part in [paragraph] if is_price else letters.wrapping_parts(paragraph):
-            bare = part.rstrip(" ")
-            wide = self.sign(bare, letters).advance
-            if wide > room:
-                return []
-            if used and used + wide > room:
-                lines.append("")
-                used = 0.0
-            lines[-1] += part
-            used += wide + letters.steps[self.place.is_bold][" "] * (len(part) - len(bare))
-        return [line.rstrip(" ") for line in lines]
 
     def new_text(self, text: str) -> PlacedText:
         """Returns where a text is; raises `NoRoom` for a price that would be cut."""

@@ -5,7 +5,7 @@ from functools import cache, lru_cache
 from itertools import accumulate, pairwise
 from typing import Mapping, NamedTuple, Sequence
 
-from labeltools.layout.fitting import Fitted, Fitter, LEFT, MIDDLE, Placed, RIGHT, Style
+from labeltools.layout.fitting import Fitted, Fitter, LEFT, Placed, RIGHT, Style
 from labeltools.layout.frame import HINTING, styles_from
 from labeltools.layout.glyphs import GlyphRow, LineFont
 from labeltools.layout.letters import Letters
@@ -175,20 +175,3 @@ def letter_places(
             places.append(part.left + part.size * end - slot.moved)
             numbers.append(slot.numbers)
     return places, numbers
-
-
-@cache
-def style_of(family: str, kind: str, arrangement: str, size: int, lines: int) -> Style:
-    """Returns how a part of a label is written; `lines` are those of each line of a title."""
-    words, numbers = {
-        "below": (MIDDLE, MIDDLE),
-        "left": (LEFT, LEFT),
-    }.get(arrangement, (LEFT, RIGHT))
-    across, down = {
-        "title": (words, 0.0),
-        "text": (RIGHT, 1.0) if arrangement == "foot" else (words, 0.0),
-        "price": (numbers, 0.5),
-        "details": (numbers, 1.0 if arrangement == "below" else 0.0),
-    }[kind]
-    is_bold = kind in ("title", "price")
-    return Style(family, is_bold, size, lines, across, down, 0)

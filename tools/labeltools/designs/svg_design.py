@@ -24,7 +24,7 @@ import cairo
 
 from labeltools.common.messages import BAD_ARGUMENTS, ToolError
 from labeltools.common.text import Remedy, Text
-from labeltools.designs.places import key_of, part_of, PARTS, Place, place_of, title_of
+from labeltools.designs.place_names import place_of, title_of
 from labeltools.designs.svg_page import (
     handle_of,
     HOLDERS,
@@ -35,6 +35,7 @@ from labeltools.designs.svg_page import (
     tag_of,
 )
 from labeltools.layout.fitting import Colour
+from labeltools.layout.place import key_of, part_of, PARTS, Place
 from labeltools.paper.plan import Edges
 from labeltools.paper.stock import Size, size_text
 

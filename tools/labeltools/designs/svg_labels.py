@@ -1,20 +1,15 @@
 """Labels in a design that is a page of SVG."""
 
-from functools import cache
-from typing import Iterator, Mapping, Sequence
+from typing import Mapping, Sequence
 
 from labeltools.common.messages import Talk
 from labeltools.designs.background import Background
-from labeltools.designs.design import Below, NO_BOX, PlacedSymbol, Setting
-from labeltools.designs.svg_design import BLACK, SvgDesign
-from labeltools.designs.svg_layout import svg_layout, SvgLayouts
-from labeltools.layout.fitting import Colour, Fitter, Placed, Style
-from labeltools.layout.layout import LaidOut, LaidOutFile
+from labeltools.designs.design import Below, Setting
+from labeltools.designs.svg_design import SvgDesign
+from labeltools.designs.svg_layout import SvgLayouts
+from labeltools.layout.layout import LaidOutFile
 from labeltools.layout.medium import Medium
 from labeltools.lines.file import Record
-from labeltools.paper.box import Box
-
-LIGHTEST = 0.999  # a part of a colour that is white in 255 steps
 
 
 class SvgLabels:
@@ -22,7 +17,6 @@ class SvgLabels:
 
     def __init__(self, design: SvgDesign) -> None:
         self.design = design
-        self.colours = cache(design.colours)
 
     def layouts(self, on: Setting) -> SvgLayouts:
         """Returns what lays out labels, which are turned as the design is."""
@@ -40,33 +34,3 @@ class SvgLabels:
     def below(self, medium: Medium) -> Below:
         """Returns the drawing."""
         return Background(self.design, medium)
-
-    def symbols(self, item: LaidOut, area: Box = NO_BOX) -> Sequence[PlacedSymbol]:
-        """Returns the symbols of a label."""
-        return svg_layout(item).symbols
-
-    def texts(self, item: LaidOut, fitter: Fitter, below: Below) -> Iterator[Placed]:
-        """Yields the texts of a label as they fit their boxes."""
-        layout = svg_layout(item)
-        colours = self.colours(layout.absent) if layout.absent else {}
-        for place, text, box, style in layout.texts:
-            colour = colours.get(place, place.colour) or BLACK
-            is_black = colour == BLACK
-            is_edged = is_black and below.is_tinted(place)
-            how = text, style, *place.as_read(box)
-            fitted = fitter.by_pango(*how) if is_edged else fitter.found(*how)
-            shown = None if is_black else off_white(colour)
-            yield Placed(fitted, style, box, place.quarters, shown, is_edged)
-
-    def cut_texts(self, item: LaidOut, fitter: Fitter) -> Iterator[tuple[str, Style, int, int]]:
-        """Yields the texts of a label that may be cut, with their room."""
-        for place, text, box, style in svg_layout(item).texts:
-            yield text, style, *place.as_read(box)
-
-
-def off_white(colour: Colour) -> Colour:
-    """Returns a colour of letters that is not all white: Cairo names the white below codes only
-    where it is another colour than before.
-    """
-    red, green, blue = (min(part, LIGHTEST) for part in colour)
-    return red, green, blue

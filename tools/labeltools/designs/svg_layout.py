@@ -4,21 +4,21 @@ module that their place takes. Lengths are in dots.
 
 import math
 from collections import Counter
-from dataclasses import dataclass, field
+from dataclasses import dataclass, field, replace
 from functools import cache, lru_cache
 from itertools import combinations, compress, repeat
 from typing import Iterator, Mapping, NamedTuple, Sequence
 
 from labeltools.common.messages import sentence, Talk, ToolError
 from labeltools.common.text import Remedy, Text
-from labeltools.designs.design import PlacedSymbol
-from labeltools.designs.fit import ENLARGE, NoRoom, PlacedText, Room
-from labeltools.designs.places import key_of, PARTS, Place
+from labeltools.designs.fit import ENLARGE, NoRoom, Room
 from labeltools.designs.svg_design import mixed_text, NEAR, SvgDesign, UNREAD
 from labeltools.layout.area import Area, LARGEST_MODULE
-from labeltools.layout.frame import DIGITS_ROOM, Frame, LOWEST
-from labeltools.layout.layout import ASKED, LaidOut, LaidOutFile, Layout, short
+from labeltools.layout.frame import DIGITS_ROOM, LOWEST
+from labeltools.layout.layout import ASKED, LaidOut, LaidOutFile, PlacedSymbol, short
 from labeltools.layout.letters import Letters
+from labeltools.layout.place import key_of, PARTS, Place
+from labeltools.layout.symbol_room import SymbolRoom
 from labeltools.lines.engine import drawn, Modules
 from labeltools.lines.file import Record, symbology_and_data
 from labeltools.lines.reasons import Refused
@@ -29,18 +29,6 @@ from labeltools.paper.stock import size_text
 
 FIELDS = ("title", "price", "unit", "was", "code")  # of each label
 KEPT = 16  # columns of labels
-NO_FRAME = Frame("own", {}, {}, 0, 0, 0, 0, 0, 0, True, 0.0, 0.0, "price", 0.0)
-
-
-@dataclass(frozen=True, slots=True)
-class SvgLayout(Layout):
-    """What is on a label beside the drawing, and the parts that it has not, whose groups are not
-    drawn; as a layout it is that of its finest symbol of QR, or else of its finest one.
-    """
-
-    texts: tuple[PlacedText, ...]
-    symbols: tuple[PlacedSymbol, ...]
-    absent: frozenset[str]
 
 
 class Values(NamedTuple):
@@ -111,18 +99,10 @@ class SvgLayouts:
         self.own = frozenset(key for place in self.places for key in (place.key, place.part))
         self.known = self.own | {*groups, *groups.values()}.difference(PARTS)
         self.asked = frozenset(PARTS).union(map(key_of, self.empty))
-        self.boxes = {place: self.box_of(place) for place in self.places}
+        self.boxes = {place: place.box_in(self.area) for place in self.places}
         self.boxes_of = cache(self.new_boxes)
         self.unread = cache(lambda absent: self.design.mixed(absent, UNREAD, 0.5))
-
-    def box_of(self, place: Place) -> Box:
-        """Returns the dots of a place that the paper takes."""
-        dot = self.area.dot
-        left, top = (max(0, math.ceil(at / dot - TINY)) for at in (place.left, place.top))
-        right = math.floor((place.left + place.width) / dot + TINY)
-        bottom = math.floor((place.top + place.height) / dot + TINY)
-        wide, high = min(right, self.area.width) - left, min(bottom, self.area.height) - top
-        return Box(left, top, max(1, wide), max(1, high))
+        self.coloured = cache(self.new_coloured)
 
     def lay_out(self, labels: Sequence[Record], talk: Talk) -> LaidOutFile:
         """Returns labels with their layouts, why others are left out, and what is said of all."""
@@ -141,11 +121,9 @@ class SvgLayouts:
             texts = values[number].texts
             absent = frozenset(key for key, part in groups.items() if part not in texts)
             try:
-                layout = self.layout(label, rows[number], absent, rooms, symbols)
+                placed.append(self.laid_out(label, rows[number], absent, rooms, symbols))
             except NoRoom as problem:
                 self.left_out[label.number] = sentence(problem.what, problem.hint)
-            else:
-                placed.append(LaidOut(label, layout))
         said = ((labels[0].origin, one) for one in self.said(labels, values, rows, rooms))
         return LaidOutFile(tuple(placed), self.area, self.left_out, tuple(said if labels else ()))
 
@@ -188,25 +166,26 @@ class SvgLayouts:
             found[key] = one if isinstance(one, Refused) else (one, data)
         return found
 
-    def layout(
+    def laid_out(
         self,
         label: Record,
         row: Sequence[str],
         absent: frozenset[str],
         rooms: Mapping[Place, Room],
         made: SecondSymbols,
-    ) -> SvgLayout:
-        """Returns the layout of a label whose texts are those of a row; raises `NoRoom`."""
+    ) -> LaidOut:
+        """Returns a label whose texts are those of a row as it is laid out; raises `NoRoom`."""
         texts = []
         symbols = []
-        unread = self.unread(absent)
+        unread, coloured = self.unread(absent), self.coloured(absent)
         for place, text in zip(self.places, row):
             if not text:
                 continue
             if place in unread:
                 raise NoRoom(mixed_text(self.design.page.file, place.title))
             if place in rooms:
-                texts.append(rooms[place].text(short(text)))
+                placed = rooms[place].text(short(text))
+                texts.append(placed._replace(place=coloured[place]) if absent else placed)
                 continue
             symbology, modules, data = label.kind, label.modules, label.data
             if place.symbology:
@@ -217,34 +196,28 @@ class SvgLayouts:
             module, boxes = self.boxes_of(place, symbology.name, modules.width, modules.height)
             how = (data, modules, symbology, module, boxes)
             symbols.append(PlacedSymbol(place, self.boxes[place], *how))
-        finest = min(symbols, key=lambda one: (one.symbology.nominal > 0, one.module))
-        found = (finest.symbology, finest.module, finest.boxes, False)
-        return SvgLayout(NO_FRAME, *found, tuple(texts), tuple(symbols), absent)
+        return LaidOut(label, tuple(symbols), tuple(texts), absent)
+
+    def new_coloured(self, absent: frozenset[str]) -> Mapping[Place, Place]:
+        """Returns the places of texts on the drawing without some parts, with their colours."""
+        colours = self.design.colours(absent) if absent else {}
+        return {place: replace(place, colour=colour) for place, colour in colours.items()}
 
     def new_boxes(
         self, place: Place, name: str, width: int, height: int
     ) -> tuple[int, Mapping[str, Box]]:
         """Returns the module and the boxes of symbols of a size in modules; raises `NoRoom`."""
         symbology = SYMBOLOGIES[name]
-        box = self.boxes[place]
-        wide, high = place.as_read(box)
+        wide, high = place.as_read(self.boxes[place])
         least, most = self.allowed(place, symbology)
-        rows = height if height > 1 else 0  # else bars are as high as there is room
+        lowest = math.ceil(LOWEST / self.area.dot)
         below = DIGITS_ROOM if symbology.nominal else 0
-        lowest = rows * least or math.ceil(LOWEST / self.area.dot)
-        down = high // (rows + below) if rows else (high - lowest) // below
-        module = min(most, wide // width, down)
-        tall = rows * module or high - below * module
-        if module < least or tall < lowest:
-            raise self.no_room(place, symbology, (width * least, lowest + below * least))
-        tall -= tall % module
-        left = (wide - width * module) * (place.across + 1) // 2
-        top = int((high - tall - below * module) * place.down)
-        bars = Box(left, top, width * module, tall)
-        boxes = {"bars": bars}
-        if below:
-            boxes["digits"] = bars._replace(top=bars.bottom, height=below * module)
-        return module, boxes
+        where = (wide, high, place.across, place.down)
+        room = SymbolRoom(*where, least, most, lowest, high, below)
+        found = room.boxes(width, height)
+        if found is None:
+            raise self.no_room(place, symbology, room.least_of(width, height))
+        return found
 
     def allowed(self, place: Place, symbology: Symbology) -> tuple[int, int]:
         """Returns the least and the most dots of a module. EAN and UPC have a largest one."""
@@ -314,9 +287,3 @@ def line_of(place: Place, text: str) -> bytes:
     escaped = text.replace("\\", "\\\\").replace("\n", "\\n")
     line = f"{','.join((place.symbology, *place.settings))} {escaped}"
     return line.encode("utf-8", "surrogateescape")
-
-
-def svg_layout(item: LaidOut) -> SvgLayout:
-    """Returns the layout of a label in a design."""
-    assert isinstance(item.layout, SvgLayout)
-    return item.layout

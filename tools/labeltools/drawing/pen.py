@@ -10,11 +10,12 @@ import cairo
 
 from labeltools.common.messages import FAULT, ToolError
 from labeltools.common.text import Text
-from labeltools.designs.design import Design, PlacedSymbol
+from labeltools.designs.design import Design
 from labeltools.designs.svg_design import is_light
+from labeltools.drawing.texts import fitted_texts
 from labeltools.layout.fitting import Fitted, Fitter, MIDDLE, Placed, Style
 from labeltools.layout.glyphs import LINE_END
-from labeltools.layout.layout import LaidOut, Page
+from labeltools.layout.layout import LaidOut, Page, PlacedSymbol, PlacedText
 from labeltools.layout.letters import DATA_FONT, digits_face, Letters
 from labeltools.layout.medium import Medium
 from labeltools.layout.pango import asked_size, font_options, PangoCairo
@@ -38,7 +39,6 @@ LARGE = 1000  # dots: the size in which digits are measured
 DIGITS = "0123456789"
 EDGE = 4.0  # dots: white around letters on a tint, of which letters cover half
 KNOWN = 1024  # boxes that are kept
-Symbols = Sequence[tuple[LaidOut, Dots, Sequence[PlacedSymbol]]]  # of labels at their places
 Whites = Sequence[tuple[Sequence[Box], Dots]]  # boxes of labels, with those of their areas
 
 
@@ -53,7 +53,6 @@ class Pen:
     def __init__(self, medium: Medium, letters: Letters, design: Design) -> None:
         self.medium = medium
         self.letters = letters
-        self.design = design
         self.below = design.below(medium)
         self.options = font_options(medium.is_dots)
         self.fitter = Fitter(letters, medium.is_dots)
@@ -81,13 +80,12 @@ class Pen:
             page = [(item, (top, -left)) for item, (left, top) in page]
         self.below.draw(canvas, page)
         runs: GlyphRuns = defaultdict(list)
-        labels = [(item, place, self.design.symbols(item)) for item, place in page]
-        codes = [(symbol, place) for _, place, symbols in labels for symbol in symbols]
+        codes = [(symbol, place) for item, place in page for symbol in item.symbols]
         for symbol, place in codes:
             if "digits" in symbol.boxes:
                 self.draw_digits(canvas, symbol, place, runs)
         whites: Whites = [(white_boxes(symbol), place) for symbol, place in codes]
-        self.draw_texts(canvas, labels, whites, runs)
+        self.draw_texts(canvas, page, whites, runs)
         self.show_runs(canvas, runs)
         turned = canvas.get_matrix()
         if codes and not self.medium.is_dots:
@@ -101,13 +99,13 @@ class Pen:
                 canvas.set_matrix(turned)
         canvas.set_matrix(whole)
 
-    def draw_texts(self, canvas: Any, labels: Symbols, whites: Whites, runs: GlyphRuns) -> None:
+    def draw_texts(self, canvas: Any, page: Page, whites: Whites, runs: GlyphRuns) -> None:
         """Draws the texts of labels, with the boxes of all their symbols, one behind another;
         raises as `draw`.
         """
         rest = iter(whites)
-        for item, place, symbols in labels:
-            taken = [box for boxes, _ in islice(rest, len(symbols)) for box in boxes]
+        for item, place in page:
+            taken = [box for boxes, _ in islice(rest, len(item.symbols)) for box in boxes]
             for text in self.texts(item):
                 if is_over(text.box, taken):
                     what = Text("{}: a text is over its code", item.record.origin.text)
@@ -116,19 +114,21 @@ class Pen:
 
     def texts(self, item: LaidOut) -> Iterator[Placed]:
         """Yields the texts of a label as they fit their boxes."""
-        return self.design.texts(item, self.fitter, self.below)
+        return fitted_texts(item, self.fitter, self.below)
 
     def is_shortened(self, item: LaidOut) -> bool:
         """Returns whether a text of a label ends in an ellipsis."""
-        texts = self.design.cut_texts(item, self.fitter)
-        return item.record.is_cut or any(self.fitter.shown(*text) != text[0] for text in texts)
+        return item.record.is_cut or any(self.shown(text) != text.text for text in item.words())
 
     def shown_texts(self, item: LaidOut) -> tuple[str, ...]:
         """Returns the texts of a label that may be cut as they are seen: up to the ellipsis, where
         they have one.
         """
-        texts = self.design.cut_texts(item, self.fitter)
-        return tuple(self.fitter.shown(*text).replace(LINE_END, " ") for text in texts)
+        return tuple(self.shown(text).replace(LINE_END, " ") for text in item.words())
+
+    def shown(self, text: PlacedText) -> str:
+        """Returns a text as it is seen."""
+        return self.fitter.shown(text.text, text.style, *text.place.as_read(text.box))
 
     def draw_digits(self, canvas: Any, symbol: PlacedSymbol, place: Dots, runs: GlyphRuns) -> None:
         """Draws what is below the bars of a symbol of a label whose area begins at a place; digits

@@ -106,8 +106,7 @@ class Area:
         allowed = [count for count in counts if count * self.dot > least]
         return tuple(sorted(allowed, key=lambda count: abs(count * self.dot - wished)))
 
-    def qr_module(self, symbology: Symbology, width: int, room: int) -> int:
-        """Returns the dots of a module of QR in a room, as many as fit; 0 where too few do."""
-        most = max(1, round((self.wishes.module or LARGEST_QR) / self.dot))
-        module = min(room // width, most)
-        return module if module * self.dot > symbology.module - TINY else 0
+    @property
+    def most_of_qr(self) -> int:
+        """The most dots of a module of QR."""
+        return max(1, round((self.wishes.module or LARGEST_QR) / self.dot))

@@ -7,7 +7,7 @@ from typing import NamedTuple
 
 from labeltools.layout.arrangement import Arrangement, PartSize, rest_below, STACKED, TitlePart
 from labeltools.layout.frame import Frame, HINTING, LEAST_TEXT, LINE, PRICE_STYLES
-from labeltools.layout.joint_needs import JointNeeds, Level, module_in, Rooms
+from labeltools.layout.joint_needs import JointNeeds, Level, Rooms
 
 DETAILS_PART = 1.15  # letters of details as a part of those of texts
 LARGEST_DETAILS = 1.6  # the same where there is room
@@ -55,8 +55,7 @@ class Attempt(NamedTuple):
         demand = self.demand
         area = demand.area
         if self.kind == "below":
-            fits = [module_in(area, need, self.module, area.width) for need in demand.bars]
-            return all(fits) and rooms.words > 0
+            return demand.has_module(self.module) and rooms.words > 0
         if area.width < area.height or not demand.has_words:
             return False
         if self.kind == "beside":
@@ -159,7 +158,6 @@ class Attempt(NamedTuple):
             },
             module=self.module,
             bars=bars,
-            digits=rooms.digits,
             lines=head.lines,
             text_lines=demand.lines,
             details_lines=made.details.lines,

@@ -4,31 +4,47 @@ import math
 from typing import NamedTuple, Sequence
 
 from labeltools.layout.area import Area
-from labeltools.layout.frame import Frame, HINTING, Need, Needs, PRICE_STYLES, styles_from
-from labeltools.layout.joint_needs import module_in
+from labeltools.layout.fitting import LEFT, MIDDLE
+from labeltools.layout.frame import (
+    DIGITS_ROOM,
+    Frame,
+    HINTING,
+    Need,
+    Needs,
+    PRICE_STYLES,
+    styles_from,
+)
+from labeltools.layout.symbol_room import SymbolRoom
+from labeltools.lines.symbologies import SYMBOLOGIES
 from labeltools.paper.box import Box
 
 NARROWER = 0.88  # of bold titles: the usual letters, in widths of those of other scripts
 
 
-def code_boxes(frame: Frame, need: Need, area: Area) -> dict[str, Box] | None:
-    """Returns the places of a code and of what is below its bars; None where it does not fit."""
+def code_boxes(
+    frame: Frame, name: str, width: int, height: int, area: Area
+) -> tuple[int, dict[str, Box]] | None:
+    """Returns the module of a symbol of a size in modules, and where its bars and digits are in the
+    box of codes; None where it does not fit. Bars of all symbologies end on one line.
+    """
+    symbology = SYMBOLOGIES[name]
     code = frame.boxes["code"]
-    module = module_in(area, need, frame.module, code.width)
-    if not need.is_bars:
-        module = area.qr_module(need.kind, need.width, min(code.width, code.height))
-    wide = need.width * module
-    left = code.left + ((code.width - wide) // 2 if frame.kind == "below" else 0)
-    if not need.is_bars:
-        top = code.top + (code.height - wide) // 2
-        return {"bars": Box(left, top, wide, wide)} if module else None
-    high = need.height * module if need.height > 1 else frame.bars - frame.bars % max(1, module)
-    if not module or not 0 < high <= code.height - frame.digits:
-        return None
-    low = code.bottom - frame.digits
+    across = MIDDLE if frame.kind == "below" else LEFT
+    if not symbology.nominal:
+        modules = area.dots(symbology.module), area.most_of_qr
+        return SymbolRoom(*code[2:], across, 0.5, *modules, 1, code.height, 0).boxes(width, height)
+    digits = DIGITS_ROOM * frame.module
+    high = code.height - digits
     if frame.kind != "foot":
-        low -= (code.height - max(frame.bars, high) - frame.digits) // 2
-    return {"bars": Box(left, low - high, wide, high), "digits": Box(left, low, wide, frame.digits)}
+        high -= (high - frame.bars) // 2
+    allowed = area.modules[name]
+    modules = min(allowed, default=1), min(frame.module, max(allowed, default=0))
+    room = SymbolRoom(code.width, high, across, 1.0, *modules, 1, frame.bars, 0)
+    found = room.boxes(width, height)
+    if found:
+        bars = found[1]["bars"]
+        found[1]["digits"] = bars._replace(top=bars.bottom, height=digits)
+    return found
 
 
 class Least(NamedTuple):
@@ -64,12 +80,12 @@ class Least(NamedTuple):
 
 def has_code_of(least: Frame, frame: Frame, need: Need, area: Area) -> bool:
     """Returns whether the code of a need is no smaller in a frame than in another one."""
-    old = code_boxes(least, need, area)
-    new = code_boxes(frame, need, area)
+    old = code_boxes(least, *need.code, area)
+    new = code_boxes(frame, *need.code, area)
     if old is None or new is None:
         return old is None
-    _, _, wide, high = new["bars"]
-    return wide >= old["bars"].width and high >= old["bars"].height
+    bars, least_bars = new[1]["bars"], old[1]["bars"]
+    return bars.width >= least_bars.width and bars.height >= least_bars.height
 
 
 def price_size(frame: Frame, need: Need) -> int:

@@ -117,7 +117,7 @@ class Fitter:
             high = ceil(len(rows) * glyphs.high)
             if not rows or high > height:
                 return None
-            side = size // SIDE
+            side = side_of(size)
             part = (style.across + 1) / 2
             y = int((height - high) * style.down)
             return Fitted(size, side, y, high, None, glyphs, rows, width - 2 * side, part)
@@ -137,7 +137,7 @@ class Fitter:
         """
         if not text.isascii() and NOT_LATIN.search(text.replace(LINE_END, "")):
             return []
-        room = width - 2 * (style.size // SIDE)
+        room = width - 2 * side_of(style.size)
         whole = []
         for paragraph in text.split("\n"):
             found = glyphs.rows(paragraph, room)
@@ -188,7 +188,7 @@ class Fitter:
         """
         layout = new_layout(self.context, style.family, style.is_bold, size)
         if style.lines and width >= 0:
-            layout.set_width((width - size // SIDE * 2) * UNIT)
+            layout.set_width((width - 2 * side_of(size)) * UNIT)
             layout.set_wrap(Pango.WrapMode.WORD_CHAR)
             layout.set_ellipsize(Pango.EllipsizeMode.END)
             layout.set_height(-style.lines)  # of each paragraph
@@ -226,6 +226,16 @@ class Fitter:
         return layout
 
 
+def side_of(size: int) -> int:
+    """Returns the room at each side of lines in letters of a size."""
+    return size // SIDE
+
+
+def height_of(lines: int, size: int) -> int:
+    """Returns how high some lines of letters of a size are."""
+    return ceil(lines * round(LINE * size * UNIT) / UNIT)
+
+
 def corner_of(
     style: Style, extents: tuple[int, int, int], ink: Box, width: int, height: int
 ) -> tuple[int, int]:
@@ -238,7 +248,7 @@ def corner_of(
         x = (width - ink_width) * (style.across + 1) // 2 - left
         y = style.base - base
     else:
-        x = style.size // SIDE if style.lines else (width - across) * (style.across + 1) // 2
+        x = side_of(style.size) if style.lines else (width - across) * (style.across + 1) // 2
         y = int((height - high) * style.down)
     x = max(-left, min(x, width - ink_width - left))
     return x, max(-top, min(y, height - ink_height - top))

@@ -1,4 +1,4 @@
-"""What labels need, and the frame that they have: places for their parts, alike for all of them.
+"""What labels need, and the frame that they have: boxes for their parts, alike for all of them.
 Lengths are in dots, those of texts in sizes of their letters.
 """
 
@@ -20,8 +20,9 @@ MOST_OF = 0.9
 LEAST_SHARE = 0.75
 
 
-# how prices are written, and what their size is worth so: a field of Need each
+# how prices are written, and what their size is worth so
 PRICE_STYLES = {"price": 1.0, "raised": 0.94, "narrow": 0.92, "narrow_raised": 0.87}
+STYLE_NUMBERS = {style: number for number, style in enumerate(PRICE_STYLES)}
 
 
 class Extent(NamedTuple):
@@ -34,9 +35,9 @@ class Extent(NamedTuple):
 class Need(NamedTuple):
     """What decides where the parts of a label are: the symbology, width and height of its code in
     modules (bars without a height of their own have 1); the widths of the lines of its title, the
-    lines of its text and the width of the widest, the width and height of the ink of its price, its
-    width with raised cents, in narrow letters, and in these with raised cents, the widths of its
-    old price and its unit price; 0 for what is not there.
+    lines of its text and the width of the widest; the width of its price in each of `PRICE_STYLES`,
+    and the height of its ink; the widths of its old price and its unit price; 0 for what is not
+    there.
     """
 
     symbology: str
@@ -45,11 +46,8 @@ class Need(NamedTuple):
     title: tuple[float, ...]
     lines: int
     text: float
-    price: float
+    prices: tuple[float, ...]
     price_height: float
-    raised: float
-    narrow: float
-    narrow_raised: float
     was: float
     unit: float
 
@@ -58,10 +56,14 @@ class Need(NamedTuple):
         """What is of the code alone."""
         return self.symbology, self.width, self.height
 
+    @property
+    def price(self) -> float:
+        """The width of its price in plain letters."""
+        return self.prices[0]
+
     def price_width(self, style: str) -> float:
         """Returns the width of its price in a style."""
-        width: float = getattr(self, style)
-        return width
+        return self.prices[STYLE_NUMBERS[style]]
 
     @property
     def kind(self) -> Symbology:
@@ -73,22 +75,37 @@ class Need(NamedTuple):
         """Whether the code is bars."""
         return self.kind.nominal > 0
 
+    def joined(self, other: "Need") -> "Need":
+        """Returns a need of this symbology that fits only where both do."""
+        return Need(
+            self.symbology,
+            max(self.width, other.width),
+            max(self.height, other.height),
+            max(self.title, other.title, key=sum),
+            max(self.lines, other.lines),
+            max(self.text, other.text),
+            tuple(map(max, self.prices, other.prices)),
+            max(self.price_height, other.price_height),
+            max(self.was, other.was),
+            max(self.unit, other.unit),
+        )
+
 
 # needs of labels: each is given with those in wide letters, such as those of other scripts, in
 # which a first frame is found, and how many labels have each of these
 Needs = Mapping[Need, Mapping[Need, int]]
 
 
-@dataclass(frozen=True)
+@dataclass(frozen=True, eq=False)
 class Frame:
-    """Places for the parts of labels, from the left upper corner of the area: `code`, `title`,
+    """Boxes for the parts of labels, from the left upper corner of the area: `code`, `title`,
     `price`, `details`, and `text` where that is beside the code.
 
-    `sizes` are those of letters; `module` is that of bars, `bars` their height, `digits` the height
-    below them; `lines`, `text_lines` and `details_lines` are the most of each; `is_whole` is
-    whether most titles are, and `room_of_titles` the width of all lines of a title, in letters of
-    its size, or infinite where each has one line and is whole; `title_line` that of one line;
-    `price_style` is one of `PRICE_STYLES`.
+    `sizes` are those of letters; `module` is the largest one of bars, `bars` their largest height;
+    `lines`, `text_lines` and `details_lines` are the most of each; `is_whole` is whether most
+    titles are, and `room_of_titles` the width of all lines of a title, in letters of its size, or
+    infinite where each has one line and is whole; `title_line` that of one line; `price_style` is
+    one of `PRICE_STYLES`.
     """
 
     kind: str
@@ -96,7 +113,6 @@ class Frame:
     sizes: Mapping[str, int]
     module: int
     bars: int
-    digits: int
     lines: int
     text_lines: int
     details_lines: int
@@ -111,11 +127,6 @@ class Frame:
         """Whether a price above the code is at the left, since nothing is beside the code."""
         return self.kind == "foot" and not self.details_lines and "text" not in self.boxes
 
-    @property
-    def alignment(self) -> str:
-        """How texts are aligned: the arrangement, or `left`."""
-        return "left" if self.is_flush_left else self.kind
-
 
 def styles_from(style: str) -> list[str]:
     """Returns the styles in which a price is tried where most have one of them: narrower ones are
@@ -128,6 +139,16 @@ def styles_from(style: str) -> list[str]:
     if style == "price":
         return ["price", "narrow"]
     return [one for one in styles[styles.index(style) :] if one.endswith("raised") or one == style]
+
+
+def hinting_of(size: int) -> float:
+    """Returns by how much lines of letters of so many dots may be longer than they are measured: by
+    half a dot for each letter, which is half as wide as high.
+
+    >>> [hinting_of(size) for size in (20, 100)]
+    [1.03, 1.01]
+    """
+    return min(HINTING, 1 + 1 / size)
 
 
 def common_value(values: Mapping[float, int]) -> float:

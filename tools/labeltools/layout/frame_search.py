@@ -16,7 +16,7 @@ from labeltools.layout.arrangement import ARRANGEMENTS
 from labeltools.layout.attempt import Attempt
 from labeltools.layout.code_boxes import Least
 from labeltools.layout.frame import Frame, Need, Needs, PRICE_STYLES
-from labeltools.layout.joint_needs import JointNeeds, Level, LOWEST_PART, module_in
+from labeltools.layout.joint_needs import JointNeeds, Level, LOWEST_PART
 from labeltools.layout.left_edge import with_left_edge
 
 # letters of titles as parts of those of texts, the largest first: without a price and with one
@@ -82,8 +82,7 @@ def is_allowed(style: str, area: Area) -> bool:
 def searched(demand: JointNeeds, least: Least | None = None) -> Frame | None:
     """Returns the frame of labels in which nothing is smaller than in another one."""
     area = demand.area
-    fits = (module_in(area, need, area.width, area.width) for need in demand.bars)
-    if not all(fits) or min(area.width, area.height) < 1:
+    if not demand.has_module(area.width) or min(area.width, area.height) < 1:
         return None
     cut = None
     for number, wishes in product(range(len(LEVELS)), rounds_of(demand)):

@@ -6,7 +6,8 @@ import math
 from collections import Counter
 from dataclasses import dataclass, field
 from functools import cached_property
-from typing import Callable, Mapping, NamedTuple, Sequence
+from operator import gt
+from typing import Iterable, Mapping, NamedTuple, Sequence
 
 from labeltools.layout.area import Area, LARGEST_QR, MODULE
 from labeltools.layout.frame import (
@@ -81,7 +82,9 @@ class JointNeeds:
         codes = {need.code: need for need in self.needs}
         self.bars = [need for need in codes.values() if need.is_bars]
         self.modules = [area.modules[need.symbology] for need in self.bars]
-        self.squares = count(self.needs, "width", lambda need: not need.is_bars)
+        self.squares = counts_of(
+            (need.width, labels) for need, labels in self.needs.items() if not need.is_bars
+        )
         self.text_size = max(area.dots(LEAST_TEXT), round(area.size * TEXT_PART))
         self.gap = max(area.dots(LEAST_GAP), round(area.size * GAP_PART))
         self.inset = self.gap // 2  # white at the sides of words
@@ -90,14 +93,19 @@ class JointNeeds:
             if need.title:
                 self.titles[need.title] += labels
         self.lines = max(need.lines for need in self.needs)
-        self.price = common_value(count(self.needs, "price", lambda need: need.price > 0))
+        priced = [(need, labels) for need, labels in self.needs.items() if need.price > 0]
         self.prices = {
-            style: common_value(count(self.needs, style, lambda need: need.price > 0))
+            style: common_value(
+                counts_of((need.price_width(style), labels) for need, labels in priced)
+            )
             for style in self.styles
         }
+        self.price = self.prices["price"]
         self.least_raised = area.dots(LEAST_RAISED)
         self.price_height = max(need.price_height for need in self.needs)
-        self.text = common_value(count(self.needs, "text", lambda need: True))
+        self.text = common_value(
+            counts_of((need.text, labels) for need, labels in self.needs.items())
+        )
         self.details = (
             max(need.was for need in self.needs),
             max(need.unit for need in self.needs),
@@ -109,17 +117,21 @@ class JointNeeds:
         those whose prices are wider than most.
         """
         codes = {need.code: need for need in self.needs}
-        wide = [
-            need
-            for need in self.needs
-            if any(getattr(need, style) > width for style, width in self.prices.items())
-        ]
+        most = [self.prices.get(style, math.inf) for style in PRICE_STYLES]
+        wide = [need for need in self.needs if any(map(gt, need.prices, most))]
         return [*codes.values(), *wide]
 
     @property
     def has_words(self) -> bool:
         """Whether there is anything but codes."""
         return bool(self.titles or self.lines or self.price or any(self.details))
+
+    def has_module(self, most: int) -> bool:
+        """Returns whether all bars have room across, in modules of so many dots or fewer."""
+        wide = self.area.width
+        return all(
+            module_in(self.area, need.symbology, need.width, most, wide) for need in self.bars
+        )
 
     def title_lines(self, size: int, room: int, is_sparing: bool) -> tuple[int, float]:
         """Returns about how many lines the titles of nine of ten labels take, or of all but one if
@@ -169,7 +181,7 @@ class JointNeeds:
     def least_height(self, need: Need, wish: int, part: float) -> int:
         """Returns the height of the lowest bars of a code, in whole modules."""
         area = self.area
-        module = module_in(area, need, wish, area.width) or wish
+        module = module_in(area, need.symbology, need.width, wish, area.width) or wish
         if need.height > 1:
             return need.height * module
         modules = min(need.width - sum(need.kind.quiet), FULL_BARS) * part
@@ -246,15 +258,12 @@ class JointNeeds:
         return title + 0.1 * code + self.text_size * (kind == "below")
 
 
-def count(
-    needs: Mapping[Need, int], name: str, is_counted: Callable[[Need], bool]
-) -> Counter[float]:
-    """Returns how many labels have each value of a field."""
-    values: Counter[float] = Counter()
-    for need, labels in needs.items():
-        if is_counted(need):
-            values[getattr(need, name)] += labels
-    return values
+def counts_of(values: Iterable[tuple[float, int]]) -> Counter[float]:
+    """Returns how many labels have each value; values are given with a number of labels."""
+    counts: Counter[float] = Counter()
+    for value, labels in values:
+        counts[value] += labels
+    return counts
 
 
 def lines_of(title: tuple[float, ...], scale: float) -> int:
@@ -266,9 +275,9 @@ def lines_of(title: tuple[float, ...], scale: float) -> int:
     return lines
 
 
-def module_in(area: Area, need: Need, wished: int, room: int) -> int:
-    """Returns the module of bars in a room: as wished, or smaller where they are too wide; 0 where
-    none fits.
+def module_in(area: Area, symbology: str, width: int, wished: int, room: int) -> int:
+    """Returns the module of bars of a symbology and a width in modules in a room: as wished, or
+    smaller where they are too wide; 0 where none fits.
     """
-    allowed = area.modules[need.symbology]
-    return max((one for one in allowed if one <= wished and one * need.width <= room), default=0)
+    allowed = area.modules[symbology]
+    return max((one for one in allowed if one <= wished and one * width <= room), default=0)

@@ -46,16 +46,16 @@ def begun_at(box: Box, left: float) -> Box:
 
 def code_ink(frame: Frame, need: Need, demand: JointNeeds) -> int | None:
     """Returns where the ink of a code begins: at its first bar, or at the digit beside that."""
-    boxes = code_boxes(frame, need, demand.area)
+    boxes = code_boxes(frame, *need.code, demand.area)
     if boxes is None:
         return None
-    bars = boxes["bars"]
+    module, inside = boxes
     modules = float(need.kind.quiet[0])
     first = need.kind.places[0] if need.kind.places else None
     if first and first.left < modules:
         wide = min(DIGIT_WIDE, first.right - first.left - 0.5)
         modules = (first.left + first.right - wide) / 2 + DIGIT_INK * wide / DIGIT_WIDE
-    return bars.left + round(modules * (bars.width // need.width))
+    return frame.boxes["code"].left + inside["bars"].left + round(modules * module)
 
 
 def has_room_for_titles(frame: Frame, demand: JointNeeds, width: int) -> bool:

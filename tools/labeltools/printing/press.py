@@ -31,7 +31,7 @@ from labeltools.printing.selection import Selection
 MOST_LABELS = 1_000_000  # of one run, with copies
 WORKBOOK = b"PK\x03\x04"  # what .xlsx and .ods begin with
 # what the dots of a label are made of
-DOTS_OF = attrgetter("record.data", "record.modules", "record.texts", "layout")
+DOTS_OF = attrgetter("symbols", "texts", "absent")
 TABLE_FIRST = Text("a table goes through label-table first")
 CUT_OFF = Text("has no line end, so it may be cut off: end it with a line feed")
 
@@ -232,7 +232,7 @@ class Press:
         self.talk = talk
         area = laid_out.area
         self.turn = area.height if area.is_turned else 0
-        how = (job.design, job.plan, job.form.name, job.options.is_escaped, area.is_turned)
+        how = (job.plan, job.form.name, job.options.is_escaped, area.is_turned)
         self.comparison = Comparison(*how, talk)
 
     @property

@@ -62,14 +62,14 @@ def found_on(
     """Yields labels, which may be none, and what is to be said of them."""
     if area.wishes.purpose.is_for_tills:
         low = [item for item in items if has_low_bars(item)]
-        bars = min((item.layout.boxes["bars"].height for item in low), default=0) * area.dot
+        bars = min((item.finest.boxes["bars"].height for item in low), default=0) * area.dot
         hint = Text("hand scanners read them, a till that reads in all directions may not")
         yield low, Text("bars of {:.1f} mm: {}", bars, hint)
     dense = [item for item in items if is_dense(item, area.dot)]
-    finest = min((item.layout.module for item in dense), default=0) * area.dot
+    finest = min((item.finest.module for item in dense), default=0) * area.dot
     hint = Text("some phones may not read them: shorten the data, or take a larger label")
     yield dense, Text("QR with modules of {:.2f} mm: {}", finest, hint)
-    small = [item for item in items if item.layout.is_small_price]
+    small = [item for item in items if item.is_small_price]
     yield small, Text("a wide price is smaller than the others")
     shortened = [item for item in items if pen.is_shortened(item)]
     yield shortened, SHORTENED
@@ -99,11 +99,12 @@ def is_of_accents(item: LaidOut) -> bool:
 
 def has_low_bars(item: LaidOut) -> bool:
     """Returns whether a label is for a till and its bars are lower than half their width."""
-    layout = item.layout
-    wide = (item.record.modules.width - sum(layout.symbology.quiet)) * layout.module
-    return layout.symbology.is_number and layout.boxes["bars"].height < LOW_PART * wide * ALMOST
+    symbol = item.finest
+    wide = (symbol.modules.width - sum(symbol.symbology.quiet)) * symbol.module
+    return symbol.symbology.is_number and symbol.boxes["bars"].height < LOW_PART * wide * ALMOST
 
 
 def is_dense(item: LaidOut, dot: float) -> bool:
     """Returns whether a label has a QR symbol of small modules."""
-    return not item.layout.symbology.nominal and item.layout.module * dot < DENSE
+    symbol = item.finest
+    return not symbol.symbology.nominal and symbol.module * dot < DENSE

@@ -1,13 +1,10 @@
 """Where labels would be cut at the edges of a paper. Lengths are in millimetres."""
 
 import math
-from collections.abc import Iterator
 from itertools import cycle, islice
 
 from labeltools.common.messages import BAD_ARGUMENTS, ToolError
 from labeltools.common.text import counted, hint_of_remedies, Remedy, Text
-from labeltools.designs.svg_layout import SvgLayout
-from labeltools.layout.layout import LaidOut
 from labeltools.paper.box import Box
 from labeltools.paper.plan import Dots
 from labeltools.printing.job import AS_GIVEN
@@ -40,7 +37,7 @@ def check_edges(printer: str, paper: PrinterPaper, found: Prepared) -> None:
     places = cycle(plan.places)
     used = zip(found.prints, islice(places, found.job.options.first - 1, None)) if near else ()
     cut = sum(
-        place in near and any(is_cut(box, place) for box in boxes_of(item)) for item, place in used
+        place in near and any(is_cut(box, place) for box in item.boxes()) for item, place in used
     )
     if cut:
         edges = ",".join(f"{math.ceil(10 * side) / 10:g}" for side in paper.white)
@@ -59,12 +56,3 @@ def cut_error(printer: str, count: int, edges: str, is_general: bool) -> ToolErr
     edge = Remedy("edge", edges, KEEP_AWAY)
     hint = Text("give {} if it prints up to the edge, or {}", AS_GIVEN, edge)
     return Unsaid(Text("{}: {}", where, may), hint, BAD_ARGUMENTS)
-
-
-def boxes_of(item: LaidOut) -> Iterator[Box]:
-    """Yields where a label has codes and letters, in its area."""
-    if isinstance(item.layout, SvgLayout):
-        yield from (symbol.box for symbol in item.layout.symbols)
-        yield from (box for _, _, box, _ in item.layout.texts)
-    else:
-        yield from item.layout.boxes.values()

@@ -1,23 +1,19 @@
-"""Places of a design, and what their names say.
+"""What the names of places in a design of a user's own say.
 
     title, bold, middle     a text: the part, then how it is written
     code-2, qr, level=Q     a symbol of the part's text, and its settings
 """
 
 import re
-from dataclasses import dataclass, replace
-from functools import cached_property, lru_cache
+from dataclasses import replace
 from typing import Any
 from xml.etree.ElementTree import Element
 
-from labeltools.common.column_names import name_of
 from labeltools.common.messages import quoted, ToolError
 from labeltools.common.text import Text
 from labeltools.designs.svg_page import SPACE
-from labeltools.layout.fitting import Colour
+from labeltools.layout.place import key_of, Place
 from labeltools.lines.symbologies import SYMBOLOGIES
-from labeltools.paper.box import Box
-from labeltools.paper.plan import Dots
 
 # where programs write the name that was typed; ids have no spaces and commas in many of them
 WRITTEN = (
@@ -34,10 +30,6 @@ UNNAMED = re.compile(
     re.IGNORECASE,
 )
 MADE = re.compile(r"text_\d+")  # ids of groups of matplotlib
-PARTS = ("code", "title", "text", "price", "unit", "was", "note")
-AGAIN = re.compile(r"(.+?) \d+")
-AFTER_HYPHEN = re.compile(r"-\d+\s*$")
-MOST_KNOWN = 1024  # names whose keys are kept
 BLANKS = " _-"
 LENGTH = re.compile(r"\d{1,3}(?:\.\d{1,3})?", re.ASCII)
 NUMBERS = {"module": LENGTH, "size": LENGTH, "least": LENGTH, "lines": re.compile("[0-9]{1,2}")}
@@ -50,83 +42,6 @@ WHERE: dict[str, dict[str, Any]] = {  # a text or a symbol is in its place
     "bottom": {"down": 1.0},
 }
 WORDS = {**WHERE, "bold": {"is_bold": True}}  # of texts
-
-
-@dataclass(frozen=True, eq=False)
-class Place:
-    """The place of a part: its name, its sides in millimetres, by how many quarters it is turned to
-    the right; how its letters are written, and their colour (None: what can be read on the
-    drawing); the symbology and settings of a symbol that is made of its text; its module, the
-    largest and the least letters in millimetres, the most lines: 0 for what suits.
-    """
-
-    title: str
-    left: float = 0.0
-    top: float = 0.0
-    width: float = 0.0
-    height: float = 0.0
-    quarters: int = 0
-    across: int = -1
-    down: float = 0.5
-    is_bold: bool = False
-    font: str = ""
-    colour: Colour | None = None
-    symbology: str = ""
-    settings: tuple[str, ...] = ()
-    module: float = 0.0
-    size: float = 0.0
-    least: float = 0.0
-    lines: float = 0.0
-
-    @property
-    def is_symbol(self) -> bool:
-        """Whether a symbol is there."""
-        return bool(self.symbology) or self.part == "code"
-
-    @cached_property
-    def key(self) -> str:
-        """Its name, as names are compared."""
-        return key_of(self.title)
-
-    @cached_property
-    def part(self) -> str:
-        """The part or column that it is for, as names are compared, without a number behind it."""
-        return part_of(self.title)
-
-    def as_read(self, box: Box) -> Dots:
-        """Returns how wide and high its box on a label is, as it is read."""
-        return box[:1:-1] if self.quarters % 2 else box[2:]
-
-    def common(self, other: "Place") -> float:
-        """Returns the lesser side of the room that it has in common with another one, in
-        millimetres; 0 or less where there is none.
-        """
-        across = min(self.left + self.width, other.left + other.width) - max(self.left, other.left)
-        down = min(self.top + self.height, other.top + other.height) - max(self.top, other.top)
-        return min(across, down)
-
-
-@lru_cache(MOST_KNOWN)
-def key_of(name: str) -> str:
-    """Returns a name as it is compared.
-
-    >>> key_of("Seat_No") == key_of("seat  no") == key_of("Seat-no")
-    True
-    """
-    return name_of(name.replace("_", " ").replace("-", " ")).casefold()
-
-
-def part_of(name: str) -> str:
-    """Returns a name as it is compared, without a number behind it. Behind a column that has to be
-    after a hyphen: Line and Line 2 may be two columns.
-
-    >>> part_of("Title-2"), part_of("title_1_"), part_of("Seat-2"), part_of("Line 2")
-    ('title', 'title', 'seat', 'line 2')
-    """
-    known = key_of(name)
-    match = AGAIN.fullmatch(known)
-    is_again = match and (match[1] in PARTS or AFTER_HYPHEN.search(name))
-    return match[1] if match and is_again else known
 
 
 def written_name(element: Element) -> str:
