@@ -102,7 +102,7 @@ def head_of(
     formatter = Formatter(local_signs(options.file.decimal), options.file.date_as, local_date())
     rows = table_rows(data, options, formatter, talk, budget)
     wanted = options.file.header_row
-    first = row_with_names(rows, wanted)
+    first = row_of_names(rows, wanted)
     if first is None and wanted:
         raise ToolError(Text("{} has nothing in row {}", name, wanted))
     if first is None:
@@ -115,7 +115,7 @@ def head_of(
     return Start(Head(first, column_names(first)), rows, formatter)
 
 
-def row_with_names(rows: Iterator[Row], wanted: int | None) -> Row | None:
+def row_of_names(rows: Iterator[Row], wanted: int | None) -> Row | None:
     """Returns the row of a number, or else the first one that is not blank; None where there is
     none, or where that of the number is blank.
     """
