@@ -2187,8 +2187,7 @@ class WindowTest(Keeper):
         packed = bytearray(first.record.modules.packed)
         packed[len(packed) // 2] ^= 0b00111100
         modules = replace(first.record.modules, packed=bytes(packed))
-        record = first.record._replace(drawn=modules)
-        bad = replace(first, record=record)
+        bad = replace(first, symbols=(first.symbols[0]._replace(modules=modules),))
         prints = [bad if item is first else item for item in made.prints]
         self.window.made = replace(self.window.made, labels=replace(made, prints=prints))
         path = self.folder / "wrong.pdf"
