@@ -102,7 +102,7 @@ class DraftReader:
         if self.columns.variants_of:
             self.variants.see_title(row)
         columns = self.columns
-        if not all(column.has_value(row, value) for column, value in columns.where):
+        if columns.where and not self.has_wanted_values(row):
             return None
         code = self.row_code(row)
         self.right_codes += 1
@@ -122,6 +122,10 @@ class DraftReader:
         unit = self.row_price(columns.unit_price, row, currency) if columns.unit_price else None
         was = self.row_price(columns.old_price, row, currency) if columns.old_price else None
         return Draft(code, record, (price, unit, was))
+
+    def has_wanted_values(self, row: Row) -> bool:
+        """Returns whether a row has the value of each column that decides which rows are taken."""
+        return all(column.has_value(row, value) for column, value in self.columns.where)
 
     def refuse_names(self, row: Row) -> None:
         """Raises `RowError` for a row that has the names of the columns again, and for one that

@@ -89,6 +89,8 @@ def currency_of_cell(text: str) -> str:
     >>> currency_of_cell("€"), currency_of_cell("RF"), currency_of_cell("")
     ('EUR', 'RF', '')
     """
+    if not text:  # most rows have no currency of their own
+        return ""
     plain = plain_signs(text)
     return currency_of(plain, plain) or ""
 

@@ -6,6 +6,7 @@ from collections.abc import Sequence
 from contextlib import suppress
 from dataclasses import dataclass, field
 from decimal import Decimal, ROUND_HALF_UP
+from functools import cache
 
 from labeltools.common.text import hint_of_remedies, NOTHING, Remedy, Text
 from labeltools.tables.money import (
@@ -262,7 +263,7 @@ class PricePattern:
         """
         own = self.currency
         found = currency_of_row(price, currency) or price.currency
-        wanted = currency_of(plain_signs(own)) if own not in ("", "¤") else ""
+        wanted = currency_wanted(own)
         has_one = found not in ("", "cent")
         if has_one and wanted and not is_same_currency(found, wanted):
             raise NotMoney(Text("has {}, and the format of prices has {}", found, wanted))
@@ -270,6 +271,14 @@ class PricePattern:
             raise NotMoney(Text("has no currency, and the format of prices wants one"))
         if not own and found:
             raise NotMoney(Text("has {}, and the format of prices has no currency", found))
+
+
+@cache
+def currency_wanted(written: str) -> str | None:
+    """Returns the currency that prices of a pattern have to have, as that is written there; nothing
+    where they may have any, or none.
+    """
+    return currency_of(plain_signs(written)) if written not in ("", "¤") else ""
 
 
 def currency_of_row(price: Money, currency: str) -> str:
