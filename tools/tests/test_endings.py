@@ -7,6 +7,7 @@ import json
 import os
 import signal
 import subprocess
+import sys
 import tempfile
 import time
 import unittest
@@ -309,6 +310,24 @@ class Signals(desk.Desk):
         run.terminate()
         self.assertEqual(run.wait(support.SECONDS), -signal.SIGTERM)
         os.close(reader)
+
+    def test_a_signal_is_not_lost_where_it_is_held_back_no_longer(self) -> None:
+        """It comes just before the system heeds it again."""
+        code = (
+            "import os, signal\n"
+            "from labeltools.common import signals\n"
+            "heed = signals.on_signals\n"
+            "def heed_late(action=signal.SIG_DFL):\n"
+            "    signals.on_signals = heed\n"
+            "    os.kill(os.getpid(), signal.SIGTERM)\n"
+            "    heed(action)\n"
+            "with signals.hold_signals():\n"
+            "    signals.on_signals = heed_late\n"
+            "print('it goes on')\n"
+        )
+        command = [sys.executable, "-c", code]
+        done = subprocess.run(command, cwd=support.TOOLS, capture_output=True)
+        self.assertEqual((done.returncode, done.stdout), (-signal.SIGTERM, b""), done.stderr)
 
     def test_an_ignored_signal_stays_ignored(self) -> None:
         printing = " ".join([*desk.program(), *desk.ROLL, self.lines])

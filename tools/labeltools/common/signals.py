@@ -30,10 +30,13 @@ class Signals:
         try:
             yield came
         finally:
-            self.came = None
+            # one that comes meanwhile waits: it would be lost between these steps
+            blocked = signal.pthread_sigmask(signal.SIG_BLOCK, ENDING)
             on_signals()
+            self.came = None
             for number in came:
                 os.kill(os.getpid(), number)
+            signal.pthread_sigmask(signal.SIG_SETMASK, blocked)
 
     def keep_signal(self, number: int, _: object) -> None:
         """Takes a signal that is held back."""
