@@ -161,30 +161,30 @@ def inside(widget: Any) -> Any:
     """Yields a widget, and all that are in it."""
     yield widget
     if isinstance(widget, Gtk.Container):
-        for one in widget.get_children():
-            yield from inside(one)
+        for child in widget.get_children():
+            yield from inside(child)
 
 
 def named(widget: Any) -> Any:
     """Yields the controls in a widget that a keyboard reaches, with their names."""
     kinds = (Gtk.Button, Gtk.ComboBox, Gtk.Entry, Gtk.TreeView, Gtk.DrawingArea)
-    for one in inside(widget):
-        if one.get_visible() and isinstance(one, kinds):
-            label = getattr(one, "get_label", lambda: None)()
-            relations = one.get_accessible().ref_relation_set()
+    for control in inside(widget):
+        if control.get_visible() and isinstance(control, kinds):
+            label = getattr(control, "get_label", lambda: None)()
+            relations = control.get_accessible().ref_relation_set()
             labelled = any(relations.get_relation(n) for n in range(relations.get_n_relations()))
-            yield one, one.get_accessible().get_name() or label or labelled
+            yield control, control.get_accessible().get_name() or label or labelled
 
 
 def cut_texts(widget: Any) -> Iterator[str]:
     """Yields the texts in a widget that have less room than they need."""
-    for one in gtk.widgets_within(widget):
-        if isinstance(one, Gtk.Label) and one.get_mapped():
-            layout, room = one.get_layout(), one.get_allocation()
+    for label in gtk.widgets_within(widget):
+        if isinstance(label, Gtk.Label) and label.get_mapped():
+            layout, room = label.get_layout(), label.get_allocation()
             width, height = layout.get_pixel_size()
             is_cut = width > room.width + 1 or height > room.height + 1
             if is_cut or layout.is_ellipsized():
-                yield one.get_text()
+                yield label.get_text()
 
 
 def show_cut_texts(path: Path) -> None:
@@ -194,29 +194,31 @@ def show_cut_texts(path: Path) -> None:
     load()
     gtk.add_style()
     Gtk.Settings.get_default().set_property("gtk-xft-dpi", 144 * 1024)
-    one = window.Window()
-    one.present()
-    one.resize(1024, 554)
-    one.open_table(path)
-    while not one.has_labels:
+    shown = window.Window()
+    shown.present()
+    shown.resize(1024, 554)
+    shown.open_table(path)
+    while not shown.has_labels:
         settle(0.1)
-    for fold in (one.widgets.more_of_table, one.widgets.more_of_paper, one.widgets.fold):
-        (fold.set_active if fold is one.widgets.fold else fold.set_expanded)(True)
-    with one.filling():
+    for fold in (shown.widgets.more_of_table, shown.widgets.more_of_paper, shown.widgets.fold):
+        (fold.set_active if fold is shown.widgets.fold else fold.set_expanded)(True)
+    with shown.filling():
         given = "--variants-of Handle --encoding cp1252 --decimal point --fill-zeros --links"
-        one.take_values(given_table=given, given_print="--edge 1 --paper-as-given")
+        shown.take_values(given_table=given, given_print="--edge 1 --paper-as-given")
     for name in questions.BELOW:
-        one.questions.ask_below(name, questions.which("copies"), [("Preis A  –  19,57", bool)] * 2)
+        shown.questions.ask_below(
+            name, questions.which("copies"), [("Preis A  –  19,57", bool)] * 2
+        )
     settle(0.5)
-    print([*cut_texts(one.get_child())])
+    print([*cut_texts(shown.get_child())])
     long = Text(
         "it is not clear how the letters of {} are stored", "Price list of the old till.csv"
     )
-    one.questions.ask_of_file(
+    shown.questions.ask_of_file(
         questions.reason_and_hint(long), questions.reason_and_hint(long), [("Füller", bool)] * 4
     )
     settle(0.5)
-    print([*cut_texts(one.get_child())])
+    print([*cut_texts(shown.get_child())])
 
 
 class Keeper(unittest.TestCase):
@@ -327,7 +329,7 @@ class Keeper(unittest.TestCase):
         if self.widgets.stack.get_visible_child_name() == "asking":
             return f"{self.widgets.asked.get_text()}\n{self.widgets.asked_more.get_text()}"
         asked = [self.window.questions.box(name) for name in questions.BELOW]
-        if texts := [one.text.get_text() for one in asked if one.get_visible()]:
+        if texts := [box.text.get_text() for box in asked if box.get_visible()]:
             return texts[0]
         event = self.window.events.event
         is_wrong = self.widgets.bar.get_visible() and event.kind == "error"
@@ -343,14 +345,18 @@ class Keeper(unittest.TestCase):
         rows = [row.get_child().get_children() for row in self.widgets.history_list.get_children()]
         return [parts[-1].get_text() for parts in rows]
 
+    def records(self) -> Any:
+        """What the labels are of that are shown."""
+        return [label.record for label in self.window.made.labels.labels]
+
     def answers(self) -> Any:
         """The buttons that help."""
         asked = [self.window.questions.box(name) for name in questions.BELOW]
-        boxes = [one.answers for one in asked if one.get_visible()] + [*self.widgets.helps]
+        boxes = [box.answers for box in asked if box.get_visible()] + [*self.widgets.helps]
         if self.widgets.stack.get_visible_child_name() == "asking":
             boxes = [self.widgets.answers]
-        seen = [one for box in boxes for one in box if one.get_visible()]
-        found = {one.get_label() or one.get_child().get_text(): one for one in seen}
+        seen = [button for box in boxes for button in box if button.get_visible()]
+        found = {button.get_label() or button.get_child().get_text(): button for button in seen}
         act = self.widgets.bar_act
         return {**found, act.get_label(): act} if self.said() and act.get_visible() else found
 
@@ -646,12 +652,10 @@ class Mnemonics(unittest.TestCase):
             words = gettext.translation("label-tools", place, [language], fallback=True)
             for part in tree:
                 name = str(part.get("id") or part.get("class"))
-                labels = [
-                    one.text or "" for one in part.iter("property") if one.get("name") == "label"
-                ]
+                labels = [found.text or "" for found in part.iterfind("property[@name='label']")]
                 shown = [*labels, *self.MORE.get(name, ())]
-                said = [words.gettext(one) for one in shown if one not in ("", *self.INSTEAD)]
-                letters = [one[one.index("_") + 1].lower() for one in said if "_" in one]
+                said = [words.gettext(text) for text in shown if text not in ("", *self.INSTEAD)]
+                letters = [text[text.index("_") + 1].lower() for text in said if "_" in text]
                 self.assertEqual(sorted(letters), sorted({*letters}), (language, name, said))
 
 
@@ -683,9 +687,9 @@ class Sentences(unittest.TestCase):
             FORMS, (72, 203, 600, 4800), (1, 9999), ("", "20,20,20,20"), papers
         ):
             words = words_of({"to": form, "dpi": dpi, "first": first, "edge": edge, **paper})
-            said.add(self.said_of(lambda one: planned(print_options(one)), words))
+            said.add(self.said_of(lambda words: planned(print_options(words)), words))
         self.assertGreater(len(said), 8)
-        self.assertEqual([one for one in said if "--" in one], [])
+        self.assertEqual([text for text in said if "--" in text], [])
 
     def test_texts_that_name_options_are_not_said(self) -> None:
         """Each needs an option that the window never gives, or words without a code."""
@@ -788,7 +792,7 @@ class Remedies(Keeper):
         for option, text in test_german.says():
             if option not in ("header", "no-header"):
                 words = re.escape(text).replace(r"\{\}", ".+")
-                found = [one for button, one in pressed if re.fullmatch(words, button)]
+                found = [option for button, option in pressed if re.fullmatch(words, button)]
                 self.assertTrue(found, text)
         for row in (0, 1, 2):
             chosen = replace(self.window.choices(), code="1", header_row=row)
@@ -847,7 +851,7 @@ class WindowTest(Keeper):
 
     def test_the_designs_that_come_with_it_are_a_folder_of_the_dialog(self) -> None:
         folders = self.widgets.design_opener.list_shortcut_folders()
-        self.assertEqual([Path(one).name for one in folders], ["designs"])
+        self.assertEqual([Path(folder).name for folder in folders], ["designs"])
         self.assertIn("rack-100x50.svg", os.listdir(folders[0]))
 
     def test_a_letter_among_digits_is_typed_again(self) -> None:
@@ -1053,7 +1057,7 @@ class WindowTest(Keeper):
                 printer.wait(len(printed))
                 plain = self.by_columns("--paper", "60x40", "--to", "zpl", "--dpi", "600")
                 wanted = re.findall(rb"\^XA.*?\^XZ\n", plain, re.DOTALL)
-                wanted = [one for one, code in zip(wanted, codes) if code in printed]
+                wanted = [label for label, code in zip(wanted, codes) if code in printed]
                 self.assertEqual(printer.labels, wanted)
                 self.assertEqual(len(self.printed()), 6)
 
@@ -1155,7 +1159,7 @@ class WindowTest(Keeper):
         scheduler.add("idle", "both")
         scheduler.add("held", "both")
         subprocess.run(["cupsdisable", "held"], check=True)
-        found = {one.key: one for one in sending.known_printers({})}
+        found = {printer.key: printer for printer in sending.known_printers({})}
         self.assertEqual(
             (str(found["idle"].state), str(found["held"].state)), ("ready", "it is paused")
         )
@@ -1293,8 +1297,8 @@ class WindowTest(Keeper):
         devices.start()
         self.addCleanup(devices.stop)
         printer, other = Printer().start(), Printer().start()
-        for one in (printer, other):
-            self.addCleanup(one.off)
+        for switched in (printer, other):
+            self.addCleanup(switched.off)
         scheduler.add("roll", device=other.name.replace("tcp", "socket"))
         self.window.of_printers.fill_list([*sending.known_printers({})])
         for key in (str(device), "roll"):
@@ -1362,7 +1366,8 @@ class WindowTest(Keeper):
         self.assertEqual(keys, ["add", "file"])
         with mock.patch.object(sending, "connection", side_effect=ToolError(NOTHING)):
             found = [*sending.known_printers({"tcp://10.0.0.1": {"to": "zpl"}})]
-        self.assertEqual([one.key for one in found if one.way == "network"], ["tcp://10.0.0.1"])
+        in_network = [printer.key for printer in found if printer.way == "network"]
+        self.assertEqual(in_network, ["tcp://10.0.0.1"])
 
     def test_older_choices_keep_their_printer(self) -> None:
         """They have a language, the dots, and the address of a printer in the network."""
@@ -1444,7 +1449,7 @@ class WindowTest(Keeper):
         self.assertEqual(self.printed(), [b"96385074"])
         self.change(width=60, height=40, for_print="--only 3")
         # what is typed is read when nothing is typed any more
-        self.until(lambda: {it.record.title for it in self.window.made.labels.labels} == {"Soap"})
+        self.until(lambda: {record.title for record in self.records()} == {"Soap"})
         self.saved("one.zpl")
         self.assertEqual(self.printed(), [b"96385074", b"036000291452"])
         self.open()
@@ -1463,7 +1468,7 @@ class WindowTest(Keeper):
         self.assertTrue(self.widgets.text_2.get_visible())
         self.change(text="3", text_2="5")
         self.saved("labels.pdf")
-        texts = [item.record.body for item in self.window.made.labels.labels]
+        texts = [record.body for record in self.records()]
         self.assertEqual(texts[0], "Pencil, red\n5000")
         self.open()  # it is kept
         self.assertTrue(self.widgets.text_2.get_visible())
@@ -1633,11 +1638,12 @@ class WindowTest(Keeper):
 
     def test_the_window_speaks_the_language(self) -> None:
         """Its controls, and what it tells."""
-        code = "import test_window; test_window.load(); one = test_window.window.Window(); "
-        code += "test_window.work.Work.stop(one.work); one.on_stop(None); "
-        code += "(name,) = one.widgets.price_as.list_mnemonic_labels(); "
-        code += "print(one.widgets.print_button.get_label(), name.get_text(), one.widgets.bar_text.get_text()); "
-        code += "one.widgets.stock.set_text('L7169'); print(one.widgets.sheets[0][1])"
+        code = "import test_window; test_window.load(); shown = test_window.window.Window(); "
+        code += "test_window.work.Work.stop(shown.work); shown.on_stop(None); "
+        code += "(name,) = shown.widgets.price_as.list_mnemonic_labels(); "
+        code += "print(shown.widgets.print_button.get_label(), name.get_text(), "
+        code += "shown.widgets.bar_text.get_text()); "
+        code += "shown.widgets.stock.set_text('L7169'); print(shown.widgets.sheets[0][1])"
         for language, texts, sheet in (
             (
                 "en",
@@ -1679,7 +1685,7 @@ class WindowTest(Keeper):
         self.closed()
         self.open("EAN;Name\n96385074;Füller, rot\n")  # now it is UTF-8
         self.assertEqual(self.problem(), "")
-        self.assertEqual(self.window.made.labels.labels[0].record.title, "Füller, rot")
+        self.assertEqual(self.records()[0].title, "Füller, rot")
 
     def test_a_table_that_cannot_be_read_shows_nothing_of_the_last_one(self) -> None:
         self.open()
@@ -1687,8 +1693,8 @@ class WindowTest(Keeper):
         self.closed()
         shown = self.window.choices()
         self.assertEqual({shown.code, shown.price, shown.symbology}, {None})
-        for one in ("new_only", "result"):
-            self.assertFalse(getattr(self.widgets, one).get_visible(), one)
+        for name in ("new_only", "result"):
+            self.assertFalse(getattr(self.widgets, name).get_visible(), name)
 
     def test_what_came_of_work_is_shown_at_once(self) -> None:
         """Nothing looks at the work again and again; how far it is, is shown twice a second."""
@@ -1765,7 +1771,7 @@ class WindowTest(Keeper):
         self.assertEqual(shown[:3], ["as in the table  –  0,80", "0,80 €", "€0.80"])
         self.change(price_as="€0.00")
         self.assertNotIn("currency", self.counted())
-        self.assertEqual(self.window.made.labels.labels[0].record.price, "€0.80")
+        self.assertEqual(self.records()[0].price, "€0.80")
         self.saved("labels.pdf")
         self.open()  # it is kept
         self.assertEqual(self.window.choices().price_as, "€0.00")
@@ -1784,9 +1790,8 @@ class WindowTest(Keeper):
             "b;Gum, red;72651101030;34.000000;EUR",
         )
         self.open("\n".join([names, *rows, ""]))
-        labels = [one.record for one in self.window.made.labels.labels]
         self.assertEqual(
-            [(one.title, one.price) for one in labels],
+            [(record.title, record.price) for record in self.records()],
             [("Tea, green", "0.80 EUR"), ("Tea, green", "49.90 EUR"), ("Gum, red", "34.00 EUR")],
         )
         words = "--variants-of Handle --currency Currency --fill-zeros"
@@ -1799,7 +1804,7 @@ class WindowTest(Keeper):
         following = self.widgets.given_table.get_children()[0].get_children()[1]
         self.assertIs(self.window.get_focus(), following)  # the next one to be taken back
         self.change(price_as="0,00 €")
-        self.assertEqual(self.window.made.labels.labels[0].record.price, "0,80 €")
+        self.assertEqual(self.records()[0].price, "0,80 €")
         self.saved("labels.pdf")
         self.open()  # what was chosen is kept
         self.assertEqual(self.window.choices().given_table, "--currency Currency --fill-zeros")
@@ -1813,13 +1818,14 @@ class WindowTest(Keeper):
     def take_back(self, said: str) -> None:
         """Presses the button beside what is said."""
         lines = [*self.widgets.given_table, *self.widgets.given_print]
-        (line,) = [one for one in lines if one.get_children()[0].get_text() == said]
+        (line,) = [line for line in lines if line.get_children()[0].get_text() == said]
         line.get_children()[1].grab_focus()
         line.get_children()[1].clicked()
 
     def focus_of(self, choice: Any) -> Any:
         """The button of a choice, which has the focus for it."""
-        return next(one for one in gtk.widgets_within(choice) if isinstance(one, Gtk.ToggleButton))
+        found = gtk.widgets_within(choice)
+        return next(button for button in found if isinstance(button, Gtk.ToggleButton))
 
     def test_what_a_button_chose_is_in_words_and_is_taken_back(self) -> None:
         """Options have only what is typed; what an older window kept of buttons is no longer
@@ -1873,7 +1879,7 @@ class WindowTest(Keeper):
         self.assertEqual([row[1] for row in rows[2:-1]], [*map(str, files)])
         self.assertIn("for a place in a rack, 100 × 50 mm", [row[0] for row in rows])
         pictures = [designs.picture_of_design(row[1]) for row in rows[:-1]]
-        self.assertEqual(len({one.get_pixels() for one in pictures}), len(files) + 2)
+        self.assertEqual(len({picture.get_pixels() for picture in pictures}), len(files) + 2)
         rack = str(support.TOP / "designs/rack-100x50.svg")
         self.change(roll=True, design=rack)
         self.assertIn("rack-100x50.svg is 100 by 50 mm, and a label is 60 by 40 mm", self.problem())
@@ -1894,7 +1900,7 @@ class WindowTest(Keeper):
         self.until(lambda: self.window.further.given == given and self.window.has_labels)
         self.assertEqual(self.given(), ["The point is before the cents."])
         self.assertIs(self.window.get_focus(), self.focus_of(self.widgets.price))
-        self.assertEqual(self.window.made.labels.labels[0].record.price, "€1200.00")
+        self.assertEqual(self.records()[0].price, "€1200.00")
 
     def test_the_bar_closes_by_escape_and_the_list_keeps_what_it_said(self) -> None:
         """The last twenty; what is good does not take the place of what went wrong with another."""
@@ -1908,12 +1914,10 @@ class WindowTest(Keeper):
         self.assertEqual(len(self.happened()), 20)
         self.window.events.show_event(bar.Event("success", "printed after all", about=1))
         self.assertEqual(self.said(), "printed after all")
-        closing = [
-            one for one in gtk.widgets_within(self.widgets.bar) if isinstance(one, Gtk.Button)
-        ]
-        self.assertEqual(
-            [one.get_accessible().get_name() for one in closing if one.get_visible()], ["Close"]
-        )
+        found = gtk.widgets_within(self.widgets.bar)
+        buttons = [button for button in found if isinstance(button, Gtk.Button)]
+        shown = [button for button in buttons if button.get_visible()]
+        self.assertEqual([button.get_accessible().get_name() for button in shown], ["Close"])
         self.pressed_key(Gdk.KEY_Escape)
         self.assertEqual(self.said(), "")
 
@@ -1931,7 +1935,7 @@ class WindowTest(Keeper):
         self.until(lambda: self.window.has_labels)
         self.assertFalse(self.widgets.print_button.is_sensitive())
         self.assertIn("First answer", self.widgets.print_button.get_tooltip_text())
-        self.assertEqual(len(self.window.made.labels.labels), 2)
+        self.assertEqual(len(self.records()), 2)
         first, *_ = self.answers()
         self.assertIs(self.window.get_focus(), self.answers()[first])
         self.remade(lambda: self.pressed(first))
@@ -1955,11 +1959,12 @@ class WindowTest(Keeper):
         self.window.set_focus(None)
         for _ in range(60):
             self.window.child_focus(Gtk.DirectionType.TAB_FORWARD)
-            one = self.window.get_focus()
-            if one is None or one in found:
+            control = self.window.get_focus()
+            if control is None or control in found:
                 break
-            found.append(one)
-        names = [next(self.ids(one), "") for one in found if one.is_ancestor(self.widgets.panel)]
+            found.append(control)
+        in_panel = [control for control in found if control.is_ancestor(self.widgets.panel)]
+        names = [next(self.ids(control), "") for control in in_panel]
         return [name for name in names if name]
 
     def ids(self, widget: Any) -> Any:
@@ -1986,11 +1991,12 @@ class WindowTest(Keeper):
 
     def test_the_panel_fits_a_low_screen(self) -> None:
         """In each language, with a question; 1024 by 600 pixels leave 554 for it."""
-        code = "import test_window as t; t.load(); t.gtk.add_style(); one = t.window.Window(); "
-        code += "one.widgets.stack.set_visible_child_name('work'); one.present(); t.settle(0.3); "
-        code += "one.questions.ask_below('price', t.questions.which('price'), [('VK – 19,57', bool)] * 2); "
-        code += "t.settle(0.3); print(one.widgets.panel.get_preferred_height()[1], end=' '); "
-        code += "print(one.widgets.panel.get_preferred_width()[1])"
+        code = "import test_window as t; t.load(); t.gtk.add_style(); shown = t.window.Window(); "
+        code += "shown.widgets.stack.set_visible_child_name('work'); shown.present(); "
+        code += "t.settle(0.3); answers = [('VK – 19,57', bool)] * 2; "
+        code += "shown.questions.ask_below('price', t.questions.which('price'), answers); "
+        code += "t.settle(0.3); print(shown.widgets.panel.get_preferred_height()[1], end=' '); "
+        code += "print(shown.widgets.panel.get_preferred_width()[1])"
         for language in ("en", "de", "fr"):
             environment = support.speaking(language, self.folder / "locale")
             how: Any = {"cwd": support.TESTS, "env": environment, "capture_output": True}
@@ -2008,14 +2014,13 @@ class WindowTest(Keeper):
         code = "import sys; from pathlib import Path; import test_window as t; t.load(); "
         code += "t.gtk.add_style(); settings = t.Gtk.Settings.get_default(); "
         code += "settings.set_property('gtk-xft-dpi', 144 * 1024); "
-        code += "one = t.window.Window(); one.present(); one.widgets.roll.set_active(True); "
-        code += "one.open_table(Path(sys.argv[1])); t.settle(3); assert one.has_labels; "
-        code += (
-            "one.widgets.fold.set_active(True); t.settle(0.3); print(one.get_preferred_width()[0], "
-        )
-        code += "one.get_preferred_height()[0], len(one.widgets.helps.get_children()), "
+        code += "shown = t.window.Window(); shown.present(); shown.widgets.roll.set_active(True); "
+        code += "shown.open_table(Path(sys.argv[1])); t.settle(3); assert shown.has_labels; "
+        code += "shown.widgets.fold.set_active(True); t.settle(0.3); "
+        code += "print(shown.get_preferred_width()[0], "
+        code += "shown.get_preferred_height()[0], len(shown.widgets.helps.get_children()), "
         code += "*(list.get_popup_accessible().get_widget().get_size_request()[0] "
-        code += "for list in (one.widgets.printer, one.widgets.title)))"
+        code += "for list in (shown.widgets.printer, shown.widgets.title)))"
         for language in ("en", "de", "fr"):
             environment = support.speaking(language, self.folder / "locale")
             how: Any = {"cwd": support.TESTS, "env": environment, "capture_output": True}
@@ -2046,8 +2051,8 @@ class WindowTest(Keeper):
             def act() -> bool:
                 if not self.widgets.choosing.get_visible():
                     return True
-                for one in acts:
-                    one()
+                for do in acts:
+                    do()
                 self.widgets.choosing.response(Gtk.ResponseType.OK)
                 return False
 
@@ -2074,7 +2079,7 @@ class WindowTest(Keeper):
         pixels, row = picture.get_pixels(), picture.get_rowstride()
         size = picture.get_n_channels()
         middle = [pixels[20 * row + x * size : 20 * row + x * size + 3] for x in range(28)]
-        white = "".join("x" if one == b"\xff\xff\xff" else " " for one in middle).split()
+        white = "".join("x" if dot == b"\xff\xff\xff" else " " for dot in middle).split()
         self.assertEqual(len(white), 3)  # columns of labels
         self.assertIsNone(sheets.picture_of("no sheet"))
 
@@ -2197,7 +2202,8 @@ class WindowTest(Keeper):
     def test_long_work_leaves_the_window_alone_and_stops(self) -> None:
         """It is done in another thread; a file that is stopped is not there."""
         numbers = range(401_234_500_000, 401_234_502_000)
-        rows = "".join(f"{one};{support.ean13(one)};Title {one};1,00 €\n" for one in numbers)
+        row = "{0};{1};Title {0};1,00 €\n"
+        rows = "".join(row.format(number, support.ean13(number)) for number in numbers)
         threads: list[threading.Thread] = []
         save = ways.save_to
 
@@ -2263,14 +2269,14 @@ class WindowTest(Keeper):
         self.open()
         controls = list(named(self.window))
         self.assertGreater(len(controls), 20)
-        self.assertEqual([str(one) for one, name in controls if not name], [])
-        boxes = [one for one, _ in controls if isinstance(one, Gtk.ComboBox)]
-        aloud = [one.get_accessible().get_name() for one in boxes]
+        self.assertEqual([str(control) for control, name in controls if not name], [])
+        lists = [control for control, _ in controls if isinstance(control, Gtk.ComboBox)]
+        aloud = [control.get_accessible().get_name() for control in lists]
         self.assertIn("Save a file…", aloud)
         ids = {
             str(value) for value in vars(self.window.choices()).values() if value not in ("", None)
         }
-        self.assertEqual([one for one in aloud if one in ids], [])  # nobody should hear these
+        self.assertEqual([name for name in aloud if name in ids], [])  # nobody should hear these
         self.window.offer(
             self.widgets.helps, [("Prices may be any text, however long it is", bool)] * 3
         )

@@ -132,8 +132,9 @@ class Camera:
         """Writes a picture of the dialog that something shows, and closes that."""
 
         def look() -> bool:
-            shown = [one for one in self.gtk.Gtk.Window.list_toplevels() if one.get_visible()]
-            dialogs = [one for one in shown if isinstance(one, self.gtk.Gtk.Dialog)]
+            windows = self.gtk.Gtk.Window.list_toplevels()
+            shown = [window for window in windows if window.get_visible()]
+            dialogs = [window for window in shown if isinstance(window, self.gtk.Gtk.Dialog)]
             if dialogs:
                 self.shot(name)
                 dialogs[0].response(self.gtk.Gtk.ResponseType.CANCEL)

@@ -188,20 +188,20 @@ class Comparison:
 
     def wanted_on(self, labels: Labels) -> Iterator[Wanted]:
         """Yields what has to be on a page, in the order of its drawing; raises `Different`."""
-        for item, at in labels:
+        for item, corner in labels:
             record = item.record
             for spot in item.symbols:
                 try:
                     symbol = self.symbol(spot, record)
                     kind = (symbol.symbology, symbol.quiet_zones, symbol.width, symbol.rows)
                     how = (spot.place.quarters, spot.boxes["bars"], spot.module)
-                    yield Wanted(record, symbol, self.where(at, spot.box, how, kind))
+                    yield Wanted(record, symbol, self.where(corner, spot.box, how, kind))
                 except Different as error:
                     raise Different(error.what, record) from error
 
-    def new_where(self, at: tuple[int, int], room: Box, how: How, kind: CodeShape) -> Where:
+    def new_where(self, corner: tuple[int, int], room: Box, how: How, kind: CodeShape) -> Where:
         """Returns where a symbol of a kind has to be on the page, in a room of a label whose area
-        is at a place; raises `Different`.
+        begins at a corner; raises `Different`.
         """
         quarters, bars, scale = how
         symbology, (left, right, above, below), width, rows = kind
@@ -216,8 +216,9 @@ class Comparison:
             for first, end in spans
         ]
         whole = bars._replace(height=bars.height + longer * bool(spans))
-        picture, *whites = (self.on_page(room, quarters, one, at) for one in (whole, bars, *guards))
-        self.check_cell(at, picture)
+        boxes = (whole, bars, *guards)
+        picture, *whites = (self.on_page(room, quarters, box, corner) for box in boxes)
+        self.check_cell(corner, picture)
         return Where(picture, tuple(whites), (quarters + self.is_turned) % 4, scale, wide, high)
 
     def symbol(self, spot: PlacedSymbol, record: Record) -> Any:
@@ -304,7 +305,7 @@ def parts_in_dots(wanted: Wanted) -> Iterator[tuple[Box, bytes]]:
     symbol, where = wanted.symbol, wanted.where
     modules = symbol.modules.translate(DIGITS).decode()
     width, count = symbol.width, symbol.rows
-    rows = tuple([modules[at : at + width] for at in range(0, len(modules), width)])
+    rows = tuple([modules[start : start + width] for start in range(0, len(modules), width)])
     highs = (1,) * count
     zones = symbol.quiet_zones
     if count == 1:

@@ -28,7 +28,7 @@ MARK = 128
 UNMARKED = bytes(byte % MARK for byte in range(256))
 RUNS = {
     letter: (bytes([letter, digit]), bytes([digit + MARK]) * (COUNTS[letter] - 1) + bytes([digit]))
-    for letter, digit in ((one, ord("F" if one in OF_DARK else "0")) for one in COUNTS)
+    for letter, digit in ((count, ord("F" if count in OF_DARK else "0")) for count in COUNTS)
 }
 AGAIN = re.compile(rb":(:*)")
 RASTER = b"\x1dv0\0"
@@ -71,19 +71,19 @@ def dots_of_png(data: bytes, _: int) -> Printed:
     """Reads PNG of one bit a pixel without filters."""
     if data[:8] != PNG_HEAD:
         raise NotDecoded(Text("the output is not a PNG file"))
-    at = 8
+    start = len(PNG_HEAD)
     packed = b""
     width = height = 0
-    while at < len(data):
-        (length,) = struct.unpack_from(">I", data, at)
-        kind = data[at + 4 : at + 8]
-        body = data[at + 8 : at + 8 + length]
+    while start < len(data):
+        (length,) = struct.unpack_from(">I", data, start)
+        kind = data[start + 4 : start + 8]
+        body = data[start + 8 : start + 8 + length]
         if kind == b"IHDR":
             width, height, depth, colour = struct.unpack(">IIBB", body[:10])
             if (depth, colour) != (1, 0):
                 raise NotDecoded(Text("the output is not a PNG file of one bit for each dot"))
         packed += body if kind == b"IDAT" else b""
-        at += length + 12
+        start += length + 12
     stride = (width + 7) // 8
     rows = of_length(zlib.decompress(packed), (1 + stride) * height)
     if any(rows[:: 1 + stride]):
@@ -97,18 +97,18 @@ def dots_of_escpos(data: bytes, width: int) -> Printed:
     stride = (width + 7) // 8
     images = []
     height = 0
-    at = len(RESET) if data.startswith(RESET) else 0
+    start = len(RESET) if data.startswith(RESET) else 0
     end = len(data) - len(LINES_AND_CUT) if data.endswith(LINES_AND_CUT) else len(data)
-    while at < end:
-        size, count = SIZE.unpack_from(data, at + len(RASTER))
-        if not data.startswith(RASTER, at) or not 0 < size <= stride or not count:
+    while start < end:
+        size, count = SIZE.unpack_from(data, start + len(RASTER))
+        if not data.startswith(RASTER, start) or not 0 < size <= stride or not count:
             raise NotDecoded(Text("the output is not ESC/POS as label-print writes it"))
-        at += len(RASTER) + SIZE.size
+        start += len(RASTER) + SIZE.size
         white = bytes(stride - size)
-        images += [white.join(rows_reader(0, size, 0, count)(data, at)), white]
+        images += [white.join(rows_reader(0, size, 0, count)(data, start)), white]
         height += count
-        at += size * count
-    if at != end:
+        start += size * count
+    if start != end:
         raise NotDecoded(Text("the output is not ESC/POS as label-print writes it"))
     return Picture(width, height, b"".join(images)), 1
 
@@ -122,8 +122,8 @@ def dots_of_zpl(data: bytes, _: int) -> Printed:
     stride = (width + 7) // 8
     page = bytearray(stride * height)
     fields: list[tuple[int, int, int, int]] = []  # the left, top, right and bottom of each
-    at = head.end()
-    while field := ZPL_FIELD.match(data, at):
+    start = head.end()
+    while field := ZPL_FIELD.match(data, start):
         left, top, length, again, size = map(int, field.groups())
         end = data.index(FIELD_END[0], field.end())
         dots = rows_of_field(data[field.end() : end], size)
@@ -133,15 +133,15 @@ def dots_of_zpl(data: bytes, _: int) -> Printed:
             raise NotDecoded(Text("ZPL with a field that extends beyond the label"))
         if not length == again == len(dots):
             raise NotDecoded(Text("ZPL with a field that has too few rows"))
-        beside = [one for one in fields if one[1] < bottom and top < one[3]]
-        if beside and any([one[0] < right and left < one[2] for one in beside]):
+        beside = [other for other in fields if other[1] < bottom and top < other[3]]
+        if beside and any([other[0] < right and left < other[2] for other in beside]):
             raise NotDecoded(Text("ZPL with a field over another one"))
         put(page, slice(stride * top + left, stride * bottom, stride), dots, size, bool(beside))
         fields.append((left, top, right, bottom))
         if not data.startswith(FIELD_END, end):
             break
-        at = end + len(FIELD_END)
-    count = ZPL_END.fullmatch(data, at)
+        start = end + len(FIELD_END)
+    count = ZPL_END.fullmatch(data, start)
     if not count:
         raise NotDecoded(Text("ZPL without an end"))
     return Picture(width, height, page), int(count[1] or 1)  # not copied: it does not change

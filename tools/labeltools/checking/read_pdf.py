@@ -90,8 +90,8 @@ class Pdf:
 
     def object_start(self, number: int) -> int:
         """Returns where an object begins."""
-        at = self.table + ENTRY * number
-        return int(self.data[at : at + 10])
+        entry = self.table + ENTRY * number
+        return int(self.data[entry : entry + 10])
 
     def stream(self, start: int) -> bytes:
         """Returns what is in an object behind a place in it."""

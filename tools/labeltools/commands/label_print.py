@@ -38,12 +38,12 @@ from labeltools.printing.press import check_count, labels_of, Prepared
 from labeltools.printing.selection import ranges_in, selection_of
 from labeltools.sending.journal import Journal
 from labeltools.sending.network import address_of
+from labeltools.sending.outcomes import NOTHING_OUT
 from labeltools.sending.outlets import Files, Outlet, OUTPUT, StandardOutput
 from labeltools.sending.sender import (
     direct_outlet,
     expected,
     labels_text,
-    NOTHING_OUT,
     Sender,
 )
 
@@ -523,7 +523,8 @@ def send_labels(sender: Sender, found: Prepared, talk: CommandTalk) -> None:
                 talk.say(error.what, error.hint)
             raise
         if came:
-            talk.say(Text("{}: {}, and these are all", sender.outlet.name, sender.so_far()))
+            so_far = sender.progress.so_far()
+            talk.say(Text("{}: {}, and these are all", sender.outlet.name, so_far))
 
 
 def summary_of(job: Job, sender: Sender, known: int) -> Text:
@@ -531,16 +532,17 @@ def summary_of(job: Job, sender: Sender, known: int) -> Text:
     line that prints a file.
     """
     options = job.options
-    if known and not sender.taken:
+    taken = sender.progress.taken
+    if known and not taken:
         return counted(
             "nothing to print: {} label is in {} already",
             "nothing to print: {} labels are in {} already",
             known,
             options.journal,
         )
-    text = sender.result() if options.queue else labels_text(sender.taken)
+    text = sender.result() if options.queue else labels_text(taken)
     if not job.form.is_roll:
-        text = Text("{} on {}", text, counted("{} page", "{} pages", job.pages_of(sender.taken)))
+        text = Text("{} on {}", text, counted("{} page", "{} pages", job.pages_of(taken)))
     if known:
         there = counted("{} label in {} already", "{} labels in {} already", known, options.journal)
         text = joined("; ", (text, there))

@@ -118,14 +118,15 @@ class Room(Wrapping):
         least = math.ceil((place.least or LEAST_TEXT) / dot)
         self.least = max(1, min(least, self.largest(1)))
         counted = range(1, int(place.lines or MOST_LINES) + 1)
-        fitting = (one for one in counted if self.largest(one) >= self.least)
+        fitting = (lines for lines in counted if self.largest(lines) >= self.least)
         self.most_lines = max(fitting, default=1)  # a place may be lower than a dot
         self.fits = {text: self.fit_of(text) for text in counts}
         sizes: Counter[float] = Counter()
         for text, labels in counts.items():
             sizes[1 / self.fits[text].size] += labels
         most = OUTLYING * median_high(sizes.elements())
-        self.common = round(1 / common_value({one: sizes[one] for one in sizes if one <= most}))
+        usual = {size: labels for size, labels in sizes.items() if size <= most}
+        self.common = round(1 / common_value(usual))
 
     def new_largest(self, lines: int) -> int:
         """Returns the largest letters of a number of lines."""

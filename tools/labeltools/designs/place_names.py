@@ -109,5 +109,5 @@ def known_words(place: Place, is_symbol: bool) -> Text:
         known = [*WORDS, "font=NAME", "size=N", "least=N", "lines=N", *SYMBOLOGIES]
         return Text("after the name of a text only these words are allowed: {}", ", ".join(known))
     settings = SYMBOLOGIES[place.symbology].settings if place.symbology else ()
-    known = [*WHERE, *SYMBOLOGIES, "module=N", *(f"{one}=N" for one in settings)]
+    known = [*WHERE, *SYMBOLOGIES, "module=N", *(f"{name}=N" for name in settings)]
     return Text("after the name of a symbol only these words are allowed: {}", ", ".join(known))

@@ -74,11 +74,12 @@ class Seen(NamedTuple):
 
     def behind(self, place: Place, edge: float) -> bytes:
         """Returns how light it is in a place, but for so many millimetres at its edges."""
-        left, top = (math.ceil((at + edge) * self.scale) for at in (place.left, place.top))
+        left, top = (math.ceil((side + edge) * self.scale) for side in (place.left, place.top))
         ends = (place.left + place.width, place.top + place.height)
-        right, bottom = (math.floor((at - edge) * self.scale) for at in ends)
+        right, bottom = (math.floor((side - edge) * self.scale) for side in ends)
         starts = range(top * self.wide, max(top + 1, bottom) * self.wide, self.wide)
-        return b"".join(self.light[at + left : at + max(left + 1, right)] for at in starts)
+        after = max(left + 1, right)
+        return b"".join(self.light[start + left : start + after] for start in starts)
 
 
 @dataclass(frozen=True, eq=False)
@@ -100,7 +101,7 @@ class SvgDesign:
     def area(self, scale: float) -> Any:
         """Returns where its page is on a label, in so many units a millimetre."""
         size = self.page.size if self.page.is_real else self.label
-        corner = ((one - other) / 2 for one, other in zip(self.label, size))
+        corner = ((room - side) / 2 for room, side in zip(self.label, size))
         area = rsvg().Rectangle()
         area.x, area.y, area.width, area.height = (side * scale for side in (*corner, *size))
         return area
@@ -132,7 +133,7 @@ class SvgDesign:
         seen = self.seen(absent)
         texts = [place for place in self.places if not place.is_symbol]
         dark = [dark_part(seen.behind(place, FRAME)) for place in texts]
-        return [one for one, part in zip(texts, dark) if least < min(part, 1 - part) <= most]
+        return [place for place, part in zip(texts, dark) if least < min(part, 1 - part) <= most]
 
 
 def is_file(design: str) -> bool:
@@ -158,15 +159,16 @@ def read_design(file: str, cell: Size, white: Edges, turn: bool | None) -> SvgDe
     is_turned = fitting_turn(page, cell, turn)
     label = cell[::-1] if is_turned else cell
     edges = (white[1], white[2], white[3], white[0]) if is_turned else white
-    shapes = {key_of(title_of(one)): tag_of(one) for one in page.root.iter() if is_drawn(one)}
+    drawn = filter(is_drawn, page.root.iter())
+    shapes = {key_of(title_of(element)): tag_of(element) for element in drawn}
     groups = marked_groups(page.root)
     design = SvgDesign(page, label, is_turned, groups, shapes)
     placed = tuple(located(design, marked_places(page)))
     check_places(file, placed, label)
     cut = tuple(inside(file, place, label, edges) for place in placed)
     lost = (
-        (one.title, max(whole.width - one.width, whole.height - one.height))
-        for one, whole in zip(cut, placed)
+        (place.title, max(whole.width - place.width, whole.height - place.height))
+        for place, whole in zip(cut, placed)
     )
     smaller = [title for title, by in lost if by > NEAR / 2 + TINY]
     design = replace(design, places=cut)
@@ -198,7 +200,7 @@ def fitting_turn(page: SvgPage, cell: Size, turn: bool | None) -> bool:
 def is_fitting(page: SvgPage, label: Size) -> bool:
     """Returns whether a page has the size of a label, or its proportions if it is in pixels."""
     if page.is_real:
-        return all(abs(one - other) <= NEAR for one, other in zip(page.size, label))
+        return all(abs(side - room) <= NEAR for side, room in zip(page.size, label))
     across = page.size[0] / label[0]
     down = page.size[1] / label[1]
     return abs(across - down) <= ALIKE * down
@@ -231,9 +233,8 @@ def marked_places(page: SvgPage) -> list[Place]:
     """Returns the rectangles that are places, and gives these an id; raises `ToolError` for a wrong
     name. But for parts, what a picture or a gradient fills is drawn, as is what stands for others.
     """
-    held = {
-        one for element in page.root.iter() if tag_of(element) in HOLDERS for one in element.iter()
-    }
+    holders = [element for element in page.root.iter() if tag_of(element) in HOLDERS]
+    held = {element for holder in holders for element in holder.iter()}
     found: list[Place] = []
     for rect in page.root.iter():
         title = title_of(rect) if tag_of(rect) == "rect" else ""
@@ -433,7 +434,7 @@ def lightness(paint: Callable[[Any], None], wide: int, high: int) -> bytes:
         canvas.paint()
         surface.flush()
         data = surface.get_data()
-        return b"".join(bytes(data[at : at + BLOCK])[::4] for at in range(0, len(data), BLOCK))
+        return b"".join(part[::4] for part in blocks_of(data))
     return grey
 
 
@@ -443,9 +444,13 @@ def greys(surface: cairo.ImageSurface) -> bytes | None:
     """
     data = surface.get_data()
     found = []
-    for at in range(0, len(data), BLOCK):
-        part = bytes(data[at : at + BLOCK])
+    for part in blocks_of(data):
         found.append(part[0::4])
         if not found[-1] == part[1::4] == part[2::4]:
             return None
     return b"".join(found)
+
+
+def blocks_of(data: memoryview) -> Iterator[bytes]:
+    """Yields bytes in parts, of which the last one may be shorter."""
+    return (bytes(data[start : start + BLOCK]) for start in range(0, len(data), BLOCK))

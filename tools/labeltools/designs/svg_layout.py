@@ -124,7 +124,7 @@ class SvgLayouts:
                 placed.append(self.laid_out(label, rows[number], absent, rooms, symbols))
             except NoRoom as problem:
                 self.left_out[label.number] = sentence(problem.what, problem.hint)
-        said = ((labels[0].origin, one) for one in self.said(labels, values, rows, rooms))
+        said = ((labels[0].origin, text) for text in self.said(labels, values, rows, rooms))
         return LaidOutFile(tuple(placed), self.area, self.left_out, tuple(said if labels else ()))
 
     def texts_in_places(self, labels: Sequence[Record]) -> Mapping[int, Sequence[str]]:
@@ -139,7 +139,7 @@ class SvgLayouts:
         that name, or else the second place of Line, on all labels alike.
         """
         known = frozenset[str]().union(*(value.names for value in values))
-        keys = [one.key if one.key in known else one.part for one in self.places]
+        keys = [place.key if place.key in known else place.part for place in self.places]
         texts = [value.texts for value in values]
         return [*zip(*([found.get(key, "") for found in texts] for key in keys))]
 
@@ -156,14 +156,15 @@ class SvgLayouts:
 
     def second_symbols(self, rows: Sequence[Sequence[str]], talk: Talk) -> SecondSymbols:
         """Returns the symbols that are made of texts, or why they are refused."""
-        columns = [one for one in zip(self.places, zip(*rows)) if one[0].symbology]
-        every = ((place, text) for place, texts in columns for text in texts if text)
+        columns = zip(self.places, zip(*rows))
+        of_symbols = ((place, texts) for place, texts in columns if place.symbology)
+        every = ((place, text) for place, texts in of_symbols for text in texts if text)
         wanted = [*dict.fromkeys(every)]
         lines = [line_of(place, text) for place, text in wanted]
         found: SecondSymbols = {}
-        for key, line, one in zip(wanted, lines, drawn(lines, True, talk)):
+        for key, line, modules in zip(wanted, lines, drawn(lines, True, talk)):
             _, data = symbology_and_data(line, True)
-            found[key] = one if isinstance(one, Refused) else (one, data)
+            found[key] = modules if isinstance(modules, Refused) else (modules, data)
         return found
 
     def laid_out(
@@ -274,7 +275,8 @@ class SvgLayouts:
         if lost := [name for key, name in names.items() if key not in self.known]:
             yield Text("{} has no rectangle for {}: not on the labels", file, ", ".join(lost))
         known = {*names, *self.asked}
-        if empty := [one.title for one in self.places if not known & {one.key, one.part}]:
+        empty = [place.title for place in self.places if not known & {place.key, place.part}]
+        if empty:
             hint = Text(
                 "give such a column with label-table {}, or remove the name",
                 Remedy("text", empty[0]),

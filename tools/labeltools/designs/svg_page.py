@@ -184,7 +184,7 @@ def check_elements(file: str, root: Element) -> None:
     for switch in [*root.iter(f"{SPACE}switch")]:
         if sum(not is_left_out(child) for child in switch) == 1:
             switch.tag = f"{SPACE}g"
-    filled = (one for one in root.iter() if not is_left_out(one))
+    filled = (element for element in root.iter() if not is_left_out(element))
     tags = dict.fromkeys(map(tag_of, filled))
     if unknown := [tag for tag in tags if not tag.startswith("{") and tag not in ELEMENTS]:
         raise ToolError(Text("{}: {} cannot be drawn", file, ", ".join(unknown)), PLAIN)
@@ -198,7 +198,8 @@ def check_elements(file: str, root: Element) -> None:
         elif not all(map(WITHIN.match, links)) or any(map(OUTSIDE.search, styles)):
             raise refused_link(file, tag_of(element), any(map(DRAWING.match, links)))
         elif tag_of(element) == "image":
-            budget.take_share(PIXELS, sum(pixels_of(file, one.partition(",")[2]) for one in links))
+            pixels = sum(pixels_of(file, link.partition(",")[2]) for link in links)
+            budget.take_share(PIXELS, pixels)
 
 
 def refused_link(file: str, tag: str, is_drawing: bool) -> ToolError:

@@ -24,7 +24,7 @@ def main() -> None:
     resource.setrlimit(resource.RLIMIT_CPU, (seconds, seconds))
     resource.setrlimit(resource.RLIMIT_DATA, (memory, memory))
     gi.require_version("Rsvg", "2.0")
-    rsvg, gio, glib = (import_module(f"gi.repository.{one}") for one in ("Rsvg", "Gio", "GLib"))
+    rsvg, gio, glib = (import_module(f"gi.repository.{name}") for name in ("Rsvg", "Gio", "GLib"))
     stream = gio.MemoryInputStream.new_from_data(sys.stdin.buffer.read())
     try:
         handle = rsvg.Handle.new_from_stream_sync(stream, None, rsvg.HandleFlags.FLAGS_NONE, None)

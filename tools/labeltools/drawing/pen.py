@@ -444,7 +444,7 @@ def padded(packed: bytes, size: int, stride: int) -> bytes:
     behind = bytes(stride - size)
     if len(found) == size:
         return found + behind
-    return b"".join([found[at : at + size] + behind for at in range(0, len(found), size)])
+    return b"".join([found[start : start + size] + behind for start in range(0, len(found), size)])
 
 
 def draw_rectangles(

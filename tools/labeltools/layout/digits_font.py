@@ -54,11 +54,12 @@ def without_near(stroke: Stroke) -> list[Point]:
 def smooth_parts(stroke: Stroke) -> Iterator[Stroke]:
     """Yields the parts of a stroke between its corners."""
     start = 0
-    for at in range(1, len(stroke) - 1):
-        (x, y), (u, v) = direction(*stroke[at - 1 : at + 1]), direction(*stroke[at : at + 2])
+    for corner in range(1, len(stroke) - 1):
+        before, after = stroke[corner - 1 : corner + 1], stroke[corner : corner + 2]
+        (x, y), (u, v) = direction(*before), direction(*after)
         if x * u + y * v < SMOOTH:
-            yield stroke[start : at + 1]
-            start = at
+            yield stroke[start : corner + 1]
+            start = corner
     yield stroke[start:]
 
 
@@ -92,7 +93,8 @@ def edge(way: Stroke) -> list[tuple[Point, bool]]:
     first = (way[0][0] + y * PEN, way[0][1] - x * PEN)
     points = [(first, True)]
     points += [
-        (beside(way[at - 1], way[at], way[at + 1], 1.0), False) for at in range(1, len(way) - 1)
+        (beside(before, point, after, 1.0), False)
+        for before, point, after in zip(way, way[1:], way[2:])
     ]
     x, y = direction(*way[-2:])
     end_x, end_y = way[-1]

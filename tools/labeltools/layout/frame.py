@@ -138,7 +138,8 @@ def styles_from(style: str) -> list[str]:
     styles = [*PRICE_STYLES]
     if style == "price":
         return ["price", "narrow"]
-    return [one for one in styles[styles.index(style) :] if one.endswith("raised") or one == style]
+    following = [name for name in styles[styles.index(style) + 1 :] if name.endswith("raised")]
+    return [style, *following]
 
 
 def hinting_of(size: int) -> float:
@@ -155,7 +156,7 @@ def common_value(values: Mapping[float, int]) -> float:
     """Returns what nine of ten values keep to, or the largest one where that is not much more.
     Values are given with how often they come; 0 where there is none.
 
-    >>> [common_value(one) for one in ({1.0: 9, 1.2: 1}, {1.0: 9, 3.0: 1}, {1.0: 8, 3.0: 2})]
+    >>> [common_value(values) for values in ({1.0: 9, 1.2: 1}, {1.0: 9, 3.0: 1}, {1.0: 8, 3.0: 2})]
     [1.2, 1.0, 3.0]
     """
     if not values:

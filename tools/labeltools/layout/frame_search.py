@@ -103,10 +103,11 @@ def rounds_of(demand: JointNeeds) -> list[list[int]]:
         return [[1]]
     first = demand.modules[0][0]
     least = max(min(allowed) for allowed in demand.modules)
-    all_modules = {one for allowed in demand.modules for one in allowed}
-    wishes = sorted({one for one in all_modules if least <= one <= first} or {least}, reverse=True)
+    all_modules = {module for allowed in demand.modules for module in allowed}
+    wished = {module for module in all_modules if least <= module <= first}
+    wishes = sorted(wished or {least}, reverse=True)
     is_for_tills = demand.area.wishes.purpose.is_for_tills
-    return [[one] for one in wishes] if is_for_tills else [wishes]
+    return [[module] for module in wishes] if is_for_tills else [wishes]
 
 
 def best_frame(
@@ -119,7 +120,7 @@ def best_frame(
     area = demand.area
     parts = TITLES_WITH_PRICE if demand.price else TITLES_ALONE
     least = area.dots(LEAST_TITLE)
-    rooms = {at: demand.rooms(level, *at) for at in product(ARRANGEMENTS, wishes)}
+    rooms = {how: demand.rooms(level, *how) for how in product(ARRANGEMENTS, wishes)}
     titles = sorted({max(least, round(demand.text_size * part)) for part in parts}, reverse=True)
     price = demand.price_in(area.width - 2 * demand.inset, area.height)
     sparing = (False, True) if demand.titles.total() in FEW else (False,)

@@ -18,7 +18,7 @@ from labeltools.paper.box import Box
 BY_PAIRS = ("dejavu ", "liberation sans")  # how the names of these fonts begin
 # letters that stand one behind another: Latin, Greek, Cyrillic; punctuation; currencies
 SIMPLE = ((0x20, 0x2FF), (0x370, 0x482), (0x48A, 0x52F), (0x2010, 0x2027), (0x20A0, 0x20CF))
-OTHERS = re.compile("[^" + "".join(f"{chr(one)}-{chr(other)}" for one, other in SIMPLE) + "]")
+OTHERS = re.compile("[^" + "".join(f"{chr(first)}-{chr(last)}" for first, last in SIMPLE) + "]")
 OTHER_SCRIPTS = re.compile(OTHERS.pattern.replace("[^", "[^\n"))  # in several lines
 PARTED = re.compile(r"[^\w., ]|  |^ | $")  # what may be parted elsewhere than at its spaces
 LINE_END = "\u2028"  # of a line that is not the last one of its paragraph
@@ -142,7 +142,7 @@ class Glyphs:
         found = (ink.x / UNIT, ink.y / UNIT - self.base, ink.width / UNIT, ink.height / UNIT)
         glyph: Any = self.font.text_to_glyphs(0, 0, letter, False)[0]
         near = max(1.0, NEAR * self.high)
-        is_same = all(abs(one - other) < near for one, other in zip(found, self.ink([glyph])))
+        is_same = all(abs(drawn - side) < near for drawn, side in zip(found, self.ink([glyph])))
         return int(glyph.index) if is_same else 0
 
     def ink(self, glyphs: Any) -> list[float]:
@@ -161,7 +161,7 @@ class Glyphs:
 def row_ends(text: str, places: list[float], room: float) -> Iterator[tuple[int, int]]:
     """Yields which letters are in each row of a text: as many words as fit."""
     first = last = 0
-    for end in [at for at, letter in enumerate(text) if letter == " "] + [len(text)]:
+    for end in [place for place, letter in enumerate(text) if letter == " "] + [len(text)]:
         if places[end] - places[first] > room and last > first:
             yield first, last
             first = last + 1

@@ -245,7 +245,7 @@ class JointNeeds:
             for style, size in sizes.items()
             if size >= self.least_raised or not style.endswith("raised")
         }
-        style = max(allowed, key=lambda one: allowed[one] * PRICE_STYLES[one])
+        style = max(allowed, key=lambda style: allowed[style] * PRICE_STYLES[style])
         return style, allowed[style]
 
     def score(self, kind: str, title: int, price: float, code: int) -> float:
@@ -280,4 +280,4 @@ def module_in(area: Area, symbology: str, width: int, wished: int, room: int) ->
     smaller where they are too wide; 0 where none fits.
     """
     allowed = area.modules[symbology]
-    return max((one for one in allowed if one <= wished and one * width <= room), default=0)
+    return max((dots for dots in allowed if dots <= wished and dots * width <= room), default=0)

@@ -80,7 +80,7 @@ class Place:
     def box_in(self, area: Area) -> Box:
         """Returns its whole dots in the area of a label."""
         dot = area.dot
-        left, top = (max(0, math.ceil(at / dot - TINY)) for at in (self.left, self.top))
+        left, top = (max(0, math.ceil(side / dot - TINY)) for side in (self.left, self.top))
         right = math.floor((self.left + self.width) / dot + TINY)
         bottom = math.floor((self.top + self.height) / dot + TINY)
         wide, high = min(right, area.width) - left, min(bottom, area.height) - top

@@ -85,7 +85,7 @@ class PriceFonts:
         slots = []
         for kind in kinds:
             found = [*self.glyphs_in_size(kind)]
-            numbers = {glyph.letter: at for at, glyph in enumerate(found, len(glyphs) + 1)}
+            numbers = {glyph.letter: place for place, glyph in enumerate(found, len(glyphs) + 1)}
             slots.append(Slot(numbers, kind.moved))
             glyphs += found
         face = load_font(f"Labels {self.letters.family}", glyphs)

@@ -221,8 +221,8 @@ def with_directory(tables: dict[bytes, bytes]) -> bytes:
         head += struct.pack(">4s3I", tag, sum_of_numbers(padded), place + len(behind), len(table))
         behind += padded
     font = bytearray(head + behind)
-    at = font.index(tables[b"head"][:16]) + 8
-    font[at : at + 4] = struct.pack(">I", (CHECKED - sum_of_numbers(font)) % (1 << 32))
+    place = font.index(tables[b"head"][:16]) + 8
+    font[place : place + 4] = struct.pack(">I", (CHECKED - sum_of_numbers(font)) % (1 << 32))
     return bytes(font)
 
 

@@ -33,7 +33,7 @@ def print_by_cups(
     sender = Sender(outlet)
     sender.send_all(found, talk)
     sent: SentJob = outlet.given
-    labels = labels_text(sender.taken)
+    labels = labels_text(sender.progress.taken)
     how = (queue.name, found.job.plan.dpi, sent.number)
     text = Text("{} sent to {}, at {} dpi: job {}", labels, *how)
     return sent, joined("; ", filter(None, (text, queue.resolution_doubt(found.job))))

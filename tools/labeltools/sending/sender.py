@@ -3,42 +3,25 @@
 from contextlib import suppress
 from functools import partial
 from pathlib import Path
-from typing import Any, Callable, Iterable, Iterator, Mapping, Sequence, Sized
+from typing import Any, Callable, Iterator, Mapping, Sequence, Sized
 
 from labeltools.common.files import save_file
 from labeltools.common.messages import fault_of, sentence, Talk, ToolError, UNEXPECTED
-from labeltools.common.process import standard_output
 from labeltools.common.report import MOST_RANGES, places_text
-from labeltools.common.text import counted, joined, NOTHING, Remedy, shell_word, Text
-from labeltools.layout.layout import LaidOut
+from labeltools.common.text import counted, joined, NOTHING, shell_word, Text
 from labeltools.lines.file import Record
 from labeltools.printing.press import Batch, Prepared, Press
-from labeltools.printing.selection import FILE
 from labeltools.sending.journal import Entry, Journal, SENDING
 from labeltools.sending.network import is_in_network, NetworkPrinter
-from labeltools.sending.outlets import (
-    Broken,
-    Collected,
-    Device,
-    has_reader,
-    Outlet,
-    OUTPUT,
-    Untaken,
+from labeltools.sending.outcomes import (
+    BETWEEN_LABELS,
+    End,
+    LostJournal,
+    outcome_of,
+    Progress,
 )
+from labeltools.sending.outlets import Broken, Collected, Device, Outlet, OUTPUT
 from labeltools.sending.watch import Watch
-
-
-NOTHING_OUT = Text("nothing was printed")
-
-
-class Unfinished(ToolError):
-    """Why labels were not all sent, one by one to a printer: `done` of them are on paper, or may
-    be; the next one is in doubt if `is_doubtful`.
-    """
-
-    printer = ""
-    done = 0
-    is_doubtful = False
 
 
 class Sender:
@@ -58,11 +41,8 @@ class Sender:
         self.journal = journal
         self.again = again
         self.records = records
-        self.has_tables = len({record.table for record in records}) > 1
-        self.on_way: list[LaidOut] = []  # since the way out was made: they may be thrown away
+        self.progress = Progress(outlet, journal, again, records)
         self.way: object = None
-        self.done = 0  # labels of the input, with those that are on paper or in the journal
-        self.taken = 0
         self.watch: Watch | None = None  # of a printer that takes labels one by one, in a run
         self.known: set[bytes] = set()  # the codes that the journal had
         self.is_at_end = False  # whether standard output takes no more
@@ -77,31 +57,32 @@ class Sender:
         self.outlet.say = talk.say
         if self.outlet.is_direct:
             self.watch = Watch(self.outlet, found.job.form.name, talk)
-        self.done = found.job.options.after
+        self.progress.done = found.job.options.after
         for part in press.batches(prints):
             try:
                 if came:
                     self.do_between_labels(self.outlet.close)
-                    raise ToolError(Text("{}: {}", self.outlet.name, self.so_far()))
-                self.send_batch(press, part, not self.taken)
+                    raise ToolError(Text("{}: {}", self.outlet.name, self.progress.so_far()))
+                self.send_batch(press, part, not self.progress.taken)
             except OSError:
                 raise
             except Exception as error:
                 known = expected(error, ToolError)
                 if not self.outlet.is_direct:
                     raise self.error_of_whole(known, known is not error) from error
-                told = self.error_with_hint(known, self.labels_in_words(part.items))
+                place = self.progress.labels_in_words(part.items)
+                ended = outcome_of(known).ended(End(self.progress, known, place))
                 self.do_between_labels(self.outlet.close)
-                raise told from error
-            self.done += part.label_count
-            talk.go_on(self.done - found.job.options.after, len(prints))
+                raise ended from error
+            self.progress.done += part.label_count
+            talk.go_on(self.progress.done - found.job.options.after, len(prints))
         self.do_between_labels(self.end_way_out)
 
     def end_way_out(self) -> None:
         """Ends the way out, once a printer that answers has printed all labels, or does not go on;
         raises `Broken`.
         """
-        if self.watch is not None and self.taken:
+        if self.watch is not None and self.progress.taken:
             self.watch.wait_until_printed()
         self.outlet.close()
 
@@ -117,10 +98,7 @@ class Sender:
             known = expected(error, Broken)
             if not isinstance(known, Broken):
                 raise
-            what = Text("{}: {}", known.what, self.so_far())
-            ended = Unfinished(what, self.may_be_missing(), known.status)
-            ended.printer, ended.done = self.outlet.name, self.done
-            raise ended from error
+            raise BETWEEN_LABELS.ended(End(self.progress, known, NOTHING)) from error
 
     def error_of_whole(self, error: ToolError, is_fault: bool) -> ToolError:
         """Returns an error of what goes out as a whole, or as files; of a fault of ours with what
@@ -128,8 +106,8 @@ class Sender:
         """
         if not is_fault:
             return error
-        what = NOTHING_OUT if self.outlet.is_collected else self.so_far()
-        return ToolError(Text("{}: {}", error.what, what), error.hint, error.status)
+        what = Text("{}: {}", error.what, self.progress.so_far())
+        return ToolError(what, error.hint, error.status)
 
     def send_batch(self, press: Press, part: Batch, is_first: bool, is_last: bool = False) -> int:
         """Sends what goes out as a whole, and returns how many bytes it has; 0 if the journal has
@@ -146,16 +124,16 @@ class Sender:
         way = self.do_between_labels(self.outlet.open)
         if way != self.way:
             self.way = way
-            self.on_way.clear()
+            self.progress.on_way.clear()
         if journal is not None and not journal.claim(record, self.again):
             self.known.add(record.code_line)
             return 0
         self.give_label(record, document, is_last)
-        self.taken += part.label_count
+        self.progress.taken += part.label_count
         if not self.outlet.is_kept:
-            self.on_way += part.items
+            self.progress.on_way += part.items
         if is_last:
-            self.on_way.clear()
+            self.progress.on_way.clear()
         return len(document)
 
     def give_label(self, record: Record, document: bytes, is_last: bool) -> None:
@@ -172,91 +150,22 @@ class Sender:
             raise
         except Exception as error:
             known = expected(error, Broken)
-            is_of_outlet = isinstance(known, (Broken, Untaken))
-            self.is_at_end = is_of_outlet and self.outlet.name == OUTPUT
+            self.is_at_end = self.outlet.name == OUTPUT and outcome_of(known).is_of_outlet
             if self.journal is None:
                 raise known from error
+            kind = LostJournal if self.is_journal_lost else Broken
             with suppress(ToolError):  # something else is reported
                 self.journal.give_up()
-            raise Broken(known.what, known.hint, known.status) from error
-
-    def so_far(self) -> Text:
-        """Returns how many labels went out whole."""
-        return counted("it took {} label whole", "it took {} labels whole", self.taken)
-
-    def labels_in_words(self, items: Iterable[LaidOut]) -> Text:
-        """Returns what messages call labels, with their tables if there are several."""
-        return places_text([item.record.origin for item in items], self.has_tables)
+            raise kind(known.what, known.hint, known.status) from error
 
     @property
     def is_journal_lost(self) -> bool:
         """Whether another program has taken the place of the journal."""
         return self.journal is not None and self.journal.is_lost
 
-    @property
-    def is_clear(self) -> bool:
-        """Whether a number is that of one line: several tables have rows of the same numbers."""
-        return len({record.origin_number for record in self.records}) == len(self.records)
-
-    def error_with_hint(self, error: ToolError, place: Text) -> ToolError:
-        """Returns an error at a label with what to do."""
-        what = error.what
-        if isinstance(error, (Broken, Untaken)):
-            what = Text("{}: {}", what, self.so_far())
-        if not isinstance(error, Broken):
-            what = Text("{}: {} and what follows it were not sent", what, place)
-            hints = [error.hint]
-            if self.outlet.name == OUTPUT and not has_reader(standard_output().fileno()):
-                hints.append(self.may_be_missing())  # it was in the pipe
-            if self.taken or not error.hint:
-                hints.append(self.way_on())
-        elif self.is_journal_lost:
-            hints = [Text("{} may be on paper", place), error.hint]
-        else:
-            look = Text("{} may be on paper: look there", place).in_window(NOTHING)  # it asks
-            hints = [error.hint or self.may_be_missing(), look, self.way_on()]
-        told = Unfinished(what, joined("; ", filter(None, hints)), error.status)
-        told.printer, told.done = self.outlet.name, self.done
-        told.is_doubtful = isinstance(error, Broken)
-        return told
-
-    def way_on(self) -> Text:
-        """Returns how the rest is printed: the same command would print again what `again` has
-        printed once more.
-        """
-        if self.journal is not None and self.again is None:
-            return Text("the same command prints the rest")
-        if not self.done:
-            return Text("the same command begins with it")
-        after = Remedy("after", str(self.done), Text("Go on with label {}", self.done + 1))
-        if self.outlet.name == OUTPUT and self.outlet.is_kept:
-            return Text("with {} and >> the same command begins with it", after)
-        return Text("with {} the same command begins with it", after)
-
-    def may_be_missing(self) -> Text:
-        """Returns what to do about labels that a printer took, and may have thrown away when it
-        broke off; nothing if it took none.
-        """
-        if not self.on_way:
-            return NOTHING
-        labels = self.labels_in_words(self.on_way)
-        if self.journal is None:
-            look = Text("{} may be missing: look which label came out last", labels)
-            return Text(
-                "{} may be missing: look at the last one on paper, and print what follows it with "
-                "{}",
-                labels,
-                Remedy("after", "N"),
-            ).in_window(look)
-        words = "--only ROWS" if self.is_clear else f"--only-code {FILE}FILE"
-        again = f"{words} --again {shell_word(self.outlet.name)}"
-        return Text(
-            "{} may be missing: look there, and print what is missing with {}", labels, again
-        )
-
     def result(self) -> Text:
         """Returns what is reported of the labels that were sent to a printer."""
-        labels = labels_text(self.taken)
+        labels = labels_text(self.progress.taken)
         if self.watch is not None:
             return self.watch.report_of_sent(labels)
         return Text("{} sent to {}", labels, self.outlet.name)
@@ -309,11 +218,11 @@ class Sender:
         places = {record.code_line: record.origin for record in records}
         for printer, codes in printers.items():
             there = sorted((places[code], code) for code in codes if code in places)
-            for labels in slices_of(there, MOST_RANGES if self.is_clear else 1):
+            for labels in slices_of(there, MOST_RANGES if self.progress.is_clear else 1):
                 place, code = labels[0]
-                words = f"--only {place.number}" if self.is_clear else by_code(code)
+                words = f"--only {place.number}" if self.progress.is_clear else by_code(code)
                 words = "--only ROW" if len(labels) > 1 else words
-                named = places_text([place for place, _ in labels], self.has_tables)
+                named = places_text([place for place, _ in labels], self.progress.has_tables)
                 yield Text("{}: {}", named, may_be_on_paper(printer, words))
             others = [code.decode() for code in codes if code not in places]
             for unknown in slices_of(others, MOST_RANGES):

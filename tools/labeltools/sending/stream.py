@@ -45,9 +45,11 @@ from labeltools.printing.job import Job
 from labeltools.printing.press import pens_of, Prepared, prepared, Press
 from labeltools.printing.remarks import SHORTENED
 from labeltools.sending.journal import is_in_place
+from labeltools.sending.outcomes import outcome_of, UNSENT
 from labeltools.sending.outlets import Broken, has_reader, OUTPUT
 from labeltools.sending.sender import Sender
 
+TAKEN, KNOWN, REFUSED = "taken", "known", "refused"  # answers, beside those of outcomes
 SKIPPED = (b'#{"labels"', b'#{"end"')
 MOST_AHEAD = 1000  # lines of a FIFO that wait to be printed
 LONGEST_LINE = LINE_OF_STREAM.most(0)  # bytes: of a longer one no more is kept
@@ -211,17 +213,17 @@ class Stream:
         text = parts[-1][1].removesuffix(b"\n").decode("utf-8", "backslashreplace")
         try:
             size = self.print(parts)
-            return ("taken", Text("{} {}", size, text)) if size else ("known", Text("{}", text))
+            return (TAKEN, Text("{} {}", size, text)) if size else (KNOWN, Text("{}", text))
         except ToolError as error:
             if error.status in (LABELS_FAILED, UNEXPECTED):
                 self.status = error.status
-            word = {NoLabel: "refused", Broken: "doubtful"}.get(type(error), "unsent")
+            word = REFUSED if isinstance(error, NoLabel) else outcome_of(error).word
             return word, sentence(error.what, error.hint)
         except OSError:
             raise
         except Exception as error:  # before anything goes out: see `Sender.give`
             self.status = UNEXPECTED
-            return "unsent", fault_of(error)
+            return UNSENT, fault_of(error)
         finally:
             self.sender.outlet.drop()  # it is left to others if nothing went out by it
 
@@ -318,7 +320,7 @@ def answer_lines(job: Job, sender: Sender) -> int:
         with hold_signals() as came:
             sender.outlet.came = came
             word, text = stream.answer_to(parts)
-            status = status if word == "taken" else 1
+            status = status if word == TAKEN else 1
             said = visible(translated(text))
             try:
                 for note in stream.notes:

@@ -268,8 +268,8 @@ class Printers:
         """Asks once what a printer understands that does not say it."""
         shown = (_("Labels (ZPL)"), _("Receipts (ESC/POS)"))
         answers = [
-            (text, partial(self.know, printer.key, {"to": one}))
-            for text, one in zip(shown, LANGUAGES)
+            (text, partial(self.know, printer.key, {"to": language}))
+            for text, language in zip(shown, LANGUAGES)
         ]
         self.window.questions.ask_below("printer", _("What does this printer print?"), answers)
         self.window.let_out(self.window.has_labels)

@@ -16,9 +16,10 @@ from labeltools.common.text import counted, joined, Text, translated, whole_sent
 from labeltools.printing.press import Prepared
 from labeltools.sending.job import AWAY, JobState, SentJob, UnknownJob
 from labeltools.sending.on_queue import print_by_cups
+from labeltools.sending.outcomes import Unfinished
 from labeltools.sending.printers import choices_of, Printer, QUEUE
 from labeltools.sending.queue import Queue, queue_of
-from labeltools.sending.sender import save_to, send_labels_to, Sender, Unfinished
+from labeltools.sending.sender import save_to, send_labels_to, Sender
 from labeltools.window.bar import Answer, ERROR, Event, INFO, SUCCESS, WARNING
 from labeltools.window.gtk import GLib, Gtk
 from labeltools.window.memory import PRINTERS

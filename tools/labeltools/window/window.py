@@ -24,7 +24,7 @@ from labeltools.layout.area import ARTICLE
 from labeltools.lines.symbologies import SYMBOLOGIES
 from labeltools.paper.stock import size_text
 from labeltools.printing.press import check_count
-from labeltools.sending.sender import Unfinished
+from labeltools.sending.outcomes import Unfinished
 from labeltools.sheets.encoding import first_word
 from labeltools.window import designs, sheets
 from labeltools.window.bar import Bar, ERROR, Event, INFO
@@ -572,7 +572,7 @@ class Window(ApplicationWindow):
         """Returns how the first price is printed by a pattern, or else that."""
         price = self.choices().price
         found = self.table.price_patterns(price, [pattern]) if self.table and price else ()
-        return {one: shown for shown, one in found}.get(pattern, pattern)
+        return {found_pattern: shown for shown, found_pattern in found}.get(pattern, pattern)
 
     def offer_design(self, name: str) -> None:
         """Offers a design of a file, before the choice of another one."""
