@@ -10,7 +10,7 @@ ghost use Rattle.linear.specs.Private.Lists.{Appends};
 use crate::limits::MAX_BYTES;
 use crate::linear::Linear;
 use crate::row::{Row, push_modules};
-use crate::switching::{data_values, start_set, start_value};
+use crate::switching::{Values, push_values, start_set, start_value};
 use crate::tables::{CHARACTERS, STOP};
 use labelcore::Fault;
 
@@ -29,11 +29,11 @@ pub fn check_value(start: u8, values: &[u8]) -> u8
 }
 
 /// Returns the modules of a value, from 0 to 105.
-fn modules_of(value: u8) -> &'static [bool; 11]
+fn modules_of(value: u8) -> [bool; 11]
     requires { value < 106 }
-    ensures { result.now ≡ character_modules value }
+    ensures { result ≡ character_modules value }
 {
-    &CHARACTERS[usize::from(value)]
+    CHARACTERS[usize::from(value)]
 }
 
 /// Appends the character of a value.
@@ -42,7 +42,7 @@ fn push_character(row: &mut Row, value: u8)
     requires room { array_vec_len row.old + 11 ≤ MAX_MODULES }
     ensures { Appends row.old.items row.new.items (character_modules value) 11 }
 {
-    push_modules(row, modules_of(value));
+    push_modules(row, &modules_of(value));
 }
 
 /// Appends the characters of values, from left to right.
@@ -74,7 +74,8 @@ fn push_code128(row: &mut Row, data: &[u8])
 {
     let set = start_set(data);
     let start = start_value(set);
-    let values = data_values(data, set);
+    let mut values = Values::new();
+    push_values(&mut values, data, set);
     push_character(row, start);
     push_characters(row, &values);
     push_character(row, check_value(start, &values));

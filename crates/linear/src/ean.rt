@@ -23,15 +23,15 @@ pub enum NumberSet {
 }
 
 /// Returns the modules of a digit in a number set.
-pub fn modules_of(set: NumberSet, digit: u8) -> &'static [bool; 7]
+pub fn modules_of(set: NumberSet, digit: u8) -> [bool; 7]
     requires digit { digit < 10 }
-    ensures { result.now ≡ pattern set digit }
+    ensures { result ≡ pattern set digit }
 {
     let index = usize::from(digit);
     match set {
-        NumberSet::A => &SET_A[index],
-        NumberSet::B => &SET_B[index],
-        NumberSet::C => &SET_C[index],
+        NumberSet::A => SET_A[index],
+        NumberSet::B => SET_B[index],
+        NumberSet::C => SET_C[index],
     }
 }
 
@@ -41,7 +41,7 @@ fn push_digit(row: &mut Row, set: NumberSet, digit: u8)
     requires room { array_vec_len row.old + 7 ≤ MAX_MODULES }
     ensures { Appends row.old.items row.new.items (pattern set digit) 7 }
 {
-    push_modules(row, modules_of(set, digit));
+    push_modules(row, &modules_of(set, digit));
 }
 
 /// Appends digits, each in its number set.

@@ -182,23 +182,22 @@ fn picked_set_of(byte: u8, rest: &[u8]) -> CodeSet
     }
 }
 
-/// Returns the values of data from a set on: at most two for each byte.
-pub fn data_values(data: &[u8], start: CodeSet) -> Values
-    requires { IsCode128Data «data».now }
-    ensures { result.items ≡ data_values start «data».now }
+/// Appends the values of data from a set on: at most two for each byte.
+pub fn push_values(values: &mut Values, data: &[u8], start: CodeSet)
+    requires valid { IsCode128Data «data».now }
+    requires blank { values.old.items ≡ [] }
+    ensures { values.new.items ≡ data_values start «data».now }
 {
-    let mut values = Values::new();
     let mut set = start;
     let mut rest = data;
     while let Some((first, after)) = rest.split_first() {
         if is_pair_next(set, rest) {
-            push_pair(&mut values, set, *first, after[0]);
+            push_pair(values, set, *first, after[0]);
             set = CodeSet::C;
             rest = &after[1..];
         } else {
-            set = push_byte(&mut values, set, *first, after);
+            set = push_byte(values, set, *first, after);
             rest = after;
         }
     }
-    values
 }

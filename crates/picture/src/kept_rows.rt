@@ -12,7 +12,7 @@ use device::{IoFault, Sink, write_whole};
 
 /// The bytes of rows that are repeated at once: one long copy takes less than many short ones, and a short one has a
 /// place in the buffer more often.
-const BLOCK: usize = 4096;
+const BLOCK: usize = 8192;
 
 /// Writes the rows of the grid, and keeps each at the front of `kept` for the rows that equal it. A row of one piece is
 /// written from its bits, where the grid has them, and not kept.
@@ -101,7 +101,7 @@ fn write_equal_rows<T: PixelText, S: Sink>(
 /// at least one.
 fn rows_at_once(len: usize) -> usize
     ensures some { 0 < result }
-    ensures most { result * len ≤ max 4096 len }
+    ensures most { result * len ≤ max 8192 len }
 {
     (BLOCK / len.max(1)).max(1)
 }

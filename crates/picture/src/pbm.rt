@@ -22,32 +22,35 @@ pub fn write_pbm<G: Grid, S: Sink>(grid: &G, sink: &mut S) -> Result<(), IoFault
     ensures read { 0 < (G.picture grid.now).width
         → pbm_pixels (pbm_text (G.picture grid.now)) ≡ Some (raster (G.picture grid.now)) }
 {
-    let first = header(grid.width(), grid.height());
-    write_whole(first.as_slice(), sink)?;
+    let mut header = Header::new();
+    push_header(&mut header, grid.width(), grid.height());
+    write_whole(header.as_slice(), sink)?;
     write_rows::<PbmPixels, G, S>(grid, sink)
 }
 
-/// Returns the two lines before the pixels.
+/// The two lines before the pixels.
+type Header = ArrayVec<u8, 128>;
+
+/// Appends the two lines before the pixels.
 #[inline(always)]
-fn header(width: usize, height: usize) -> ArrayVec<u8, 128>
-    ensures { result.items ≡ pbm_header width height }
+fn push_header(header: &mut Header, width: usize, height: usize)
+    requires { header.old.items ≡ [] }
+    ensures { header.new.items ≡ pbm_header width height }
 {
-    let mut text = ArrayVec::new();
     let mut number = Buffer::new();
-    append(b"P1\n", &mut text);
-    append(number.format(width).as_bytes(), &mut text);
-    append(b" ", &mut text);
-    append(number.format(height).as_bytes(), &mut text);
-    append(b"\n", &mut text);
-    text
+    append(b"P1\n", header);
+    append(number.format(width).as_bytes(), header);
+    append(b" ", header);
+    append(number.format(height).as_bytes(), header);
+    append(b"\n", header);
 }
 
 /// Appends bytes, for which there is space.
-fn append(bytes: &[u8], text: &mut ArrayVec<u8, 128>)
-    requires { length text.old.items + length bytes.now ≤ 128 }
-    ensures { text.new.items ≡ text.old.items ++ bytes.now }
+fn append(bytes: &[u8], header: &mut Header)
+    requires { length header.old.items + length bytes.now ≤ 128 }
+    ensures { header.new.items ≡ header.old.items ++ bytes.now }
 {
-    let _ = text.try_extend_from_slice(bytes);
+    let _ = header.try_extend_from_slice(bytes);
 }
 
 /// Writes a digit for each pixel, and a line feed after each piece.

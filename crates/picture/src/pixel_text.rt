@@ -17,7 +17,9 @@ pub const PIECE_ROOM: usize = 80;
 
 /// The pixels that are kept of a row and after it, for its last piece. A small array costs less to clear than a large
 /// one.
-const SMALL_ROW: usize = 1200;
+const SMALL_ROW: usize = 480;
+
+const MIDDLE_ROW: usize = 1200;
 
 const LARGE_ROW: usize = 14480;
 
@@ -61,6 +63,9 @@ pub fn write_rows<T: PixelText, G: Grid, S: Sink>(grid: &G, sink: &mut S) -> Res
     let width = grid.width();
     if width <= SMALL_ROW - PIECE_ROOM {
         let mut row = [false; SMALL_ROW];
+        write_kept_rows::<T, G, S>(grid, &mut row[..], sink)
+    } else if width <= MIDDLE_ROW - PIECE_ROOM {
+        let mut row = [false; MIDDLE_ROW];
         write_kept_rows::<T, G, S>(grid, &mut row[..], sink)
     } else if width <= LARGE_ROW - PIECE_ROOM {
         let mut row = [false; LARGE_ROW];

@@ -11,7 +11,7 @@ returns-in_err-write_whole-clause-writes g c =
     let p = g.G.Grid.picture c.args.grid.now in
     WritesText-begun g.S.Sink _ _ c.as_slice.result.now (flat_map (pbm_row p) (below p.height)) _
     c.from_residual.result c.from_residual.ensures.0
-    (rw (c.as_slice.ensures.value, c.header-first.ensures, c.width.ensures, c.height.ensures) refl)
+    (rw (c.as_slice.ensures.value, c.push_header.ensures, c.width.ensures, c.height.ensures) refl)
     c.in_err-write_whole.ensures
 
 pub returns-clause-writes : goal.returns-clause-writes
@@ -20,7 +20,7 @@ returns-clause-writes g c =
     WritesText-last g.S.Sink g.met.S.Sink.took_joined _ _ _ c.as_slice.result.now (rows_text pbm_piece [] p) _
     c.write_rows.result (rw (
       c.as_slice.ensures.value,
-      c.header-first.ensures,
+      c.push_header.ensures,
       c.width.ensures,
       c.height.ensures,
       pbm_rows p (below p.height),

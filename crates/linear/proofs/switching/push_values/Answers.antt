@@ -4,7 +4,7 @@ use Rattle.std.proofs.lemmas.List.{take_rest}
 use Rattle.std.proofs.lemmas.List.Elements.{All-drop}
 use Rattle.linear.specs.CodeSets.{is_pair_next, data_values}
 use Rattle.linear.proofs.CodeSetLaws.{pair_first, byte_first}
-use Rattle.linear.proofs.switching.data_values.Goals as goal
+use Rattle.linear.proofs.switching.push_values.Goals as goal
 
 -- the first values of those that are left are written; three of the lists are found from the hypotheses, which a turn
 -- of the loop has: what it wrote, how it cut what was left, and what held before it

@@ -1,6 +1,6 @@
 use Rattle.std.proofs.Common.{arith}
 use Rattle.std.proofs.lemmas.Grind.{common_steps}
-use Rattle.picture.proofs.pbm.header.Goals as goal
+use Rattle.picture.proofs.pbm.push_header.Goals as goal
 
 pub append-requires-4 : goal.append-requires-4
 append-requires-4 c = grind (arith, common_steps)

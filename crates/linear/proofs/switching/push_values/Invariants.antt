@@ -1,6 +1,6 @@
 use Rattle.std.proofs.Common.{◌≡◌, ◌≤◌, ◌<◌, ◌++◌, ◌+◌, ◌*◌, length, All}
 use Rattle.linear.specs.CodeSets.{data_values}
-use Rattle.linear.proofs.switching.data_values.Given as goal
+use Rattle.linear.proofs.switching.push_values.Given as goal
 
 -- the values so far and those of the data to come
 abbrev pub invariant-loop-first : goal.invariant-loop-first
