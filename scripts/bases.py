@@ -20,7 +20,7 @@ from reader import Declaration, File, Key
 # The program, and the crate whose functions C calls. They have no definitions of their own.
 PROGRAM, EXPORTS = "labels", "labels_c"
 # The crates on whose contracts no other crate rests.
-AT_THE_TOP = {PROGRAM, EXPORTS, "examples", "tests", "acceptance", "hostile", "plain_qr"}
+AT_THE_TOP = {PROGRAM, EXPORTS, "examples", "tests", "acceptance", "qr_acceptance", "hostile", "plain_qr"}
 CLAP = "clap"
 # The file of the kit that has the traits of std's readers and writers.
 TRAITS_OF_STD = os.path.join("std", "src", "io", "traits.rt")

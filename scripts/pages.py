@@ -67,7 +67,7 @@ CODE = (
 )
 MOST_WORDS = 90
 OF_MERGES = re.compile(r"(?:<<<<<<<|>>>>>>>|\|\|\|\|\|\|\|) .*")
-WITHOUT_EXAMPLE = {"labels", "labels_c", "examples", "tests", "acceptance", "hostile", "plain_qr"}
+WITHOUT_EXAMPLE = {"labels", "labels_c", "examples", "tests", "acceptance", "qr_acceptance", "hostile", "plain_qr"}
 LONGEST = 40
 LONGEST_LINE = 500
 FILE = re.compile(r"\b(?:crates/[\w/]+\.(?:rt|antt)|lib/[\w/]+\.\w+)\b")

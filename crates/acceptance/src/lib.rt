@@ -3,6 +3,7 @@
 //! has the rows and the tests of one part of the filter. [`support`] says what a row is.
 #![tactic(auto)]
 
+pub mod example;
 #[cfg(test)]
 mod first_path;
 #[cfg(test)]
@@ -11,10 +12,6 @@ mod lines_and_devices;
 mod pictures;
 #[cfg(test)]
 mod pieces;
-#[cfg(test)]
-mod qr;
-#[cfg(test)]
-mod segments;
 #[cfg(test)]
 mod settings;
 pub mod support;

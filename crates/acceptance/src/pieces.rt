@@ -1,5 +1,5 @@
 //! A filter that is fed piece by piece: a line is finished by its end, and nothing is written before.
-use crate::qr::{EXAMPLE, PBM, picture_of};
+use crate::example::{EXAMPLE, PBM, picture_of};
 use crate::support::{EAN8, options_by};
 use filter::{Filter, RunFault, Status, run};
 use labelcore::{FailAt, MemSink, MemSource, Options};

@@ -1,5 +1,5 @@
 //! Settings in the head of a line: they hold for that line alone.
-use crate::qr::{EXAMPLE, PBM, picture_of};
+use crate::example::{EXAMPLE, PBM, picture_of};
 use crate::support::{EAN8, EAN8_PIXELS, Row, gives_however_cut, is_as_it_says, options_by};
 use std::test::Fail;
 

@@ -1,6 +1,6 @@
 //! Mixed segments: the lists that are chosen, and their symbols.
-use crate::qr::{has_words, planned};
-use crate::support::{Ran, gives_however_cut, options_by, ran_by, text_of};
+use crate::symbols::{has_words, planned};
+use acceptance::support::{Ran, gives_however_cut, options_by, ran_by, text_of};
 use labelcore::{Fault, Level, Options};
 use qrdata::{Mode, Segment, choose};
 use std::alloc::Global;
