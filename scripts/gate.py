@@ -8,13 +8,13 @@ is the one that scripts/counts.txt has: how many tests passed, symbols were read
 out unseen: a test or a label that is gone, and a step that does less, are a line of the diff. --write runs the steps
 and writes their lines.
 
-quick: what needs no program and no proof, some 40 seconds of a processor. all: that, every proof from nothing (but of
-crates that an earlier `rt ci` proved on this machine), the wrong bodies, the program as users get it, and built: what
-needs that program and the library. The proofs wait for one another, and most of what comes after the builds runs on
-one processor: so the wrong bodies of a crate are tried beside the proofs, once the crates below it are proved, and of
-what comes after the builds as many steps run as there are processors. Of a step that fails all is printed that it
-wrote, of another one its last line, and of each how long it took. A step that takes too long is ended, with all that
-it started. What others need ends the run where it fails. The last line is `N passed, M failed`.
+quick: what needs no program and no proof, some three minutes of a processor. all: that, every proof from nothing (but
+of crates that an earlier `rt ci` proved on this machine), the wrong bodies, the program as users get it, and built:
+what needs that program and the library. The proofs wait for one another, and most of the other steps run on one
+processor: so the wrong bodies of a crate are tried beside the proofs, once the crates below it are proved, and of what
+comes before the proofs, and after the builds, as many steps run as there are processors. Of a step that fails all is
+printed that it wrote, of another one its last line, and of each how long it took. A step that takes too long is ended,
+with all that it started. What others need ends the run where it fails. The last line is `N passed, M failed`.
 """
 
 import contextlib
@@ -54,8 +54,9 @@ BUILT = (
     "run_recipes.py",
     "instructions.py --check",
 )
-# These run some at a time.
 LAST = (WRONG, *BUILT)
+# The steps of each of these run beside one another.
+TOGETHER = (QUICK, (PROOFS, WRONG), LAST)
 ALL = (*QUICK, PROOFS, PLAIN, *LAST)
 # The run ends after each of these where a step has failed, or it has itself.
 NEEDED = {QUICK[-1]: True, PROOFS: False, PLAIN: False}
@@ -95,7 +96,8 @@ def run(step: str, command: Sequence[str]) -> tuple[int, str, float, float]:
             stdin=subprocess.DEVNULL,
             stdout=said,
             stderr=said,
-            start_new_session=True,
+            # In a session of its own it would have a share of the processors as large as that of any other step.
+            process_group=0,
         )
         # It is looked at and left there, so that all that it started can be ended with it.
         how, is_over = os.WEXITED | os.WNOHANG | os.WNOWAIT, False
@@ -111,7 +113,7 @@ def run(step: str, command: Sequence[str]) -> tuple[int, str, float, float]:
 
 
 def stop(number: int, _: object) -> NoReturn:
-    """Ends the run by a signal, and so the steps that are on their way, which are in sessions of their own."""
+    """Ends the run by a signal, and so the steps that are on their way, which are in process groups of their own."""
     sys.exit(128 + number)
 
 
@@ -150,7 +152,7 @@ def run_all(steps: Sequence[str], kept: dict[str, str], writes: bool, pool: Thre
     print(*failed, sep="\n", end="\n" * bool(failed))
     begun: dict[str, Future[tuple[int, str, float, float]]] = {}
     for count, step in enumerate(steps, 1):
-        beside = LAST if step in LAST else (WRONG,) * (step == PROOFS)
+        beside = {other for together in TOGETHER if step in together for other in together}
         following = (later for later in steps[count:] if later in beside)
         for new in (step, *following):
             if new not in begun:

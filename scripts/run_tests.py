@@ -1,5 +1,6 @@
 #!/usr/bin/python3
-"""Runs the tests of a folder, those of a file in a process of their own, as many at a time as there are processors.
+"""Runs the tests of a folder, those of a file in a process of their own. Many wait for a printer or a window, so half
+as many again run at a time as there are processors.
 
 A test passes where it ran to its end and nothing was wrong. Any other one failed: one that is skipped, one that passes
 though it is expected to fail, each test of a class or a file that cannot be read or set up. With --quick a test that
@@ -28,7 +29,8 @@ import sources
 LEFT_OUT = ("is not built: run ", "takes seconds: ")
 # Seconds that a test may take, on a busy machine too, and what is read or set up before it.
 LONGEST = 900.0
-PROCESSORS = len(os.sched_getaffinity(0))
+# Files at a time.
+MOST_AT_ONCE = len(os.sched_getaffinity(0)) * 3 // 2
 
 
 class TookTooLong(BaseException):
@@ -124,7 +126,7 @@ def judged_apart(parts: Iterable[unittest.TestSuite], is_quick: bool) -> list[in
     gc.freeze()
     running: dict[int, tuple[int, IO[str]]] = {}
     while waiting or running:
-        if waiting and len(running) < PROCESSORS:
+        if waiting and len(running) < MOST_AT_ONCE:
             part, said = waiting.pop(), tempfile.TemporaryFile("w+", errors="replace")
             running[begun(part, is_quick, said)] = part.countTestCases(), said
             continue

@@ -9,6 +9,7 @@ import subprocess
 import sys
 import time
 import unittest
+from itertools import product
 from typing import Any, Iterable, Mapping
 from unittest import mock
 
@@ -210,14 +211,12 @@ class Gate(InFolder):
     def test_steps_that_run_together(self) -> None:
         """As many as there are processors: the third begins once the second has ended, though the first waits for
         it. They are judged in their order."""
-        first, second, third = steps = "compare_symbols.py", "scan_damaged.py", "read_foreign.py"
-        for processors, waits in ((2, "while [ ! -e third ]; do sleep 0.01; done"), (1, "[ ! -e second ]")):
-            self.step(first, f"{waits}\necho one\n")
-            self.step(second, "touch second\necho two\n")
-            self.step(third, "touch third\necho three\n")
-            with self.subTest(processors):
-                kept = dict(zip(steps, ("one", "two", "three")))
-                status, said = self.judged(steps, kept, processors)
+        for steps, processors in product((gate.QUICK[2:5], gate.BUILT[4:7]), (2, 1)):
+            waits = "while [ ! -e third ]; do sleep 0.01; done" if processors == 2 else "[ ! -e second ]"
+            for step, text in zip(steps, (waits, "touch second", "touch third")):
+                self.step(step, f"{text}\necho {step}\n")
+            with self.subTest(steps=steps, processors=processors):
+                status, said = self.judged(steps, dict(zip(steps, steps)), processors)
                 self.assertEqual((status, re.findall(r"^ok: (\S+),", said, re.M)), (0, [*steps]), said)
             for name in ("second", "third"):
                 os.remove(self.path(name))
