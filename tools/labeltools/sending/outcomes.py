@@ -156,7 +156,7 @@ def own_hint_or_missing(end: End) -> Text:
     return own_hint(end) or missing(end)
 
 
-def look(end: End) -> Text:
+def look_there(end: End) -> Text:
     """Returns where to look whether the label is on paper; a window asks for that."""
     return Text("{} may be on paper: look there", end.place).in_window(NOTHING)
 
@@ -172,7 +172,7 @@ def way_on(end: End) -> Text:
 
 
 def way_on_from_some(end: End) -> Text:
-    """Returns the same where some labels are taken, or else nothing is there to do before."""
+    """Returns the same, unless no label is printed yet and the error says what to do first."""
     return way_on(end) if end.progress.taken or not end.error.hint else NOTHING
 
 
@@ -180,7 +180,7 @@ def way_on_from_some(end: End) -> Text:
 HINTS_OF_UNSENT = (own_hint, missing_in_pipe, way_on_from_some)
 OUTCOMES: dict[type[ToolError], Outcome] = {
     Untaken: Outcome(UNSENT, is_of_outlet=True, hints=HINTS_OF_UNSENT),
-    Broken: Outcome(DOUBTFUL, is_of_outlet=True, hints=(own_hint_or_missing, look, way_on)),
+    Broken: Outcome(DOUBTFUL, is_of_outlet=True, hints=(own_hint_or_missing, look_there, way_on)),
     LostJournal: Outcome(DOUBTFUL, is_of_outlet=True, hints=(may_be_there, own_hint)),
 }
 # the way out is not there, the work is stopped, or the fault is ours
