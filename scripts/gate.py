@@ -18,8 +18,10 @@ with all that it started. What others need ends the run where it fails. The last
 """
 
 import contextlib
+import glob
 import os
 import re
+import shutil
 import signal
 import subprocess
 import sys
@@ -82,6 +84,13 @@ def command_of(step: str, is_beside: bool) -> list[str]:
         return step.split()
     beside = ["--beside", path_of(PROOFS)] if step == WRONG and is_beside else []
     return [sources.PYTHON, *f"scripts/{step}".split(), *beside]
+
+
+def clear_libraries() -> None:
+    """Removes the libraries that were built before: `rt ci` would put them back in the place of its own, and the
+    program would be built of them."""
+    for folder in glob.glob(f"{sources.TOP}/crates/*/out/rlib"):
+        shutil.rmtree(folder)
 
 
 def run(step: str, command: Sequence[str]) -> tuple[int, str, float, float]:
@@ -156,6 +165,8 @@ def run_all(steps: Sequence[str], kept: dict[str, str], writes: bool, pool: Thre
         following = (later for later in steps[count:] if later in beside)
         for new in (step, *following):
             if new not in begun:
+                if new == PROOFS:
+                    clear_libraries()
                 sources.write(path_of(new), "")
                 begun[new] = pool.submit(run, new, command_of(new, step == PROOFS))
         status = judged(step, begun[step], kept, writes)

@@ -6,17 +6,20 @@ offer files to start the proofs with that it did not find: these take a fifth of
 """
 
 import functools
+import glob
 import importlib.machinery
 import os
 import shutil
 import sys
 import types
-from typing import Any, Sequence
+from typing import Any, Iterator, Sequence
 
 import sources
 
 # The name of the crate above the others, and its code.
 ABOVE, CODE = "judge", "//! Nothing.\n#![tactic(auto)]\n\n/// One.\npub fn one() -> u8 {\n    1\n}\n"
+# What a crate has in its folder for a check to read.
+PARTS = ("src", "specs", "proofs")
 
 
 @functools.lru_cache(maxsize=None)
@@ -35,18 +38,26 @@ def kit() -> Any:
     return module
 
 
-def are_left_by_ci(crates: Sequence[Any]) -> bool:
-    """Whether `rt ci` built all of these libraries. It leaves them without the stamp by which `rt` would know them;
-    those of an earlier session, which it puts back in their place, have one."""
-    return all(
-        os.path.isdir(crate.rlib) and not os.path.isfile(f"{os.path.dirname(crate.rlib)}/stamp") for crate in crates
-    )
+def is_left_by_ci(crate: Any) -> bool:
+    """Whether `rt ci` built this library of the files as they are. It leaves it without the stamp by which `rt` would
+    know it, and at its end it puts back what was there before it, which may be older than the files."""
+    if not os.path.isdir(crate.rlib) or os.path.isfile(f"{os.path.dirname(crate.rlib)}/stamp"):
+        return False
+    built = os.path.getmtime(crate.rlib)
+    return all(os.path.getmtime(file) <= built for part in (crate, *crate.below()) for file in files_of(part))
+
+
+def files_of(crate: Any) -> Iterator[str]:
+    """The files that a check of a crate reads."""
+    for part in PARTS:
+        yield from glob.iglob(f"{crate.folder}/{part}/**/*.*", recursive=True)
 
 
 def build(crates: Sequence[Any], as_left: bool) -> str:
     """Builds each of these libraries that is not as its sources are. With `as_left` those that `rt ci` left are taken
-    as they are, where `rt` would prove them again. Returns the name of one that is not proved, or nothing."""
-    if as_left and are_left_by_ci(crates):
+    as they are, where `rt` would prove them again: all of them, since one fits only those that it was built over.
+    Returns the name of one that is not proved, or nothing."""
+    if as_left and all(map(is_left_by_ci, crates)):
         return ""
     for crate in crates:
         if crate.build_rlib(["--jobs", "1"], anew=False):

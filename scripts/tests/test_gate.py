@@ -208,6 +208,13 @@ class Gate(InFolder):
                 self.assertIn(f"{passed} passed, {2 - passed - status // 3} failed\n", found[1])
                 self.assertEqual(read(self.path("out/steps/wrong-bodies-py-built.txt")), "proofs\n--built --beside\n")
 
+    def test_libraries_that_were_built_before(self) -> None:
+        """`rt ci` would put them back in the place of its own."""
+        write(self.path("crates/one/out/rlib/one.rlib/format"), "")
+        self.step("rt", "[ ! -e crates/one/out/rlib ] && echo right\n")
+        self.assertEqual(self.judged([gate.PROOFS], {gate.PROOFS: "right"})[0], 0)
+        self.assertTrue(os.path.isdir(self.path("crates/one/out")))
+
     def test_steps_that_run_together(self) -> None:
         """As many as there are processors: the third begins once the second has ended, though the first waits for
         it. They are judged in their order."""

@@ -17,6 +17,7 @@ compare_symbols = module("compare_symbols")
 read_foreign = module("read_foreign")
 edits = module("edits")
 instructions = module("instructions")
+libraries = module("libraries")
 pages = module("pages")
 run_recipes = module("run_recipes")
 pictures = module("pictures")
@@ -507,14 +508,36 @@ class PackageTests(InFolder):
             self.assertFalse(self.passes("program", self.path(gone)), gone)
 
 
-class PlainBuilds(unittest.TestCase):
-    """The number of contracts of C functions on the page is that of the verdict on the program."""
-
+class PlainBuilds(InFolder):
     def test_contracts_that_are_assumed(self) -> None:
+        """The number of contracts of C functions on the page is that of the verdict on the program."""
         page = "- 39 contracts\nof C functions"
         for assumed, is_right in ((" axioms=39", True), (" axioms=38", False), (" axioms=390", False), ("", False)):
             verdict = f"axioms libc: 39\nlogic=proved functions=3{assumed} target=x86_64\n"
             self.assertEqual((assumed, plain_builds.fault_of_page(page, verdict) == ""), (assumed, is_right))
+
+    def test_what_is_taken_as_rt_ci_left_it(self) -> None:
+        """All libraries, or none: each is newer than its files and those below it, and has no stamp of `rt check`."""
+        for changed, is_taken in (("", True), ("low/src/lib.rt", False), ("high/out/rlib/stamp", False)):
+            shutil.rmtree(self.folder)
+            low, high = (self.crate(name) for name in ("low", "high"))
+            high.below = lambda: [low]
+            if changed:
+                write(self.path(changed), "")
+                os.utime(self.path(changed), (3, 3))
+            with self.subTest(changed):
+                self.assertEqual(libraries.build([low, high], as_left=True), "")
+                self.assertEqual((low.build_rlib.called, high.build_rlib.called), (not is_taken, not is_taken))
+
+    def crate(self, name: str) -> Any:
+        """A crate whose library was built in second 2 of a file of second 1."""
+        crate = mock.Mock(folder=self.path(name), rlib=self.path(name, "out/rlib/built.rlib"), below=list)
+        crate.build_rlib.return_value = 0
+        for path, seconds in ((f"{crate.folder}/src/lib.rt", 1), (f"{crate.rlib}/format", 2)):
+            write(path, "")
+            os.utime(path, (seconds, seconds))
+        os.utime(crate.rlib, (2, 2))
+        return crate
 
 
 class Instructions(unittest.TestCase):
