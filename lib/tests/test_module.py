@@ -168,6 +168,15 @@ for bad in ({"height": 501}, {"level": "X"}, {"mask": 8}, {"height": -1}, {"min_
         assert next(iter(bad)) in str(why), why
     else:
         raise AssertionError(bad)
+for bad in ({"scale": 1.5}, {"scale": "4"}, {"height": 50.0}, {"mask": "3"}):
+    for call in (liblabels.draw, liblabels.bitmap):
+        try:
+            call("qr", "x", **bad)
+        except TypeError as why:
+            ((name, number),) = bad.items()
+            assert str(why) == f"{name} has to be a whole number, not {number!r}", why
+        else:
+            raise AssertionError(bad)
 for line in ("ean13 1\\n2", "qr \\n\\n"):
     try:
         liblabels.line(line)

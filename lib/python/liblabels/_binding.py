@@ -203,9 +203,17 @@ def index_of(names: tuple[str, ...], kind: str, name: str) -> int:
     return names.index(name)
 
 
+def whole(name: str, number: int) -> int:
+    """Returns a number as an int; raises TypeError, which has the name, for anything but a whole number."""
+    try:
+        return operator.index(number)
+    except TypeError:
+        raise TypeError(f"{name} has to be a whole number, not {number!r}") from None
+
+
 def within(name: str, number: int, lowest: int, highest: int) -> int:
     """Returns a number as an int; raises ValueError, which has the name, for one that is not lowest to highest."""
-    number = operator.index(number)
+    number = whole(name, number)
     if not lowest <= number <= highest:
         raise ValueError(f"{name} is {number}, and has to be {lowest} to {highest}")
     return number
@@ -213,7 +221,7 @@ def within(name: str, number: int, lowest: int, highest: int) -> int:
 
 def scale_of_program(scale: int) -> int:
     """Returns a scale that labels(1) has; raises ValueError, which says what takes others."""
-    scale = operator.index(scale)
+    scale = whole("scale", scale)
     if _MOST_DRAWN < scale <= MOST_SCALE:
         range_of_program = f"1 to {_MOST_DRAWN} as labels(1) has it"
         raise ValueError(f"scale is {scale}, and has to be {range_of_program}: png, save and bitmap take {MOST_SCALE}")
