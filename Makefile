@@ -45,7 +45,7 @@ help:
 	@echo 'make all       the proved program in out/, the C library in out/lib/'
 	@echo 'make library   only the C library, in out/lib/'
 	@echo 'make deb       the Debian packages of what is committed, for amd64 and arm64, in out/deb/'
-	@echo 'make release   the same with the source and checksums, as an apt repository, in out/release/'
+	@echo 'make release   the same with the source and checksums, in out/release/'
 	@echo '               (both only for amd64, with nothing of arm64: ARCHITECTURES=amd64)'
 	@echo 'make deb-test  tries the packages in a fresh Debian, as root'
 	@echo 'make install | uninstall [PREFIX=$(PREFIX)] [DESTDIR=]'
@@ -111,12 +111,13 @@ install: all install-library
 	set -e; for tool in $(COMPLETED); do \
 	    $(call link,labels,$(DATADIR)/bash-completion/completions/$$tool); \
 	    $(call link,labels.fish,$(DATADIR)/fish/vendor_completions.d/$$tool.fish); done
-	@[ -n '$(DESTDIR)' ] || echo For programs that use the library: export LD_LIBRARY_PATH=$(LIBDIR) \
+	@[ -n '$(DESTDIR)' ] || echo 'Type this, too: export PATH=$(PREFIX)/bin:$$PATH LD_LIBRARY_PATH=$(LIBDIR)' \
 	    PKG_CONFIG_PATH=$(LIBDIR)/pkgconfig PYTHONPATH=$(PYTHONDIR)
 
 install-library: library
 	$(call library,install DESTDIR=$(DESTDIR) PREFIX=$(PREFIX) LIBDIR=$(LIBDIR) PYTHONDIR=$(PYTHONDIR))
 	install -D -m 644 -t $(DESTDIR)$(DATADIR)/doc/liblabels-dev/examples $(wildcard lib/examples/*)
+	install -D -m 644 -t $(DESTDIR)$(DATADIR)/doc/python3-liblabels/examples $(wildcard lib/examples/*.py)
 
 # Removes what this version installs, and the folders that only it used.
 uninstall: all
@@ -140,14 +141,13 @@ deb: $(LABELS) $(PROVED) $(call with_arm64,$(PROVED_ARM64))
 	    dpkg-buildpackage -B -aarm64 -d -us -uc)
 	ls out/deb/*.deb
 
-# What is given away, of what is committed: the packages, their source, an apt repository of both, the sums of all.
+# What is given away, of what is committed: the packages, their source, the sums of all.
 release: deb
 	rm -rf out/release out/source
 	umask 022; set -e; mkdir -p out/release out/source/labels; cp out/deb/*.deb out/release; \
 	    git archive HEAD | tar -x --no-same-permissions -C out/source/labels; \
 	    debian/changelog.py > out/source/labels/debian/changelog; \
-	    (cd out/release && dpkg-source --build ../source/labels); \
-	    SOURCE_DATE_EPOCH=$$(git log -1 --format=%ct) debian/repository.sh out/release
+	    cd out/release; dpkg-source --build ../source/labels; sha256sum ./*.deb ./*.dsc ./*.tar.* > SHA256SUMS
 	ls out/release
 
 # A fresh Debian in out/root; MIRROR names another mirror.
@@ -166,7 +166,8 @@ gate-test:
 	git clone --quiet . out/root/work
 	mkdir -p out/root$(KIT) && ln -s $(KIT)/bin/rt out/root/usr/local/bin/rt
 	$(call mounted, mount --bind $(KIT) out/root$(KIT); \
-	    chroot out/root env -i HOME=/root PATH=/usr/local/bin:/usr/sbin:/usr/bin:/sbin:/bin CI=true /work/.ci/run)
+	    chroot out/root env -i HOME=/root PATH=/usr/local/bin:/usr/sbin:/usr/bin:/sbin:/bin CI=true \
+	    /work/.ci/run --from-nothing)
 
 # The packages in a fresh Debian below out/, whose mounts are seen there alone. It needs root, debootstrap, autopkgtest
 # and piuparts, which installs, upgrades and purges, and sees that nothing is left but what systemd leaves: GTK, which

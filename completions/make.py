@@ -21,7 +21,12 @@ TOOLS = {"label-table": "label_table.table_parser", "label-print": "label_print.
 NAMES = " ".join(["labels", *TOOLS])
 # What takes the name of a file, and what is proposed where a parser takes any number.
 FILES = ("--new-since", "--each", "--journal", "--design")
-PROPOSED = {"--dpi": ("203", "300", "600"), "--decimal": ("comma", "point"), "--design": ("article", "shelf")}
+PROPOSED = {
+    "--dpi": ("203", "300", "600"),
+    "--decimal": ("comma", "point"),
+    "--design": ("article", "shelf"),
+    "--symbology": ("auto", "ean13", "ean8", "upca", "code128", "qr"),
+}
 OF_HELP = re.compile(r"^ +(?:-h, )?(--[a-z-]+)(?: <(\S+)>)? +(.*)$", re.MULTILINE)
 MADE = "Completion of labels and its tools; completions/make.py makes it.\n"
 BASH = """_labels() {

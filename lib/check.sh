@@ -28,18 +28,17 @@ if readelf -d "$shared" | grep -q TEXTREL; then fail "$shared has a relocation i
 readelf -lW "$shared" | grep -q 'GNU_STACK.* RW ' || fail "$shared has a stack that can be executed"
 readelf -h "$shared" | grep -q X86-64 || exit 0
 
-# later FILE COMMAND: the first instruction that came later. The places of jumps are left out, and padding; endbr64 is
-# padding to an older processor. COMMAND changes more, by sed.
+# later FILE: the first instruction that came later. The places of jumps are left out, and padding; endbr64 is padding
+# to an older processor. It takes tzcnt for bsf, which finds the same if a bit is set, as there is in Rattle's code.
 later() {
     listed=$(objdump -d --no-show-raw-insn "$1" | sed -nE 's/^ *[0-9a-f]+:\t//p' |
-        sed -E "s/ *[#<].*//; /^(bnd |notrack )?(j|call|loop)/d; /nop|endbr64/d; $2" | sort -u)
+        sed -E "s/ *[#<].*//; /^(bnd |notrack )?(j|call|loop)/d; /nop|endbr64/d; s/^tzcnt/bsf/" | sort -u)
     echo "$listed" | grep -q '^ret' || fail "$1 has no instructions that objdump lists"
     echo "$listed" | as -march=generic64 -o /dev/null - 2>&1 | grep -m 1 -v 'messages:$' || :
 }
 
-found=$(later "$shared" '')
+found=$(later "$shared")
 for program; do
-    # Of Rattle, for bsf: an older processor takes it for that, and it has a bit that is set.
-    found=$found$(later "$program" 's/^tzcnt/bsf/')
+    found=$found$(later "$program")
 done
 [ -z "$found" ] || fail "an instruction that is not of every amd64 processor: $found"

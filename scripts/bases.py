@@ -57,11 +57,12 @@ class Base:
 @dataclass(frozen=True)
 class Repository:
     """The crates that others rest on, in the order in which a reader meets them, from the headline down, the files of
-    specs/ by crate and module, those of the code, and what contracts speak by."""
+    specs/ by crate and module, those of the code, those of theorems, and what contracts speak by."""
 
     crates: list[str]
     specs: dict[tuple[str, str], File]
     code: list[File]
+    theorems: list[File]
     items: list[CodeItem]
 
     def definition(self, key: Key) -> Declaration | None:
@@ -118,10 +119,18 @@ def read_repository(top: str) -> Repository:
     crates = [crate for crate in reversed(sources.crates_of(top)) if crate not in AT_THE_TOP]
     files = reader.files_of(top, crates, "specs", "src")
     files += reader.files_of(top, [PROGRAM, EXPORTS], "src")
+    files += reader.files_at(top, theorem_files(top, crates))
     specs = {(file.crate, file.module): file for file in files if file.part == "specs"}
     code = [file for file in files if file.part == "src"]
+    theorems = [file for file in files if file.part == "proofs"]
     items = list(declared.code_items([file for file in code if file.crate in crates]))
-    return Repository(crates, specs, code, items)
+    return Repository(crates, specs, code, theorems, items)
+
+
+def theorem_files(top: str, crates: Iterable[str]) -> list[str]:
+    """Returns the paths of the files of lemmas that are there to be checked, and that no function rests on."""
+    paths = (path for crate in crates for path in sources.files_below(f"{top}/crates/{crate}/proofs", ".antt"))
+    return [path for path in paths if path.endswith("Theorems.antt")]
 
 
 def base_of(repository: Repository, contracts: Sequence[CodeItem]) -> Base:

@@ -3,15 +3,18 @@
 
 The contracts are the clauses of the program's own call, `shows` and `runs`, each alone and both together, and those of
 the functions that the C library exports. --check compares the number in README.md and the table in docs/PROOF.md with
-what the files give, and the names of std in docs/DEFINITIONS.md with those that the program's call leans on: status 1
-where they differ. --write writes the number, the table and the sums below. Each number counts definitions without
-blank lines and comments, the contract itself with the types, traits and views that it speaks by, and a line for each
-name of std and of the kit's clap. What stands behind clap's names is counted apart.
+what the files give, docs/DEFINITIONS.md with scripts/believed_names.txt, of which it is made, and the names there with
+those of std and of clap that the program's call leans on: status 1 where they differ. --write writes the number, the
+table, that page and the sums below. Each number counts definitions without blank lines and comments, the contract
+itself with the types, traits and views that it speaks by, and a line for each name of std and of the kit's clap. What
+stands behind clap's names is counted apart.
 
 --check does the same with scripts/believed_sums.txt, which goes further: it has a checksum, without comments and
 layout, of all that any crate promises to its callers. These are the contracts of public functions, the traits, types
 and views by which they speak, the definitions on which these rest, and those that are outside of `Private`, which
-lemmas are about. So one that is weakened, such as a field of a proposition, is a line of the diff that names it.
+lemmas are about; and the statements of theorems. So one that is weakened, such as a field of a proposition, is a line
+of the diff that names it. A sum is over what names stand for, too: another definition that is imported under a name is
+seen.
 
 --show prints what a contract rests on, in reading order, each with its comment: `shows`, `runs`, `program` for both,
 or `library`. The first comment of a file says what the file is about. Lines `-- Why: ` after it say what its
@@ -44,11 +47,15 @@ README = "README.md"
 PROOF = os.path.join("docs", "PROOF.md")
 PAGE = os.path.join("docs", "DEFINITIONS.md")
 SUMS = os.path.join("scripts", "believed_sums.txt")
+NAMES = os.path.join("scripts", "believed_names.txt")
 HEAD_OF_SUMS = "# A checksum of all that a promise of a crate rests on: `scripts/believed.py --write` makes it anew.\n"
-OF_STD = "## Names of std"
 BEGIN, END = "<!-- believed: begin -->", "<!-- believed: end -->"
 # The number of README, by what stands after it.
 NUMBER = re.compile(r"[\d,]+(?=\s+lines\s+of\s+\[definitions\])")
+# A name and what it means, a line of the file of names, and such lines together, which are a table of the page.
+MEANING = re.compile(r"^  (\S+) (.+)\n", re.M)
+MEANINGS = re.compile(f"(?:{MEANING.pattern})+", re.M)
+HEAD_OF_MEANINGS = "| Name | What it means |\n|---|---|\n"
 # The names of a `Why: `, before its first colon.
 WHY = re.compile(r"Why: ((?:`[^`]+`,? )*`[^`]+`): ")
 
@@ -119,8 +126,8 @@ def counts_of(repository: Repository, found: dict[str, Base]) -> Counts:
         ("the clause `runs` of `program`", lines["runs"]),
         ("both clauses of `program`", lines["program"]),
         (f"the {count} exports of the C library", lines["library"]),
-        ("apart: what stands behind the names of `clap`", Lines(behind, 0, 0)),
-        (f"apart: `main` and `{UNSAID}`, which have no clause", Lines(0, unsaid, 0)),
+        ("not in these numbers: what stands behind the names of `clap`", Lines(behind, 0, 0)),
+        (f"not in these numbers: `main` and `{UNSAID}`, which have no clause", Lines(0, unsaid, 0)),
     ]
     return Counts(rows, lines["shows"].all)
 
@@ -154,21 +161,36 @@ def sums_of(repository: Repository, found: dict[str, Base]) -> str:
     """Returns the lines of the file of sums."""
     crates, library = bases.base_of(repository, repository.promises), found["library"]
     lines = set[str]()
+    # With the head of a module, which has arguments of what is in it.
     for definition in {*library.definitions, *crates.definitions, *repository.laws}:
-        total = sources.sum_of(token.text for token in definition.tokens)
-        lines.add(f"{definition.key.crate}/{definition.key.module} {definition.name} {total}\n")
+        file = repository.specs[definition.key.crate, definition.key.module]
+        total = sources.sum_of(file.said([*file.rest, *definition.tokens]))
+        lines.add(f"{file.title} {definition.name} {total}\n")
+    for file in repository.theorems:
+        for theorem in file.declarations:
+            total = sources.sum_of(file.said([*file.rest, *theorem.promised]))
+            lines.add(f"{file.title} theorem {theorem.name} {total}\n")
     for item in {*library.code, *crates.code}:
         lines.add(f"{item.crate}/{item.file} {item.kind} {item.name} {item.sum}\n")
     return HEAD_OF_SUMS + "".join(sorted(lines))
 
 
-def faults_of_names(page: str, base: Base) -> list[str]:
-    """Returns which names of std and of clap the page says nothing of, or does not need to."""
-    listed = re.findall(r"^\| `(\S+)` \|", page.partition(OF_STD)[2], re.M)
-    said = {name.replace("\\|", "|") for name in listed}
+def page_of(names: str) -> str:
+    """Returns the page of the names, with tables of what the file of names has line by line."""
+
+    def table_of(meanings: re.Match[str]) -> str:
+        rows = [(name.replace("|", "\\|"), meaning) for name, meaning in MEANING.findall(meanings[0])]
+        return HEAD_OF_MEANINGS + "".join(f"| `{name}` | {meaning} |\n" for name, meaning in rows)
+
+    return MEANINGS.sub(table_of, names)
+
+
+def faults_of_names(names: str, base: Base) -> list[str]:
+    """Returns which names of std and of clap the file of names says nothing of, or does not need to."""
+    said = {name for name, _ in MEANING.findall(names)}
     wanted = base.of_std | {key.name for key in base.of_clap}
-    missing = [f"{PAGE} does not say what {name} means" for name in sorted(wanted - said)]
-    unused = [f"{PAGE} says what {name} means, which is not needed" for name in sorted(said - wanted)]
+    missing = [f"{NAMES} does not say what {name} means" for name in sorted(wanted - said)]
+    unused = [f"{NAMES} says what {name} means, which is not needed" for name in sorted(said - wanted)]
     return missing + unused
 
 
@@ -181,9 +203,11 @@ def differences(name: str, was: str, text: str) -> list[str]:
 def compared(top: str, repository: Repository, found: dict[str, Base], writes: bool) -> int:
     """Compares the pages with what the files give, or writes them, prints the numbers, and returns the status."""
     counts = counts_of(repository, found)
-    wrong = faults_of_names(sources.read(os.path.join(top, PAGE)), found["program"])
-    read = {name: sources.read(os.path.join(top, name)) for name in (README, PROOF, SUMS)}
-    made = with_number(read[README], counts), with_table(read[PROOF], counts), sums_of(repository, found)
+    names = sources.read(os.path.join(top, NAMES))
+    wrong = faults_of_names(names, found["program"])
+    read = {name: sources.read(os.path.join(top, name)) for name in (README, PROOF, SUMS, PAGE)}
+    numbers = with_number(read[README], counts), with_table(read[PROOF], counts)
+    made = *numbers, sums_of(repository, found), page_of(names)
     for (name, was), text in zip(read.items(), made):
         path = os.path.join(top, name)
         if writes:
@@ -265,7 +289,7 @@ def main() -> int:
     parser = sources.parser_of(__doc__)
     ways = parser.add_mutually_exclusive_group(required=True)
     ways.add_argument("--check", action="store_true", help="compare the pages with the files")
-    ways.add_argument("--write", action="store_true", help="make the numbers and the table anew")
+    ways.add_argument("--write", action="store_true", help="make the numbers, the table and the page of names")
     names = [*CLAUSES, "program", "library"]
     ways.add_argument("--show", choices=names, help="print what a contract rests on")
     given = parser.parse_args()

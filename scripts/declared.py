@@ -30,7 +30,8 @@ Name = tuple[str, str, str]
 class CodeItem:
     """An item: its crate, its file in src/ without the ending, its description, how many lines it has, what these
     cite, the words of the type that it is or shows, or of the contract, which name more types, the members of types
-    that it names, as `remaining` in `R.remaining`, and a checksum of all that it says."""
+    that it names, as `remaining` in `R.remaining`, and a checksum of all that it says and of what its names stand
+    for."""
 
     kind: str
     name: str
@@ -83,7 +84,7 @@ def item_of(kind: str, name: str, file: File, about: str, declarations: Sequence
             declaration for declaration in file.declarations if (declaration.kind, declaration.name) == wanted
         ),
         members=members_in(declarations),
-        sum=sources.sum_of(token.text for declaration in declarations for token in declaration.stated),
+        sum=sources.sum_of(text for declaration in declarations for text in file.said(declaration.stated)),
     )
 
 

@@ -2,12 +2,14 @@
 """Counts the instructions that a label takes, beside other libraries and programs, as docs/BENCHMARKS.md has them.
 
 It prints the tables of that page, for which zint, GNU barcode and qrencode have to be installed. valgrind (callgrind)
-counts, the same on a busy machine as on an idle one. What one label more costs: from a run over COUNT more labels one
-over none is subtracted, for zint and GNU barcode one over a single label, and for qrencode, which draws one label a
-run, one that prints its version. A call of a library is a tenth of ten calls, after one that is not counted
-(lib/tests/count_calls.c); memory is cleared there by a loop, since valgrind counts each byte of `rep stosb` as an
-instruction. Its time is the lowest of three, on this machine. A whole run has an empty environment, since the loader
-reads it. System calls are those of a run without those of a run over no line. Every program writes to /dev/null.
+counts, the same on a busy machine as on an idle one. Each figure is the mean of TEXTS texts of a kind, which are drawn
+by a seed, the same for all. What one label more costs: from a run over a text and all texts one over that text is
+subtracted, and for qrencode, which draws one label a run, one that prints its version. A call of a library is a tenth
+of ten calls, after one that is not counted (lib/tests/count_calls.c); memory is cleared there by a loop, since
+valgrind counts each byte of `rep stosb` as an instruction. Its time is the median of the texts, for each the lowest of
+three, on this machine. A whole run draws the first text, and has an empty environment, since the loader reads it.
+System calls are those of a run without those of a run over no line. The memory of a run is what it has written to,
+without the pages of files, which programs share. Every program writes to /dev/null.
 
 --check counts the program and the static library alone, and compares the tables as they are printed with the page. The
 status is 1 where a row takes more than 5 % more or less than the page says, or where the page has other heads or rows.
@@ -18,11 +20,15 @@ count that failed.
 
 import difflib
 import os
+import random
 import re
 import shutil
+import statistics
+import string
 import subprocess
 import sys
 import tempfile
+import time
 from dataclasses import dataclass
 from functools import partial
 from pathlib import Path
@@ -30,7 +36,9 @@ from typing import Any, Callable, Iterable, Iterator, Mapping, NoReturn, Optiona
 
 import sources
 
-COUNT = 20
+# How many texts of a kind are drawn, and by which seed.
+TEXTS = 20
+SEED = 1
 # The calls of a library that lib/tests/count_calls.c counts together.
 CALLS = 10
 # glibc clears memory by `rep stosb` from this many bytes on.
@@ -43,7 +51,7 @@ PROGRAM = TOP / "crates/labels/out/labels"
 LIBRARY = (TOP / "lib/tests/count_calls.c", TOP / "lib/labels.c", TOP / "crates/labels_c/out/liblabels_c.a")
 BUILD = ("gcc", "-O2", f"-I{TOP}/lib", *LIBRARY, "-lqrencode", "-lzint", "-lqrcodegen", "-o", "count_calls")
 # The tables of the page that are counted, by the first two cells of their heads.
-HEADS = (["Label", "labels"], ["Start", "labels"], ["Calls", "labels"], ["Call", "liblabels"])
+HEADS = (["Label", "labels"], ["Start", "labels"], ["Calls", "labels"], ["KiB", "labels"], ["Call", "liblabels"])
 LEVELS = "LMQH"
 # What zint and GNU barcode call a linear symbology.
 LINEAR = {"ean13": ("EANX", "ean13"), "code128": ("CODE128", "128")}
@@ -51,10 +59,10 @@ LINEAR = {"ean13": ("EANX", "ean13"), "code128": ("CODE128", "128")}
 
 @dataclass(frozen=True)
 class Label:
-    """A label: its symbology, its data, and the level of a QR symbol."""
+    """A kind of label: its symbology, texts of it, and the level of a QR symbol."""
 
     symbology: str
-    data: str
+    texts: tuple[str, ...]
     level: str = "M"
 
 
@@ -67,41 +75,41 @@ Word = Union[str, Path]
 Environment = Optional[Mapping[str, str]]
 
 
-def front(count: int, text: str) -> str:
-    """The first characters of a text over and over."""
-    return (text * count)[:count]
+def drawn(form: str) -> tuple[str, ...]:
+    """Texts of a form, by the seed: for `#` they have a digit, for `*` a digit or a letter in lower case."""
+    chosen = random.Random(SEED)
+    characters = {"#": string.digits, "*": string.digits + string.ascii_lowercase}
+    return tuple("".join(chosen.choice(characters.get(sign, sign)) for sign in form) for _ in range(TEXTS))
 
 
 LOT = "LOT-000123/Shelf 7b"
 URL = "https://example.com/article/000123"
-PI = "31415926535897932384"
-EAN = Label("ean13", "400638133393")
-CODE128 = Label("code128", LOT)
-QR = Label("qr", URL)
+EAN = Label("ean13", drawn("#" * 12))
+CODE128 = Label("code128", drawn("LOT-######/Shelf #*"))
+QR = Label("qr", drawn("https://example.com/article/######"))
 # The labels that others draw too, and those that `labels` alone draws, with its options.
 LABELS = {
     "EAN-13": EAN,
-    f"Code 128, `{LOT}`": CODE128,
-    f"QR, `{URL}`, level M": QR,
-    "QR, 200 letters and digits in lower case, level M": Label(
-        "qr", front(200, "a1b2c3d4e5f6g7h8i9j0klmnopqrstuvwxyz")
-    ),
-    "QR, 600 digits, level L": Label("qr", front(600, PI), "L"),
-    "QR, 300 digits, level L": Label("qr", front(300, PI), "L"),
+    f"Code 128, as `{LOT}`": CODE128,
+    f"QR, as `{URL}`, level M": QR,
+    "QR, 200 letters and digits in lower case, level M": Label("qr", drawn("*" * 200)),
+    "QR, 600 digits, level L": Label("qr", drawn("#" * 600), "L"),
+    "QR, 300 digits, level L": Label("qr", drawn("#" * 300), "L"),
 }
 ONLY_OURS = {
-    **{f"QR, `{URL}`, `--scale {scale}`": (QR, ("--scale", f"{scale}")) for scale in (5, 6, 7, 8)},
+    **{f"QR, as `{URL}`, `--scale {scale}`": (QR, ("--scale", f"{scale}")) for scale in (5, 6, 7, 8)},
     "EAN-13, `--scale 8`": (EAN, ("--scale", "8")),
     "EAN-13, `--format ascii --height 5`": (EAN, ("--format", "ascii", "--height", "5")),
 }
-STARTS = {"a run with one EAN-13": EAN, f"a run with one QR, `{URL}`": QR}
+STARTS = {"a run with one EAN-13": EAN, f"a run with one QR, as `{URL}`": QR}
 SYSTEM_CALLS = {"reads of 1,000 EAN-13 lines": "sys_read", "writes of 1,000 EAN-13 labels": "sys_write"}
+MEMORY = {f"a run over {count:,} EAN-13": count for count in (1000, 100_000)}
 # The labels of the library's calls. Of the second QR symbol no mode but that for bytes pays.
 OF_LIBRARY = {
-    "EAN-13": Label("ean13", "4006381333931"),
-    f"Code 128, `{LOT}`": CODE128,
+    "EAN-13": EAN,
+    f"Code 128, as `{LOT}`": CODE128,
     "QR, 34 bytes": QR,
-    "QR, 200 bytes": Label("qr", front(200, "https://example.com/Lot 7b?article=000123&x=")),
+    "QR, 200 bytes": Label("qr", drawn((5 * "https://example.com/Lot #*?article=######&x=")[:200])),
 }
 SOME = ("EAN-13", "QR, 34 bytes")
 LIBRARY_CALLS = {
@@ -162,10 +170,10 @@ def number_in(pattern: str, said: str) -> int:
     return int(found[1]) if found else stop(f"valgrind has counted nothing: {said}")
 
 
-def command_of(program: Word, label: Label, times: int, *options: str) -> list[Word]:
-    """The command of a program for a label, n times, or no word; qrencode draws it once."""
-    line = f"{label.symbology} {label.data}" if program == PROGRAM else label.data
-    Path("lines").write_text(f"{line}\n" * times, encoding="utf-8")
+def command_of(program: Word, label: Label, texts: Sequence[str], *options: str) -> list[Word]:
+    """The command of a program for labels of a kind, or no word; qrencode draws the first text."""
+    before = f"{label.symbology} " if program == PROGRAM else ""
+    Path("lines").write_text("".join(f"{before}{text}\n" for text in texts), encoding="utf-8")
     is_qr = label.symbology == "qr"
     name, of_barcode = ("QRCODE", "") if is_qr else LINEAR[label.symbology]
     kind = f"--secure={LEVELS.index(label.level) + 1}" if is_qr else "--notext"
@@ -176,27 +184,28 @@ def command_of(program: Word, label: Label, times: int, *options: str) -> list[W
     if program == "barcode" and not is_qr:
         return ["barcode", "-e", of_barcode, "-n", "-o", os.devnull, "-i", "lines"]
     if program == "qrencode" and is_qr:
-        return ["qrencode", "-l", label.level, "-s", "1", "-t", "ASCII", "-o", os.devnull, label.data]
+        return ["qrencode", "-l", label.level, "-s", "1", "-t", "ASCII", "-o", os.devnull, texts[0]]
     return []
 
 
 def one_more(program: Word, label: Label, *options: str) -> Cell:
     """What one label more takes of a program, or nothing where it does not draw it."""
-    command = command_of(program, label, 1, *options)
+    command = command_of(program, label, label.texts, *options)
     if not command:
         return None
     if program == "qrencode":
-        return instructions_of(*command) - instructions_of(program, "-V")
+        runs = [instructions_of(*command_of(program, label, [text])) for text in label.texts]
+        return statistics.mean(runs) - instructions_of(program, "-V")
     if program == PROGRAM and not output_of(*command):
-        stop(f"{PROGRAM} draws no label of: {label.data}")
-    few = 0 if program == PROGRAM else 1
-    less, more = (instructions_of(*command_of(program, label, times, *options)) for times in (few, few + COUNT))
-    return (more - less) / COUNT
+        stop(f"{PROGRAM} draws no label of: {label.texts}")
+    few = label.texts[:1]
+    less, more = (instructions_of(*command_of(program, label, texts, *options)) for texts in (few, few + label.texts))
+    return (more - less) / TEXTS
 
 
 def whole_run(program: Word, label: Label) -> Cell:
     """What a whole run over one label takes of a program, or nothing where it does not draw it."""
-    command = command_of(program, label, 1)
+    command = command_of(program, label, label.texts[:1])
     return instructions_of(*command, environment={}) if command else None
 
 
@@ -209,12 +218,28 @@ def nothing() -> Cell:
 def system_calls(call: str) -> Cell:
     """How often a run over 1,000 labels makes a system call, without those of a run over none."""
     counts = []
-    for times in (0, 1000):
-        said = said_by_valgrind("--tool=none", "--trace-syscalls=yes", *command_of(PROGRAM, EAN, times))
+    for texts in ((), EAN.texts * (1000 // TEXTS)):
+        said = said_by_valgrind("--tool=none", "--trace-syscalls=yes", *command_of(PROGRAM, EAN, texts))
         if " sys_read " not in said:
             stop("valgrind names no system call")
         counts.append(said.count(f" {call} "))
     return counts[1] - counts[0]
+
+
+def memory(count: int) -> Cell:
+    """The KiB that a run over EAN-13 labels has written to, which it never gives back: it is asked while it waits."""
+    lines = "".join(f"ean13 {text}\n" for text in EAN.texts) * (count // TEXTS)
+    with subprocess.Popen([PROGRAM], stdin=subprocess.PIPE, stdout=subprocess.DEVNULL) as run:
+        if run.stdin is None:
+            stop("a run without input")
+        run.stdin.write(lines.encode())
+        run.stdin.flush()
+        status = ""
+        while not re.search(r"^State:\s+S", status, re.M):
+            time.sleep(0.01)
+            status = sources.read(f"/proc/{run.pid}/status")
+        said = sources.read(f"/proc/{run.pid}/smaps_rollup")
+    return number_in(r"^Anonymous:\s+(\d+) kB", said)
 
 
 def draws(call: str, label: Label) -> bool:
@@ -222,11 +247,12 @@ def draws(call: str, label: Label) -> bool:
     return label.symbology == "qr" or not call.startswith(QR_ALONE)
 
 
-def words_of_call(call: str, label: Label) -> tuple[str, ...]:
-    """The words by which the test program makes a call; it is built where it is not there."""
+def words_of_call(call: str, label: Label) -> Iterator[str]:
+    """The words by which the test program makes a call for each text; it is built where it is not there."""
     if not os.path.exists("count_calls"):
         output_of(*BUILD)
-    return call, label.symbology, label.level, label.data
+    for text in label.texts:
+        yield from (call, label.symbology, label.level, text)
 
 
 def of_call(call: str, label: Label) -> Cell:
@@ -238,25 +264,28 @@ def of_call(call: str, label: Label) -> Cell:
     command = ("--tool=callgrind", "--callgrind-out-file=counts", *words)
     said_by_valgrind(*command, environment={**os.environ, **NO_STOSB})
     if theirs:
-        see_picture(label, theirs)
-    return number_in(r"^summary: (\d+)", sources.read("counts.1")) / CALLS
+        see_pictures(label, theirs)
+    counts = [number_in(r"^summary: (\d+)", sources.read(f"counts.{place}")) for place in range(1, TEXTS + 1)]
+    return statistics.mean(counts) / CALLS
 
 
 def time_of_call(call: str, label: Label) -> Cell:
     """The microseconds of a call of a library, as text, or nothing where it does not draw the label."""
     if not draws(call, label):
         return None
-    microseconds = float(output_of("./count_calls", "--time", *words_of_call(call, label))) / 1000
+    nanoseconds = output_of("./count_calls", "--time", *words_of_call(call, label)).split()
+    microseconds = statistics.median(map(float, nanoseconds)) / 1000
     return f"{microseconds:,.0f}" if microseconds >= 100 else f"{microseconds:.2g}"
 
 
-def see_picture(label: Label, theirs: str) -> None:
-    """A picture of bars has to be that of `labels`, one of a QR symbol as large: its mask may differ."""
-    ours = output_of(*command_of(PROGRAM, label, CALLS + 1))
+def see_pictures(label: Label, theirs: str) -> None:
+    """Pictures of bars have to be those of `labels`, those of QR symbols as large: their masks may differ."""
+    texts = [text for text in label.texts for _ in range(CALLS + 1)]
+    ours = output_of(*command_of(PROGRAM, label, texts))
     if label.symbology == "qr":
-        ours, theirs = ours.split("\n")[1], theirs.split("\n")[1]
+        ours, theirs = (" ".join(re.findall(r"^P1\n(.*)$", pictures, re.M)) for pictures in (ours, theirs))
     if ours != theirs:
-        stop(f"a library draws another picture of: {label.data}")
+        stop(f"a library draws another picture of one of: {label.texts}")
 
 
 def cells_of_call(call: str, name: str) -> list[Callable[[], Cell]]:
@@ -283,6 +312,7 @@ def tables() -> Iterator[tuple[list[str], Rows]]:
         rows[name] = [ours, nothing, *others]
     yield ["Start", "labels", "empty C program", *SHOWN], rows
     yield ["Calls", "labels"], {name: [partial(system_calls, call)] for name, call in SYSTEM_CALLS.items()}
+    yield ["KiB", "labels"], {name: [partial(memory, count)] for name, count in MEMORY.items()}
     for is_compared in (True, False):
         rows = {}
         for call, names in LIBRARY_CALLS.items():

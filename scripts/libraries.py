@@ -18,6 +18,12 @@ import sources
 
 # The name of the crate above the others, and its code.
 ABOVE, CODE = "judge", "//! Nothing.\n#![tactic(auto)]\n\n/// One.\npub fn one() -> u8 {\n    1\n}\n"
+# What `make` looks for, and where it is built.
+MADE = {
+    "out/labels": "crates/labels/out/labels",
+    "out/liblabels_c.a": "crates/labels_c/out/liblabels_c.a",
+    "out/arm64/liblabels_c.a": "crates/labels_c/out/arm64/liblabels_c.a",
+}
 # What a crate has in its folder for a check to read.
 PARTS = ("src", "specs", "proofs")
 

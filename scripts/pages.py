@@ -3,8 +3,8 @@
 
 - Each block of code is closed, and its language is one that a script reads: text, one of those below, and sh, sh kit
   and console on the pages alone that run_recipes.py runs.
-- Code is quoted as it is: each block of a program's language in docs/LIBRARY.md and docs/PROOF.md, and each block of
-  text that begins with a definition (`pub`), is in a file of crates/ or lib/ that the page names before it, line by
+- Code is quoted as it is: each block of a program's language in the pages of QUOTING, and each block of text that
+  begins with a definition (`pub`), is in a file of crates/ or lib/ that the page names before it, line by
   line, but for the spaces in front. A block below a line `Not checked:` is left out.
 - Each link from one file of the repository to another leads to a file and a heading.
 - Each name between backticks in the pages of NAMING, such as `Filter::feed`, is of words that the code has.
@@ -40,10 +40,10 @@ import sources
 # The pages whose commands run_recipes.py runs.
 README = "README.md"
 DESIGNS = "designs/README.md"
-PRINTING = ("docs/PRINTING.md", "docs/SHEETS.md", "docs/ROLLS.md")
+PRINTING = ("docs/SHEETS.md", "docs/ROLLS.md")
 RUN = (
-    *(README, "docs/INSTALL.md", "docs/TABLE.md", "docs/LINES.md", *PRINTING, "docs/TICKETS.md", "docs/RECIPES.md"),
-    DESIGNS,
+    *(README, "docs/INSTALL.md", "docs/TABLE.md", "docs/LINES.md", *PRINTING, "docs/TICKETS.md", "docs/STREAM.md"),
+    *("docs/RECIPES.md", DESIGNS),
 )
 QUOTED = {"rust", "python", "c"}
 COMMANDS = {"sh", "sh kit", "console"}
@@ -54,16 +54,16 @@ PROMPT = "$ "
 PROOF = "docs/PROOF.md"
 PROMISES = "docs/PROOF-RUN.md"
 EVIDENCE = "docs/EVIDENCE.md"
-QUOTING = ("docs/LIBRARY.md", PROOF)
+QUOTING = ("docs/PYTHON.md", "docs/LIBRARY.md", PROOF)
 # The pages that name the code, and the files that have its words.
 NAMING = (
-    *(f"docs/{name}.md" for name in ("ARCHITECTURE", "DEFINITIONS", "LIBRARY", "SPECIFICATION")),
+    *(f"docs/{name}.md" for name in ("ARCHITECTURE", "CHANGING", "DEFINITIONS", "LIBRARY", "PYTHON", "SPECIFICATION")),
     *(f"docs/PROOF{name}.md" for name in ("", "-READING", "-DAMAGE", "-LIBRARY")),
     *(PROMISES, EVIDENCE),
 )
 CODE = (
     *("crates/*/src/**/*.rt", "crates/*/specs/*.antt", "crates/*/proofs/**/*.antt"),
-    *("lib/**/*.*", "lib/Makefile", "scripts/*.py"),
+    *("lib/**/*.*", "lib/Makefile", "scripts/*.py", "tools/labeltools/**/*.*", "tools/tests/*.*"),
 )
 MOST_WORDS = 90
 OF_MERGES = re.compile(r"(?:<<<<<<<|>>>>>>>|\|\|\|\|\|\|\|) .*")
@@ -263,10 +263,10 @@ def names_in(text: str) -> Iterator[tuple[int, str]]:
 
 
 def words_of_code() -> set[str]:
-    """The words of the code: of the crates, the library and the scripts."""
+    """The words of the code and of the names of its files: of the crates, the library, the scripts and the tools."""
     paths = [path for pattern in CODE for path in glob.glob(pattern, recursive=True) if os.path.isfile(path)]
     paths = [path for path in paths if "__pycache__" not in path]
-    return {word for path in paths for word in re.findall(r"\w+", sources.read(path))}
+    return {word for path in paths for word in re.findall(r"\w+", path + " " + sources.read(path))}
 
 
 def faults_of_names(text: str, words: Container[str]) -> Iterator[tuple[int, str]]:

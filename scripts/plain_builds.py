@@ -24,12 +24,6 @@ FLAGS = ["--jobs", "1", "--cpu", "x86-64"]
 # What the page and the verdict say of contracts of C functions.
 PAGE, SAID = f"{sources.TOP}/docs/PROOF.md", re.compile(r"([\d,]+)\s+contracts\s+of\s+C\s+functions")
 ASSUMED = re.compile(r"^logic=proved .*\baxioms=(\d+)", re.M)
-# What `make` looks for, and where it is built.
-MADE = {
-    "out/labels": "crates/labels/out/labels",
-    "out/liblabels_c.a": "crates/labels_c/out/liblabels_c.a",
-    "out/arm64/liblabels_c.a": "crates/labels_c/out/arm64/liblabels_c.a",
-}
 ARM64 = ["--jobs", "1", "--target", "aarch64-unknown-linux-gnu"]
 
 
@@ -53,11 +47,11 @@ def fault_of_page(page: str, verdict: str) -> str:
 
 def fault_of_make() -> str:
     """Puts what is built where `make` looks for it, and returns what is wrong: `make` would build some of it anew."""
-    for path, built in MADE.items():
+    for path, built in libraries.MADE.items():
         os.makedirs(f"{sources.TOP}/{os.path.dirname(path)}", exist_ok=True)
         shutil.copy(f"{sources.TOP}/{built}", f"{sources.TOP}/{path}")
-    status, said = sources.run(["make", "-s", "--question", *MADE])
-    return f"make would build {' '.join(MADE)} anew, status {status}: {said}" * bool(status)
+    status, said = sources.run(["make", "-s", "--question", *libraries.MADE])
+    return f"make would build {' '.join(libraries.MADE)} anew, status {status}: {said}" * bool(status)
 
 
 def main() -> int:

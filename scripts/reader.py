@@ -99,6 +99,13 @@ class Declaration:
             if texts[0] == self.name and "=" in texts and not is_signature(statement):
                 yield statement[texts.index("=") + 1 :]
 
+    @property
+    def promised(self) -> list[Token]:
+        """What those who cite it rely on: of a lemma its signature, of a definition all that it says."""
+        words = {token.text for token in self.tokens}
+        signature = next(filter(is_signature, self.statements), self.tokens)
+        return self.tokens if self.kind != "definition" or "abbrev" in words else signature
+
     def worked_values(self) -> int:
         """How many statements without variables it makes, those of a module too, of a product each for one: they are
         computed."""
@@ -182,6 +189,11 @@ class File:
         for name in self.operators:
             if is_named_in(name, names):
                 yield from self.targets[name]
+
+    def said(self, tokens: Sequence[Token]) -> Iterator[str]:
+        """What tokens say: their texts, and what those that are names of the logic stand for, in this file."""
+        yield from (token.text for token in tokens)
+        yield from (" ".join(key) for key in self.cites(tokens))
 
     @functools.cache
     def cited_by(self, declaration: Declaration) -> Sequence[Key]:

@@ -7,8 +7,9 @@ though it is expected to fail, each test of a class or a file that cannot be rea
 draws, or takes seconds, is left out: the gate runs it after the proofs. A folder without tests is a failure. A test
 that takes too long is ended and failed, and so is what is read or set up for tests. What all tests of a folder need
 the function `prepare` of its module `support` makes, once. In each run tests are shown that end in each way, of which
-just the right one may pass. The last line is `N passed, M failed`, with `, L left out` after it where some were; the
-status is 1 where some failed.
+just the right one may pass. If no more than three tests fail, each runs once more when all others have ended: one that
+then passes counts as passed, and a line `unsteady: TEST` names it, since it depends on how busy the machine is. The
+last line is `N passed, M failed`, with `, L left out` after it where some were; the status is 1 where some failed.
 """
 
 import gc
@@ -21,7 +22,7 @@ import tempfile
 import time
 import traceback
 import unittest
-from typing import IO, Any, Iterable, Iterator, NoReturn, TextIO
+from typing import IO, Any, Iterable, Iterator, NoReturn, Sequence, TextIO
 
 import sources
 
@@ -31,6 +32,8 @@ LEFT_OUT = ("is not built: run ", "takes seconds: ")
 LONGEST = 900.0
 # Files at a time.
 MOST_AT_ONCE = len(os.sched_getaffinity(0)) * 3 // 2
+# Tests that run once more at most: where more fail, it is not because the machine is busy.
+MOST_AGAIN = 3
 
 
 class TookTooLong(BaseException):
@@ -77,13 +80,18 @@ def tests_in(suite: unittest.TestSuite) -> Iterator[Any]:
 
 
 def parts_of(suite: unittest.TestSuite) -> list[unittest.TestSuite]:
-    """The tests of each file."""
-    of_files = itertools.groupby(tests_in(suite), lambda test: type(test).__module__)
-    return [unittest.TestSuite(tests) for _, tests in of_files]
+    """The tests of each file; those of a class that has RUNS_APART are a part of their own."""
+    return [unittest.TestSuite(tests) for _, tests in itertools.groupby(tests_in(suite), part_of)]
 
 
-def judged(suite: unittest.TestSuite, is_quick: bool, stream: TextIO) -> tuple[int, int, int]:
-    """Runs tests, and returns how many passed, failed and were left out."""
+def part_of(test: Any) -> tuple[str, str]:
+    """The file of a test, and its class if that runs apart: it takes long, or leaves much behind."""
+    kind = type(test)
+    return kind.__module__, kind.__name__ if getattr(kind, "RUNS_APART", False) else ""
+
+
+def judged(suite: unittest.TestSuite, is_quick: bool, stream: TextIO) -> tuple[int, list[str], int]:
+    """Runs tests, and returns how many passed, the names of those that failed, and how many were left out."""
     names = [test.id() for test in tests_in(suite)]
     runner = unittest.TextTestRunner(stream, verbosity=2, buffer=True, resultclass=Result)
     result = runner.run(suite)
@@ -93,12 +101,12 @@ def judged(suite: unittest.TestSuite, is_quick: bool, stream: TextIO) -> tuple[i
     # Of a class or a file that is skipped as a whole the name is in brackets: setUpClass (test_one.One).
     wholes = tuple(f"{name[:-1].partition('(')[2]}." for name in excused if name.endswith(")"))
     left_out = [name for name in not_passed if name in excused or name.startswith(wholes)]
-    return len(result.passed), len(not_passed) - len(left_out), len(left_out)
+    return len(result.passed), [name for name in not_passed if name not in left_out], len(left_out)
 
 
 def begun(part: unittest.TestSuite, is_quick: bool, said: IO[str]) -> int:
-    """The number of a process, a fork of this one, that runs tests, and writes what comes of them into a file, last as
-    three numbers."""
+    """The number of a process, a fork of this one, that runs tests, and writes what comes of them into a file. The
+    last line says how many passed and were left out, and names those that failed."""
     sys.stdout.flush()
     sys.stderr.flush()
     process = os.fork()
@@ -110,7 +118,8 @@ def begun(part: unittest.TestSuite, is_quick: bool, said: IO[str]) -> int:
     sys.stdout = sys.stderr = open(1, "w", encoding="utf-8", errors="backslashreplace", closefd=False)
     try:
         give_time()
-        print(*judged(part, is_quick, sys.stderr))
+        passed, failed, left_out = judged(part, is_quick, sys.stderr)
+        print(passed, left_out, *failed)
         status = 0
     except BaseException:
         traceback.print_exc()
@@ -119,26 +128,40 @@ def begun(part: unittest.TestSuite, is_quick: bool, said: IO[str]) -> int:
         os._exit(status)
 
 
-def judged_apart(parts: Iterable[unittest.TestSuite], is_quick: bool) -> list[int]:
-    """Runs each part in a fork of this process, and returns how many tests of all passed, failed and were left out.
-    Where a process ends before its tests they failed."""
-    waiting, counts = [*parts], [0, 0, 0]
+def judged_apart(parts: Iterable[unittest.TestSuite], is_quick: bool) -> tuple[int, list[str], int]:
+    """Runs each part in a fork of this process, and returns how many tests passed, the names of those that failed,
+    and how many were left out. Where a process ends before its tests they failed."""
+    waiting = [*parts]
+    all_passed, all_failed, all_left_out = 0, list[str](), 0
     gc.freeze()
-    running: dict[int, tuple[int, IO[str]]] = {}
+    running: dict[int, tuple[unittest.TestSuite, IO[str]]] = {}
     while waiting or running:
         if waiting and len(running) < MOST_AT_ONCE:
             part, said = waiting.pop(), tempfile.TemporaryFile("w+", errors="replace")
-            running[begun(part, is_quick, said)] = part.countTestCases(), said
+            running[begun(part, is_quick, said)] = part, said
             continue
         process, status = os.wait()
-        count, said = running.pop(process)
+        part, said = running.pop(process)
         with said:
             said.seek(0)
             *lines, last = said.read().rstrip("\n").split("\n")
-        of_part = map(int, last.split()) if status == 0 else (0, count, 0)
-        counts = [sum(pair) for pair in zip(counts, of_part)]
-        print(*lines, *[last] * (status != 0), sep="\n", file=sys.stderr)
-    return counts
+        has_ended_early = status != 0
+        if has_ended_early:
+            all_failed += [test.id() for test in tests_in(part)]
+        else:
+            passed, left_out, *failed = last.split()
+            all_passed, all_left_out = all_passed + int(passed), all_left_out + int(left_out)
+            all_failed += failed
+        print(*lines, *[last] * has_ended_early, sep="\n", file=sys.stderr)
+    return all_passed, all_failed, all_left_out
+
+
+def unsteady_of(tests: unittest.TestSuite, failed: Sequence[str], is_quick: bool) -> list[str]:
+    """Runs each test that failed once more, by itself, if they are few. Returns the names of those that pass then."""
+    if len(failed) > MOST_AGAIN:
+        return []
+    parts = [unittest.TestSuite([test]) for test in tests_in(tests) if test.id() in failed]
+    return [test.id() for part in parts for test in tests_in(part) if judged_apart([part], is_quick)[0]]
 
 
 class Shown(unittest.TestCase):
@@ -177,7 +200,8 @@ def sees_wrong_tests() -> bool:
     """Whether of the tests that are shown just the right one passes, with --quick too."""
     names = [name for name, member in vars(Shown).items() if callable(member) and not name.startswith("__")]
     found = [judged(unittest.TestSuite(map(Shown, names)), is_quick, io.StringIO()) for is_quick in (False, True)]
-    return len(names) == 8 and found == [(1, 7, 0)] * 2
+    are_right = [passed == 1 and len(failed) == 7 and not left_out for passed, failed, left_out in found]
+    return len(names) == 8 and all(are_right)
 
 
 def main() -> int:
@@ -202,9 +226,12 @@ def main() -> int:
     getattr(sys.modules.get("support"), "prepare", int)()
     signal.setitimer(signal.ITIMER_REAL, 0)
     passed, failed, left_out = judged_apart(parts_of(tests), given.quick)
-    failed = failed or int(not passed)
-    print(f"{passed} passed, {failed} failed{f', {left_out} left out' * bool(left_out)}", file=sys.stderr)
-    return 1 if failed else 0
+    unsteady = unsteady_of(tests, failed, given.quick)
+    print(*(f"{sources.UNSTEADY}{name}" for name in unsteady), sep="\n", end="\n" * bool(unsteady), file=sys.stderr)
+    passed += len(unsteady)
+    count = len(failed) - len(unsteady) if passed else 1
+    print(f"{passed} passed, {count} failed{f', {left_out} left out' * bool(left_out)}", file=sys.stderr)
+    return 1 if count else 0
 
 
 if __name__ == "__main__":

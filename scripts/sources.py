@@ -13,6 +13,8 @@ from typing import Any, Iterable, Sequence
 # Debian's Python, which has the modules that the tools need, whatever is first on the path.
 PYTHON = "/usr/bin/python3"
 TOP = os.path.dirname(os.path.dirname(os.path.abspath(__file__)))
+# How the line begins that names a test which passes only by itself.
+UNSTEADY = "unsteady: "
 
 
 def run(command: Sequence[str], folder: str | None = None, **more: str) -> tuple[int, str]:
@@ -93,10 +95,20 @@ def ended(faults: Iterable[str], last: str, cases: Iterable[tuple[str, bool]] = 
 
 def sum_of(parts: Iterable[bytes | str]) -> str:
     """A checksum of what a step looked at. Its last line has it, and so has the file of counts: others are seen."""
+    return whole_sum_of(parts)[:8]
+
+
+def whole_sum_of(parts: Iterable[bytes | str]) -> str:
+    """The whole of such a checksum, by which verdicts are kept."""
     total = hashlib.sha256()
     for part in parts:
         total.update((part.encode() if isinstance(part, str) else part) + b"\0")
-    return total.hexdigest()[:8]
+    return total.hexdigest()
+
+
+def cached(*names: str) -> str:
+    """A path in the user's cache folder, which each copy of the repository has."""
+    return os.path.join(os.environ.get("XDG_CACHE_HOME") or os.path.expanduser("~/.cache"), "labels", *names)
 
 
 def read(path: str) -> str:
@@ -108,6 +120,12 @@ def write(path: str, text: str) -> None:
     os.makedirs(os.path.dirname(path), exist_ok=True)
     with open(path, "w", encoding="utf-8") as file:
         file.write(text)
+
+
+def write_at_once(path: str, text: str) -> None:
+    """Writes a file that is there as a whole or not at all: another process may read it."""
+    write(f"{path}.{os.getpid()}", text)
+    os.replace(f"{path}.{os.getpid()}", path)
 
 
 def files_below(folder: str, ending: str | tuple[str, ...]) -> list[str]:

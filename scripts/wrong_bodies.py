@@ -15,8 +15,9 @@ another. It is a check of a crate above these, which are passed to it as source 
 With --beside a run of `rt ci` is on its way: crates are tried once that says that those below them are proved, over
 its libraries, which are linked to at once, since at its end it puts back those of an earlier session.
 
-The verdicts of a crate are kept in out/wrong-bodies, and hold as long as nothing changes that decides them: the files
-of the crate and of those below it, its bodies, the kit, these scripts. Verdicts with a fault are not kept.
+The verdicts of a crate are kept in the user's cache folder, labels/wrong-bodies, by a sum of all that decides them:
+the files of the crate and of those below it, its bodies, the kit, these scripts. So another copy of the repository has
+them too. Verdicts with a fault are not kept. --from-nothing reads none.
 
 The status is 0 where each wrong body is refused, 1 where one is not or there is none, and 2 where an argument names no
 crate or there is no kit. For each crate a line says how many bodies were refused and accepted. The last line is `N
@@ -222,30 +223,31 @@ def sum_of(crate: Any) -> str:
     return hashlib.sha256(repr((crate.stamp(), texts)).encode()).hexdigest()
 
 
-def path_of(name: str) -> str:
-    """The file that has the verdicts of a crate."""
-    return f"{sources.TOP}/out/wrong-bodies/{name}"
+def path_of(name: str, total: str) -> str:
+    """The file that has the verdicts of a crate by this sum."""
+    return sources.cached("wrong-bodies", f"{name}-{total}")
 
 
 def read_kept(name: str, total: str) -> Tried | None:
-    """Returns the verdicts of a crate that are kept with this sum, or None."""
-    kept = sources.read(path_of(name)).split() if os.path.isfile(path_of(name)) else []
-    if kept[:1] != [total]:
+    """Returns the verdicts of a crate that are kept by this sum, or None."""
+    path = path_of(name, total)
+    if not os.path.isfile(path):
         return None
-    print(f"{name}: as in the last run", flush=True)
-    return Tried(name, kept[2:], int(kept[1]))
+    print(f"{name}: as it was judged before", flush=True)
+    accepted, *refused = sources.read(path).split()
+    return Tried(name, refused, int(accepted))
 
 
-def tried_once(rtlib: Any, crates: Sequence[Any]) -> list[Tried]:
+def tried_once(rtlib: Any, crates: Sequence[Any], from_nothing: bool) -> list[Tried]:
     """Returns what comes of the bodies of crates of which none uses another, as it is kept where nothing has
     changed."""
     sums = {crate.name: sum_of(crate) for crate in crates}
-    kept = {name: read_kept(name, total) for name, total in sums.items()}
+    kept = {name: None if from_nothing else read_kept(name, total) for name, total in sums.items()}
     results = try_all(rtlib, [crate for crate in crates if not kept[crate.name]])
     for tried in results:
         if not tried.lines:
-            counts = [str(tried.accepted), *tried.refused]
-            sources.write(path_of(tried.crate), " ".join([sums[tried.crate], *counts]))
+            path = path_of(tried.crate, sums[tried.crate])
+            sources.write_at_once(path, " ".join([str(tried.accepted), *tried.refused]))
     return [*filter(None, kept.values()), *results]
 
 
@@ -268,6 +270,7 @@ def arguments() -> argparse.Namespace:
     parser.add_argument("--built", action="store_true", help=built)
     beside = "take each library once `rt ci`, which writes this file, has built it"
     parser.add_argument("--beside", metavar="FILE", help=beside)
+    parser.add_argument("--from-nothing", action="store_true", help="try each body, whatever verdicts are kept")
     given = parser.parse_args()
     unknown = [name for name in given.crates if name not in known]
     if unknown:
@@ -324,10 +327,10 @@ def at_once(is_beside: bool) -> int:
     return max(1, min(processors, room // OF_A_CHECK))
 
 
-def try_each(rtlib: Any, groups: Iterable[Sequence[Any]], is_beside: bool = False) -> list[Tried]:
+def try_each(rtlib: Any, groups: Iterable[Sequence[Any]], given: argparse.Namespace) -> list[Tried]:
     """Tries groups of crates as they come, some at a time."""
-    with concurrent.futures.ThreadPoolExecutor(at_once(is_beside)) as pool:
-        begun = [pool.submit(tried_once, rtlib, group) for group in groups]
+    with concurrent.futures.ThreadPoolExecutor(at_once(bool(given.beside))) as pool:
+        begun = [pool.submit(tried_once, rtlib, group, given.from_nothing) for group in groups]
         return [tried for future in begun for tried in future.result()]
 
 
@@ -354,9 +357,9 @@ def main() -> int:
     if given.beside:
         os.nice(5)  # `rt ci` waits for nothing
         with tempfile.TemporaryDirectory(prefix="wrong-bodies-libraries-") as room:
-            return judged(try_each(rtlib, each_once_built(groups, given.beside, room), is_beside=True))
+            return judged(try_each(rtlib, each_once_built(groups, given.beside, room), given))
     below = dict.fromkeys(dep for group in groups for crate in group for dep in crate.below())
-    return 1 if libraries.build([*below], given.built) else judged(try_each(rtlib, groups))
+    return 1 if libraries.build([*below], given.built) else judged(try_each(rtlib, groups, given))
 
 
 if __name__ == "__main__":

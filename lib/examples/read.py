@@ -1,16 +1,15 @@
-"""Prints what the symbol of each PBM file says: read.py FILE.. The status is 1 where one is not read."""
+"""Prints what the symbol of each PBM or PNG file says: read.py FILE.. The status is 1 if one is not read."""
 
 import sys
-from pathlib import Path
 
 import liblabels
 
 status = 0
 for name in sys.argv[1:]:
-    reading = liblabels.read(Path(name).read_bytes())
+    reading = liblabels.read(name)
     if reading is None:
         print(f"{name} is not read", file=sys.stderr)
         status = 1
     else:
-        print(reading.data.decode())
+        print(reading.text)
 sys.exit(status)

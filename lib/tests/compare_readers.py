@@ -156,13 +156,12 @@ def drawn(call: Call) -> Dots:
         call.symbology, call.data, height=height, level=level, min_version=min_version, mask=mask
     )
     kind, _, is_uri = call.form.partition(" ")
-    options = {"scale": call.scale} if kind == "png" else {"module": call.scale}
     file = io.BytesIO()
     if is_uri:
-        uri = symbol.data_uri(kind, digits=call.has_digits, **options)
+        uri = symbol.data_uri(kind, digits=call.has_digits, scale=call.scale)
         file.write(base64.b64decode(uri.partition(",")[2], validate=True))
     else:
-        symbol.save(file, kind, digits=call.has_digits, **options)
+        symbol.save(file, kind, digits=call.has_digits, scale=call.scale)
     return of_file(file.getvalue()) if kind == "png" else of_svg(file.getvalue())
 
 

@@ -57,7 +57,7 @@ WRONG = (
         ),
     ),
     ("a stack that can be executed", (("Makefile", "noexecstack", "execstack"),)),
-    ("not of every amd64 processor", (("labels.c", LAST, LAST + '\n__asm__(".text\\ntzcnt %rax, %rax\\n");'),)),
+    ("not of every amd64 processor", (("labels.c", LAST, LAST + '\n__asm__(".text\\npopcnt %rax, %rax\\n");'),)),
 )
 # Instructions that came with SSE3 and later, and with x86-64-v2 and -v3, one of each kind.
 NEWER = (

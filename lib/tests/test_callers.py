@@ -18,7 +18,7 @@ for data in ("abc", bytearray(b"abc"), memoryview(b"abc"), memoryview(b"a-b-c")[
     assert liblabels.bitmap("qr", data).bits == wanted.packed(quiet_zones=True), data
     assert liblabels.draw("qr", data) == liblabels.draw("qr", b"abc"), data
 assert liblabels.line(r"qr \\x41", escapes=2**32) == liblabels.symbol("qr", "A")
-for wrong in (None, 3, ["a"]):
+for wrong in (3, ["a"], {"a": 1}):
     try:
         liblabels.symbol("qr", wrong)
     except TypeError:
@@ -33,8 +33,8 @@ for wrong, said in (
     (numpy.int64(36000291452), "not int64: pandas reads a table without losing digits with dtype=str"),
     (4006381333931.0, "not float: pandas reads a table without losing digits with dtype=str"),
     (numpy.float64(73513537), "not float64: pandas reads a table without losing digits with dtype=str"),
-    (float("nan"), "not nan, an empty cell in pandas: skip such rows, and read the table with dtype=str"),
-    (None, "not NoneType"),
+    (True, "not bool: pandas reads a table without losing digits with dtype=str"),
+    (["73513537"], "not list"),
 ):
     try:
         liblabels.symbol("ean13", wrong)
@@ -60,6 +60,78 @@ for call, *given in (
     assert notes_of(call, *given) == CURE, given
 for data in ("40063813339x", "4006381333931.50", "banan"):
     assert notes_of(liblabels.symbol, "ean13", data) == [], data
+"""
+# What an empty cell is in pandas, in its nullable columns, in numpy and in openpyxl.
+EMPTY_CELLS = """
+import liblabels, numpy
+class NAType:
+    pass
+for empty in (float("nan"), numpy.float64("nan"), None, NAType()):
+    for call in (liblabels.symbol, liblabels.bitmap, liblabels.draw):
+        for symbology in liblabels.SYMBOLOGIES:
+            try:
+                call(symbology, empty)
+            except liblabels.Refused as why:
+                assert (why.code, str(why)) == (4, "no data"), why
+            else:
+                raise AssertionError(empty)
+    assert liblabels.line(empty) is None
+"""
+# Numbers in groups, as on the back of a book (ISO 2108) and below bars; other hyphens and spaces are refused.
+GROUPS = """
+import liblabels
+for symbology, data, digits in (
+    ("ean13", "978-0-306-40615-7", "9780306406157"),
+    ("ean13", "979-10-90636-07-1", "9791090636071"),
+    ("ean13", "978 0 306 40615 7", "9780306406157"),
+    ("ean13", "4 006381 333931", "4006381333931"),
+    ("ean8", "7351 3537", "73513537"),
+    ("upca", "0 36000 29145 2", "036000291452"),
+):
+    assert liblabels.symbol(symbology, data).data == digits.encode(), data
+    assert liblabels.bitmap(symbology, data.encode()) == liblabels.bitmap(symbology, digits), data
+    assert liblabels.draw(symbology, bytearray(data.encode())) == liblabels.draw(symbology, digits), data
+for symbology, data, said in (
+    ("ean13", "978-0-306-40615-8", "check digit is 8, should be 7"),
+    ("ean13", "978-0-306-4061x-7", "not a digit at byte 4"),
+    ("ean13", "4006381-333931", "not a digit at byte 8"),
+    ("ean13", "400638133393 1", "not a digit at byte 13"),
+    ("ean13", "978--0-306-40615-7", "not a digit at byte 4"),
+    ("ean8", "7351353 7", "not a digit at byte 8"),
+    ("ean8", "978-0-306-40615-7", "wrong number of digits: 13"),
+):
+    try:
+        liblabels.symbol(symbology, data)
+    except liblabels.Refused as why:
+        assert str(why) == said, why
+    else:
+        raise AssertionError(data)
+for symbology in ("code128", "qr"):
+    assert liblabels.symbol(symbology, "978-0-306-40615-7").data == b"978-0-306-40615-7"
+try:
+    liblabels.line("ean13 978-0-306-40615-7")
+except liblabels.Refused as why:
+    assert str(why) == "not a digit at byte 4", why
+else:
+    raise AssertionError
+"""
+# What a symbol and a reading say as text.
+TEXTS = """
+import liblabels
+for symbology, data, text in (
+    ("ean13", "400638133393", "4006381333931"),
+    ("code128", b"LOT-1/x", "LOT-1/x"),
+    ("qr", "gr\u00fcn".encode(), "gr\u00fcn"),
+):
+    assert liblabels.symbol(symbology, data).text == text
+    assert liblabels.read(liblabels.draw(symbology, data)).text == text
+symbol = liblabels.symbol("qr", b"\\xff")
+for wrong in (symbol, liblabels.read(symbol.png())):
+    try:
+        wrong.text
+    except UnicodeDecodeError:
+        continue
+    raise AssertionError(wrong)
 """
 PICKLED = """
 import liblabels, pickle
@@ -129,8 +201,24 @@ class Callers(WithLibrary):
             self.assert_fails(*self.with_module(module), "-c", BYTES)
 
     def test_numbers_of_pandas(self) -> None:
-        """A message names what keeps the digits: of a number, an empty cell, and of their texts."""
+        """A message names what keeps the digits: of a number, and of the text of one and of an empty cell."""
         self.run_ok(PYTHON, "-c", FROM_PANDAS)
+
+    def test_empty_cells(self) -> None:
+        """One `except` is enough for the rows of a table: an empty cell has no data."""
+        self.run_ok(PYTHON, "-c", EMPTY_CELLS)
+
+    def test_digits_in_groups(self) -> None:
+        self.run_ok(PYTHON, "-c", GROUPS)
+        for right, wrong in (
+            ("symbology in _OF_DIGITS and not", "not"),
+            ("(?:[- ]?\\d){10}", "[- \\d]+"),
+        ):
+            module = self.library.changed(("python/liblabels/_binding.py", right, wrong)) / "python"
+            self.assert_fails(*self.with_module(module), "-c", GROUPS)
+
+    def test_texts(self) -> None:
+        self.run_ok(PYTHON, "-c", TEXTS)
 
     def test_first_room(self) -> None:
         self.run_ok(PYTHON, "-c", ROOMS)

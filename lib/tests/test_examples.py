@@ -1,5 +1,7 @@
-"""The examples of docs/LIBRARY.md: programs in six languages, whose pictures zbar reads, and clients over a pipe."""
+"""The examples of docs/PYTHON.md, LIBRARY.md and PIPE.md: programs in six languages, whose pictures zbar reads, the
+options and errors of Python, and clients over a pipe."""
 
+import json
 import os
 import re
 import select
@@ -15,8 +17,41 @@ STRICT = ("-O2", "-Wall", "-Wextra", "-pedantic", "-Werror")
 LABEL = b"ean13 4006381333931\n"
 URL = "https://debian.org"
 LINE_OF_URL = f"qr,level=Q {URL}"
+# The examples of the page in Python: each option is one of the calls, and none is left out; each error is that.
+OPTIONS_OF_PAGE = """
+import inspect, json, liblabels, sys
+symbol = liblabels.symbol("ean13", "400638133393")
+named = {}
+for kind, name, code in json.load(sys.stdin):
+    assert f"{name}=" in code, code
+    eval(code)
+    named.setdefault(kind, set()).add(name)
+def options_of(*calls):
+    return {name for call in calls for name in inspect.signature(call).parameters} - {"text", "options"}
+of_code = options_of(liblabels.line, liblabels.draw_line, liblabels.bitmap_line) - {"scale"}
+of_picture = options_of(symbol.png, symbol.svg, symbol.image, symbol.show)
+assert named == {"code": of_code, "picture": of_picture}, named
+"""
+ERRORS_OF_PAGE = """
+import json, liblabels, sys
+symbol = liblabels.symbol("ean13", "400638133393")
+for code, said in json.load(sys.stdin):
+    try:
+        eval(code)
+    except Exception as why:
+        assert f"{type(why).__name__}: {why}" == said, why
+    else:
+        raise AssertionError(code)
+"""
 LINES = 10_000
 SECONDS = 300  # that an answer may take on a busy machine
+
+
+def rows_of_page(heading: str) -> list[list[str]]:
+    """The code in each cell of the table in docs/PYTHON.md that has this heading, row by row."""
+    page = (LIB.parent / "docs/PYTHON.md").read_text(encoding="utf-8")
+    rows = page.partition(f"{heading}\n|---")[2].partition("\n\n")[0].splitlines()[1:]
+    return [[cell.strip(" `") for cell in row.strip("|").split(" | ")] for row in rows]
 
 
 def drawn(lines: bytes, *words: str) -> bytes:
@@ -72,6 +107,41 @@ class Examples(WithLibrary):
         comments = re.findall("# (.*)", (EXAMPLES / "draw.py").read_text(encoding="utf-8"))
         self.assertEqual(said, [comment.partition(": ")[0] for comment in comments])
         self.assert_reads((folder / "code.png").read_bytes(), "4006381333931")
+
+    def test_python_table(self) -> None:
+        """A picture for each number that has a code; the other rows are named, and the status is 1."""
+        folder = Path(tempfile.mkdtemp(dir=self.library.folder))
+        rows = "EAN,Name\n4006381333931,Pencil\n4006381333932,Soap\n,Gum\n978-0-306-40615-7,Book\n"
+        (folder / "table.csv").write_text(rows, encoding="utf-8-sig")
+        command = ("env", "-C", folder, PYTHON, EXAMPLES / "table.py", "table.csv", "EAN")
+        done = run(*command, environment=self.library.environment)
+        self.assertEqual(done.stderr.decode(), "row 2: check digit is 2, should be 1\nrow 3: no data\n")
+        self.assertEqual(done.returncode, 1)
+        self.assertEqual(sorted(path.stem for path in folder.glob("*.png")), ["4006381333931", "9780306406157"])
+        self.assert_reads((folder / "4006381333931.png").read_bytes(), "4006381333931")
+
+    def test_python_options(self) -> None:
+        tables = [
+            ("code", rows_of_page("| Option | What it is | Example |")),
+            ("picture", rows_of_page("| Option of a picture | What it is | Example |")),
+        ]
+        given = [(kind, name, code) for kind, rows in tables for name, _, code in rows]
+        self.run_ok(PYTHON, "-c", OPTIONS_OF_PAGE, given=json.dumps(given).encode())
+        for other in (given[1:], [("code", "level", "liblabels.symbol('qr', 'x', level='X')"), *given]):
+            done = run(
+                PYTHON, "-c", OPTIONS_OF_PAGE, given=json.dumps(other).encode(), environment=self.library.environment
+            )
+            self.assertNotEqual(done.returncode, 0)
+
+    def test_python_errors(self) -> None:
+        errors = rows_of_page("| What raises it | Error |")
+        self.run_ok(PYTHON, "-c", ERRORS_OF_PAGE, given=json.dumps(errors).encode())
+        wrong = [[code, said + "."] for code, said in errors]
+        self.assertGreater(len(wrong), 10)
+        done = run(
+            PYTHON, "-c", ERRORS_OF_PAGE, given=json.dumps(wrong).encode(), environment=self.library.environment
+        )
+        self.assertNotEqual(done.returncode, 0)
 
     def test_python_reads(self) -> None:
         """A file is read as its data; one with a dark dot too many is named, and the files after it are read."""

@@ -24,7 +24,8 @@ from PIL import Image
 symbol = liblabels.line("qr,level=Q https://example.com/article/000123")
 array = numpy.asarray(symbol)
 assert (array == numpy.frombuffer(symbol.modules, bool).reshape(symbol.rows, symbol.width)).all()
-assert array.dtype == bool and numpy.asarray(liblabels.symbol("ean8", "7351353")).shape == (1, 67)
+assert array.dtype == bool
+assert numpy.asarray(liblabels.symbol("ean8", "7351353")).shape == (1, 67)
 image = Image.frombytes("1", (symbol.width, symbol.rows), symbol.packed(), "raw", "1;I")
 bitmap = liblabels.bitmap_line("qr,level=Q https://example.com/article/000123")
 framed = Image.frombytes("1", (bitmap.width, bitmap.height), bitmap.bits, "raw", "1;I")
@@ -38,7 +39,7 @@ SAVED = """
 import base64, io, liblabels, pathlib
 symbol = liblabels.symbol("qr", "gr\u00fcn", level="H")
 symbol.save("code.png", scale=3, dpi=300)
-symbol.save(pathlib.Path("code.SVG"), module=0.5, unit="mm")
+symbol.save(pathlib.Path("code.SVG"), scale=0.5, unit="mm")
 assert pathlib.Path("code.png").read_bytes() == symbol.png(3, 300)
 assert pathlib.Path("code.SVG").read_text() == symbol.svg(0.5, "mm")
 for name in ("code", "code.jpg", "png"):
@@ -52,7 +53,7 @@ def into(file, kind=None, **options):
     symbol.save(file, kind, **options)
     return file.getvalue()
 assert into(io.BytesIO(), "png", scale=3) == symbol.png(3)
-assert into(io.BytesIO(), "SVG", module=2).decode() == into(io.StringIO(), "svg", module=2) == symbol.svg(2)
+assert into(io.BytesIO(), "SVG", scale=2).decode() == into(io.StringIO(), "svg", scale=2) == symbol.svg(2)
 with open("named.png", "wb") as file:
     symbol.save(file)
 symbol.save("as-svg.png", kind="svg")
@@ -79,6 +80,7 @@ for kind, head, picture in (
     options = {"scale": 5} if kind == "png" else {"light": "white"}
     uri = symbol.data_uri(kind, **options)
     assert uri.startswith(head) and base64.b64decode(uri.removeprefix(head), validate=True) == picture
+assert symbol.data_uri() == symbol.data_uri("svg")
 """
 # The module as a program.
 PROGRAM_OF_MODULE = """
@@ -95,14 +97,15 @@ symbol = liblabels.symbol("qr", "gr\u00fcn", level="H")
 for words, picture in (
     ("--level H --scale 3 --dpi 300", symbol.png(3, 300)),
     ("--level H", symbol.png(4)),
-    ("--level H --scale 30", symbol.png(30)),
-    ("--level H --svg", symbol.svg().encode()),
+    ("--level h --scale 30", symbol.png(30)),
+    ("--level H --svg", symbol.svg(4).encode()),
+    ("--level H --svg --scale 7", symbol.svg(7).encode()),
 ):
     done = program("qr", "gr\u00fcn", *words.split())
     assert (done.returncode, done.stdout, done.stderr) == (0, picture, b""), done
 number = liblabels.symbol("ean8", "7351353", height=9)
 assert program("ean8", "7351353", "--height", "9").stdout == number.png(4)
-assert program("ean8", "7351353", *"--height 9 --svg --digits".split()).stdout == number.svg(digits=True).encode()
+assert program("ean8", "7351353", *"--height 9 --svg --digits".split()).stdout == number.svg(4, digits=True).encode()
 assert program("ean8", "7351353", *"--height 9 --digits".split()).stdout == number.png(4, digits=True)
 for words, status, said in (
     ("ean13 4006381333930", 1, b"4006381333930: check digit is 0, should be 1"),
@@ -151,10 +154,10 @@ for name, words, given in (("file", "numbers", None), ("pipe", "-", pathlib.Path
     files = sorted(str(file) for file in pathlib.Path(".").glob(f"{name}-*.svg"))
     assert files == [f"{name}-{number}.svg" for number in ("001", "004", "005")], files
     number = liblabels.symbol("ean13", "4006381333931")
-    assert {pathlib.Path(file).read_text() for file in files} == {number.svg()}
+    assert {pathlib.Path(file).read_text() for file in files} == {number.svg(4)}
 done = program("ean13", "--digits", "-o", "%s.svg", "-i", "numbers")
 assert not pathlib.Path("400638133393.svg").exists()
-assert pathlib.Path("4006381333931.svg").read_text() == number.svg(digits=True)
+assert pathlib.Path("4006381333931.svg").read_text() == number.svg(4, digits=True)
 """
 )
 WRONG_OPTIONS = """
@@ -198,6 +201,7 @@ for number, (name, data) in enumerate(DATA.items()):
     assert LIBRARY.labels_symbology_named(name.encode()) == number
 for number, name in enumerate(liblabels.LEVELS):
     assert liblabels.line(f"qr,level={name} A").level == name
+    assert {liblabels.symbol("qr", "A", level=told).level for told in (name, name.lower())} == {name}
     assert LIBRARY.labels_level_name(number) == name.encode()
     assert LIBRARY.labels_level_named(name.encode()) == number
 for name, digits in (("ean13", 13), ("ean8", 8), ("upca", 12), ("code128", 0), ("qr", 0)):

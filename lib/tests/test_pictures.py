@@ -1,6 +1,9 @@
 """SVG and PNG of a symbol: each dot is that of the proved picture, zbar and zxing-cpp read the data, and digits."""
 
+import os
+import tempfile
 import unittest
+from pathlib import Path
 
 from support import PYTHON, WithLibrary
 
@@ -41,14 +44,14 @@ for line in LINES:
         area[y : y + high, x : x + wide] = True
     rows = numpy.frombuffer(symbol.modules, bool).reshape(symbol.rows, symbol.width)
     assert (area == numpy.repeat(rows, symbol.height // symbol.rows, 0)).all()
-for wrong in ({"scale": 101}, {"scale": 0}, {"dpi": 0}, {"dpi": float("nan")}):
+for wrong in ({"scale": 101}, {"scale": 0}, {"dpi": 0}, {"dpi": float("nan")}, {"border": -1}):
     try:
         symbol.png(**wrong)
     except ValueError as why:
         assert next(iter(wrong)) in str(why), why
     else:
         raise AssertionError(wrong)
-for wrong in ({"unit": "furlong"}, {"module": 0}, {"module": float("nan")}):
+for wrong in ({"unit": "furlong"}, {"scale": 0}, {"scale": float("nan")}, {"border": 101}):
     try:
         symbol.svg(**wrong)
     except ValueError as why:
@@ -139,12 +142,173 @@ long = liblabels.symbol("code128", "0123456789" * 8)
 root, lines = text_of(long)
 assert [text for _, _, text in lines] == ["0123456789" * 4] * 2 and [foot for _, foot, _ in lines] == [59, 69]
 assert root.get("height") == "70"
-try:
-    long.svg(quiet_zones=False, digits=True)
-except ValueError as why:
-    assert "quiet_zones" in str(why)
-else:
-    raise AssertionError
+for call in (long.svg, long.png, long.image):
+    try:
+        call(digits=True, border=20)
+    except ValueError as why:
+        assert str(why) == "digits are in the quiet zones: leave out border"
+    else:
+        raise AssertionError
+"""
+)
+# With a border the modules of a symbol are as they are, and light modules are around them: in PNG, in an image, and in
+# SVG as rsvg-convert draws it.
+BORDERS = (
+    LINES
+    + """
+import io, liblabels, numpy, subprocess
+from PIL import Image
+def dark_of(png):
+    return ~numpy.array(Image.open(io.BytesIO(png)).convert("1"))
+for line in LINES:
+    symbol = liblabels.line(line)
+    modules = numpy.asarray(symbol)
+    drawn = numpy.repeat(modules, symbol.height // symbol.rows, 0)
+    for border in (0, 3, numpy.int64(100)):
+        wanted = numpy.pad(drawn, int(border))
+        svg = symbol.svg(border=border, light="white").encode()
+        by_rsvg = subprocess.run(["rsvg-convert"], input=svg, capture_output=True, check=True).stdout
+        assert numpy.array_equal(dark_of(by_rsvg), wanted), (line, border)
+        for scale in (1, 5, 9):
+            large = numpy.kron(wanted, numpy.ones((scale, scale), bool))
+            assert numpy.array_equal(dark_of(symbol.png(scale, border=border)), large), (line, border, scale)
+            assert numpy.array_equal(~numpy.array(symbol.image(scale, border=border)), large), (line, border, scale)
+"""
+)
+# The dots of a picture in colours are those of the black and white one, in PNG, in an image and in SVG as rsvg-convert
+# draws it; without a light colour they are transparent where they are light.
+COLOURS = (
+    LINES
+    + """
+import io, liblabels, numpy, subprocess
+from PIL import Image
+COLOURED = {"dark": "#1A2b3c", "light": "#fec"}
+DARK, LIGHT, BLACK = (26, 43, 60, 255), (255, 238, 204, 255), (0, 0, 0, 255)
+def dots_of(png):
+    return numpy.array(Image.open(io.BytesIO(png)).convert("RGBA"))
+def by_rsvg(svg):
+    return dots_of(subprocess.run(["rsvg-convert"], input=svg.encode(), capture_output=True, check=True).stdout)
+for line, (_, data) in LINES.items():
+    symbol = liblabels.line(line)
+    for digits in {False, symbol.symbology != "qr"}:
+        is_light = numpy.array(symbol.image(3, digits))
+        coloured = symbol.png(3, digits=digits, **COLOURED)
+        pictures = [dots_of(coloured), numpy.array(symbol.image(3, digits, **COLOURED).convert("RGBA"))]
+        pictures += [] if digits else [by_rsvg(symbol.svg(3, **COLOURED))]
+        for picture in pictures:
+            assert (picture[is_light] == LIGHT).all() and (picture[~is_light] == DARK).all(), line
+        clear = dots_of(symbol.png(3, digits=digits, light=None))
+        assert not clear[is_light][:, 3].any() and (clear[~is_light] == BLACK).all(), line
+        assert liblabels.read(coloured).text == liblabels.read(symbol.png(light=None)).text == data, line
+digits_of_svg = by_rsvg(liblabels.symbol("ean8", "7351353").svg(4, digits=True, **COLOURED))[230:]
+assert (digits_of_svg == DARK).all(2).any() and not (digits_of_svg == BLACK).all(2).any()
+for wrong in ({"dark": "red"}, {"light": "#12"}, {"dark": "#12345g"}, {"light": ""}):
+    try:
+        symbol.png(**wrong)
+    except ValueError as why:
+        ((name, colour),) = wrong.items()
+        assert str(why) == f"{name} is {colour!r}: PNG takes black, white, and colours such as #1a2b3c", why
+    else:
+        raise AssertionError(wrong)
+"""
+)
+# How many dots are nearest to a module of a length, by hand, and that the file says of them what they were made for.
+LENGTHS = """
+import io, liblabels
+from PIL import Image
+symbol = liblabels.symbol("ean13", "400638133393")
+for scale, unit, dpi, dots in (
+    (0.33, "mm", 300, 4),
+    (0.33, "mm", 203, 3),
+    (0.25, "mm", 203, 2),
+    (0.033, "cm", 600, 8),
+    (0.01, "in", 300, 3),
+    (2, "pt", 144, 4),
+    (0.043, "mm", 300, 1),
+    (8.5, "mm", 300, 100),
+    (4, "px", 300, 4),
+):
+    picture = symbol.png(scale, unit=unit, dpi=dpi)
+    assert picture == symbol.png(dots, dpi=dpi), (scale, unit, dpi)
+    image = Image.open(io.BytesIO(picture))
+    assert image.width == 113 * dots and round(image.info["dpi"][0]) == round(image.info["dpi"][1]) == dpi
+    assert symbol.image(scale, unit=unit, dpi=dpi).size == image.size
+for wrong, said in (
+    ({"unit": "mm"}, "a scale in mm needs dpi: how many dots of an inch the picture is printed with"),
+    ({"unit": "furlong", "dpi": 300}, "unknown unit 'furlong': one of px, mm, cm, in, pt, or none"),
+    ({"unit": "mm", "dpi": 300, "scale": 0.04}, "scale is 0.04 mm, which is 0.472441 dots, and has to be 1 to 100"),
+    ({"unit": "in", "dpi": 300, "scale": 0.4}, "scale is 0.4 in, which is 120 dots, and has to be 1 to 100"),
+    ({"unit": "mm", "dpi": float("nan")}, "scale is 1 mm, which is nan dots, and has to be 1 to 100"),
+):
+    try:
+        symbol.png(**wrong)
+    except ValueError as why:
+        assert str(why) == said, why
+    else:
+        raise AssertionError(wrong)
+"""
+# The image of Pillow is that of the PNG; `show` gives it to the program that shows pictures on a desktop.
+SHOWN = (
+    LINES
+    + """
+import io, liblabels, numpy, os, pathlib, time
+from PIL import Image
+for line in LINES:
+    symbol = liblabels.line(line)
+    for digits in {False, symbol.symbology != "qr"}:
+        image = symbol.image(3, digits)
+        wanted = Image.open(io.BytesIO(symbol.png(3, digits=digits)))
+        assert image.mode == "1" and numpy.array_equal(numpy.array(image), numpy.array(wanted)), line
+    assert numpy.array_equal(numpy.array(liblabels.bitmap_line(line).image()), numpy.array(symbol.image())), line
+symbol = liblabels.symbol("ean13", "400638133393")
+symbol.show(digits=True)
+shown = pathlib.Path("shown.png")
+ends = time.monotonic() + 300
+while not shown.exists() and time.monotonic() < ends:
+    time.sleep(0.05)
+assert numpy.array_equal(numpy.array(Image.open(shown)), numpy.array(symbol.image(4, digits=True)))
+"""
+)
+VIEWER = """#!/bin/sh
+cp "$1" part.png && mv part.png shown.png
+"""
+# What a terminal shows is read by zxing-cpp: each character as the dots that Unicode says it has, and light around it.
+TERMINAL = (
+    LINES
+    + """
+import contextlib, io, liblabels, numpy, zxingcpp
+from PIL import Image
+UPPER, LOWER, LEFT, RIGHT = "\u2580", "\u2584", "\u258c", "\u2590"
+DOTS = {
+    " ": ((0, 0), (0, 0)),
+    "\u2588": ((1, 1), (1, 1)),
+    UPPER: ((1, 1), (0, 0)),
+    LOWER: ((0, 0), (1, 1)),
+    LEFT: ((1, 0), (1, 0)),
+    RIGHT: ((0, 1), (0, 1)),
+}
+for line, (name, data) in LINES.items():
+    symbol = liblabels.line(line)
+    printed = io.StringIO()
+    with contextlib.redirect_stdout(printed):
+        assert symbol.terminal() is None
+    given = io.StringIO()
+    symbol.terminal(given)
+    assert given.getvalue() == printed.getvalue()
+    lines = printed.getvalue().splitlines()
+    black_on_white, plain = "\x1b[38;5;16;48;5;231m", "\x1b[0m"
+    assert all(text.startswith(black_on_white) and text.endswith(plain) for text in lines), line
+    texts = [text.removeprefix(black_on_white).removesuffix(plain) for text in lines]
+    dark = numpy.block([[numpy.array(DOTS[character], bool) for character in text] for text in texts])
+    is_qr = name == "QRCode"
+    width, height = symbol.size()
+    assert len(texts[0]) == (width if is_qr else -(-width // 2)), line
+    assert len(texts) == (-(-height // 2) if is_qr else -(-height // 4)), line
+    shape = (4, 2) if is_qr else (8, 4)  # a character is twice as high as it is wide
+    large = numpy.kron(dark, numpy.ones(shape, bool))
+    seen = Image.fromarray(numpy.where(large, 0, 255).astype(numpy.uint8))
+    found = [(read.format.name, read.text) for read in zxingcpp.read_barcodes(seen)]
+    assert found == [(name, data)], (line, found)
 """
 )
 # The same in PNG, where the module draws the digits: bars are as without, guards are longer by five modules, and each
@@ -296,7 +460,7 @@ class Pictures(WithLibrary):
         self.run_ok(PYTHON, "-c", DOTS)
         for right, wrong in (
             ("255 - byte", "byte"),
-            ("(width + 7) // 8", "(width + 8) // 8"),
+            ("(picture.width + 7) // 8", "(picture.width + 8) // 8"),
             ("yield row, first, end\n", "yield row, first, end + 1\n"),
         ):
             module = self.library.changed(("python/liblabels/_pictures.py", right, wrong)) / "python"
@@ -347,6 +511,43 @@ class Pictures(WithLibrary):
             with self.subTest(right):
                 module = self.library.changed((f"python/liblabels/{file}", right, wrong)) / "python"
                 self.assert_fails(*self.with_module(module), "-c", DRAWN_TEXT)
+
+    def test_borders(self) -> None:
+        self.run_ok(PYTHON, "-c", BORDERS)
+        module = (
+            self.library.changed(("python/liblabels/_pictures.py", "row >> right << new_right", "row << new_right"))
+            / "python"
+        )
+        self.assert_fails(*self.with_module(module), "-c", BORDERS)
+
+    def test_colours(self) -> None:
+        self.run_ok(PYTHON, "-c", COLOURS)
+        for right, wrong in (
+            ("[_OPAQUE, _CLEAR]", "[_CLEAR, _OPAQUE]"),
+            ("<path{ink} d=", "<path d="),
+            ("{font}{ink}", "{font}"),
+        ):
+            module = self.library.changed(("python/liblabels/_pictures.py", right, wrong)) / "python"
+            self.assert_fails(*self.with_module(module), "-c", COLOURS)
+
+    def test_lengths(self) -> None:
+        self.run_ok(PYTHON, "-c", LENGTHS)
+        module = self.library.changed(("python/liblabels/_pictures.py", "int(dots + 0.5)", "int(dots)")) / "python"
+        self.assert_fails(*self.with_module(module), "-c", LENGTHS)
+
+    def test_shown(self) -> None:
+        folder = Path(tempfile.mkdtemp(dir=self.library.folder))
+        viewer = folder / "xdg-open"
+        viewer.write_text(VIEWER, encoding="utf-8")
+        viewer.chmod(0o755)
+        with_viewer = ("env", "-C", folder, f"PATH={folder}:{os.environ['PATH']}")
+        self.run_ok(*with_viewer, PYTHON, "-c", SHOWN)
+
+    def test_terminal(self) -> None:
+        self.run_ok(PYTHON, "-c", TERMINAL)
+        for right, wrong in (("rows[1::2])", "rows[::2])"), ("_BARS_OF_A_LINE = 4", "_BARS_OF_A_LINE = 2")):
+            module = self.library.changed(("python/liblabels/_pictures.py", right, wrong)) / "python"
+            self.assert_fails(*self.with_module(module), "-c", TERMINAL)
 
     def test_scales(self) -> None:
         self.run_ok(PYTHON, "-c", SCALES)

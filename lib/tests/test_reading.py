@@ -53,8 +53,8 @@ for version in range(1, 11):
 assert liblabels.read("qr", liblabels.draw("qr", 652 * "7", level="L")) == 652 * b"7"
 """
 )
-# The same dots as an array of truths, as one of grey, as images, as a bitmap and as files of each kind, with a margin
-# too many, and with light and dark exchanged.
+# The same dots as truth values that are dark or light, as grey, as images, as a bitmap, and as files of each kind and
+# their names; and grey with light and dark exchanged, and dots with a margin too many, which are not read.
 IMAGES = (
     DRAWN
     + """
@@ -72,7 +72,8 @@ for ((symbology, data), full), scale in itertools.product(DRAWN.items(), (3, 8))
     picture.save(file, "ppm")
     plain = liblabels.draw(symbology, data, scale=scale, height=9)
     by_column = numpy.asfortranarray(~light)
-    arrays = (~light, grey, by_column, (~light)[::-1][::-1])
+    truths = (~light, light, light.astype(numpy.uint8), (~light).astype(numpy.uint8), numpy.asarray(picture))
+    arrays = (*truths, grey, by_column, (~light)[::-1][::-1])
     images = (picture, picture.convert("L"), picture.convert("P"), picture.convert("RGB"), Image.fromarray(grey))
     # A palette of white and black; and all black, seen through where it is light: on paper that is white.
     palette = Image.fromarray((~light).astype(numpy.uint8), "P")
@@ -87,12 +88,13 @@ for ((symbology, data), full), scale in itertools.product(DRAWN.items(), (3, 8))
     for name, dots in (("dots.png", bitmap.png()), ("dots.pbm", plain)):
         (folder / name).write_bytes(dots)
     files = (binary, file.getvalue(), plain, bytearray(plain), bitmap.png(), png.getvalue())
-    for image in (*arrays, *images, *files, bitmap, *folder.iterdir()):
+    names = (*folder.iterdir(), *map(str, folder.iterdir()))
+    for image in (*arrays, *images, *files, bitmap, *names):
         assert liblabels.read(image) == liblabels.Reading(symbology, scale, 0, full), (symbology, type(image))
         assert liblabels.read(symbology, image) == full, (symbology, type(image))
         assert liblabels.read(symbology, image, scale) == full, (symbology, type(image))
         assert liblabels.read(symbology, image, numpy.int64(scale)) == full, (symbology, type(image))
-    for image in (light, 255 - grey, numpy.pad(~light, 3), (~light)[:, 1:], (~light)[:, :0], (~light)[:0]):
+    for image in (255 - grey, numpy.pad(~light, 3), (~light)[:, 1:], (~light)[:, :0], (~light)[:0]):
         assert liblabels.read(image) is None, (symbology, type(image))
     # Turned against the clock, and read after as many turns with it. A mirror turns bars by half a turn.
     for turns in (1, 2, 3):
@@ -143,7 +145,6 @@ for error, said, symbology, image, scale in (
     (ValueError, "not bool of 1", "qr", numpy.zeros(9, bool), None),
     (ValueError, "not float64 of 2", "qr", numpy.zeros((3, 3)), None),
     (ValueError, "not uint8 of 3", "qr", numpy.zeros((3, 3, 3), numpy.uint8), None),
-    (ValueError, "0 and 1 are both dark", "qr", numpy.eye(3, dtype=numpy.uint8), None),
     (ValueError, "mode of an image is CMYK", "qr", Image.new("CMYK", (3, 3)), None),
     (ValueError, "have to be PNG, or PBM", "qr", b"P5\\n1 1\\n255\\n\\0", None),
     (ValueError, "have to be PNG, or PBM", "qr", b"", None),
@@ -154,8 +155,9 @@ for error, said, symbology, image, scale in (
     (ValueError, "as many digits 0 and 1", "qr", b"P1\\n2 2\\n011\\n", None),
     (ValueError, "as many digits 0 and 1", "qr", b"P1\\n2 2\\n0112\\n", None),
     (ValueError, "has to have 2 bytes of them, not 3", "qr", b"P4\\n2 2\\n123", None),
-    (TypeError, "not str", "qr", "P1 1 1 0", None),
-    (TypeError, "Path('x.png') names a file", "x.png", None, None),
+    (OSError, "No such file", "qr", "no such file", None),
+    (OSError, "No such file", "no such file", None, None),
+    (TypeError, "a picture has to be the name or the bytes of a file", "qr", 3, None),
 ):
     try:
         liblabels.read(symbology, image, scale)
@@ -187,7 +189,8 @@ MUTANTS = (
     (WITH_TEXT, "yield 0, 0, left, height", "pass"),
     (WITH_TEXT, "yield width - right, 0, right, height", "pass"),
     (WRONG, "digits.translate", "digits[:3].translate"),
-    (WRONG, "1 in dots and not", "1 in dots and"),
+    (IMAGES, "not dots.startswith", "dots.startswith"),
+    (IMAGES, "not dots.translate(None", "'bool' == kind and not dots.translate(None"),
 )
 
 

@@ -110,8 +110,8 @@ class Believed(InCopy):
         lines = {what: [int(number) for number in numbers] for what, *numbers in found}
         clauses = [f"the clause `{name}` of `program`" for name in ("shows", "runs")]
         program, exports = "both clauses of `program`", "the 10 exports of the C library"
-        apart = ["apart: what stands behind the names of `clap`"]
-        apart.append("apart: `main` and `arguments_of`, which have no clause")
+        apart = ["not in these numbers: what stands behind the names of `clap`"]
+        apart.append("not in these numbers: `main` and `arguments_of`, which have no clause")
         self.assertEqual([*lines], [*clauses, program, exports, *apart])
         self.assertTrue(all(row[0] == sum(row[1:]) for row in lines.values()), said)
         shows, runs = (lines[clause][0] for clause in clauses)

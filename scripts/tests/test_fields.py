@@ -82,7 +82,7 @@ class Fields(unittest.TestCase):
             self.assertLessEqual(named, {*re.findall("^clause: (.*)$", text, re.M)}, path)
 
     def test_each_law_is_there(self) -> None:
-        proofs = [*glob.glob(path_of("*/proofs/*.antt")), *glob.glob(path_of("*/src/*.rt"))]
+        proofs = [*glob.glob(path_of("*/proofs/**/*.antt"), recursive=True), *glob.glob(path_of("*/src/*.rt"))]
         texts = "\n".join(map(read, proofs))
         for law in LAWS.values():
             self.assertRegex(texts, rf"(?m)^ *pub (fn {law}\(|{law} :)", law)

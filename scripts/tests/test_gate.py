@@ -4,6 +4,7 @@ import importlib.util
 import io
 import os
 import re
+import shutil
 import signal
 import subprocess
 import sys
@@ -16,6 +17,7 @@ from unittest import mock
 from support import PYTHON, SCRIPTS, TOP, InFolder, cases_of, in_copy, module, read, run_command, write
 
 gate = module("gate")
+kept_proofs = module("kept_proofs")
 INSTALL = "apt-get install -y --no-install-recommends zint"
 CASES = cases_of(
     "test_gate",
@@ -47,6 +49,16 @@ class Three(unittest.TestCase):
     def test_three(self):
         pass
 """
+# This one fails beside others, and passes by itself.
+ONCE = """import os, unittest
+class Four(unittest.TestCase):
+    def test_once(self):
+        if not os.path.exists("again"):
+            open("again", "w").close()
+            self.fail()
+    def test_never(self):
+        self.fail()
+"""
 # This one ends its process, and with it those of its file.
 ENDS = "import os, unittest\nclass One(unittest.TestCase):\n    def test_one(self):\n        os._exit(3)\n"
 
@@ -65,6 +77,21 @@ class Ways(InFolder):
         for words, last in (("", "1 passed, 5 failed"), ("--quick", "1 passed, 3 failed, 2 left out")):
             status, said = run_command([*command, *words.split()])
             self.assertEqual((status, said.split("\n")[-2]), (1, last), said)
+
+    def test_what_passes_only_by_itself_is_named(self) -> None:
+        """And not where many fail."""
+        for name in ("run_tests.py", "sources.py"):
+            write(self.path("scripts", name), read(os.path.join(SCRIPTS, name)))
+        os.mkdir(self.path("tests"))
+        write(self.path("tests/test_once.py"), ONCE)
+        command = [PYTHON, self.path("scripts/run_tests.py"), "tests"]
+        status, said = run_command(command)
+        self.assertEqual((status, said.split("\n")[-2]), (1, "1 passed, 1 failed"), said)
+        self.assertIn("\nunsteady: test_once.Four.test_once\n", said)
+        os.remove(self.path("again"))
+        write(self.path("tests/test_two.py"), WAYS)
+        status, said = run_command(command)
+        self.assertEqual((status, said.split("\n")[-2]), (1, "1 passed, 6 failed"), said)
 
     def test_each_test_has_its_time(self) -> None:
         """And what is set up before it and after it."""
@@ -166,6 +193,8 @@ class Gate(InFolder):
 
     def command(self, steps: Iterable[str], kept: Mapping[str, str], processors: int = 2) -> list[str]:
         """The command of the gate over stand-ins on so many processors, where these lines are kept."""
+        for name in ("kept_proofs.py", "libraries.py"):
+            write(self.path("scripts", name), read(os.path.join(SCRIPTS, name)))
         write(self.path("scripts/counts.txt"), "".join(f"{step}: {kept[step]}\n" for step in kept if kept[step]))
         for name, old, new in (
             ("gate.py", "PROCESSORS = len(os.sched_getaffinity(0))", f"PROCESSORS = {processors}"),
@@ -177,13 +206,32 @@ class Gate(InFolder):
         return [PYTHON, self.path("scripts/gate.py"), *steps]
 
     def judged(self, steps: Iterable[str], kept: Mapping[str, str], processors: int = 2) -> tuple[int, str]:
-        """What the gate then says."""
+        """What the gate then says, over a stand-in of the kit and a cache folder of its own."""
+        write(self.path("bin/rtlib.py"), f"KIT = {self.path('bin')!r}\n")
+        decides = (f"bin/{name}" for name in ("KIT-ID", "WHAT"))
+        for name in (*decides, *kept_proofs.BUILT, "HANDLES", "crates.txt", "docs/PROOF.md", "Makefile"):
+            write(self.path(name), "")
         path = f"{self.path('bin')}:{os.environ['PATH']}"
-        return run_command(self.command(steps, kept, processors), PATH=path)
+        return run_command(self.command(steps, kept, processors), PATH=path, XDG_CACHE_HOME=self.path("cache"))
+
+    def test_proofs_that_are_kept(self) -> None:
+        """Proofs are taken where nothing of the crates has changed since they passed, with what they built."""
+        names = {"rt" if step == gate.PROOFS else step.split()[0] for step in gate.ALL}
+        for name in names:
+            self.step(name, "echo right\n")
+        proofs = "echo >> proofs\necho right\n"
+        self.step("rt", proofs)
+        kept = dict.fromkeys(gate.ALL, "right")
+        for words, changed, runs in CASES["kept_proofs"]:
+            write(self.path(changed), "changed")
+            with self.subTest(words=words, changed=changed):
+                self.assertEqual(self.judged([word.replace("+", " ") for word in words.split()], kept)[0], 0)
+                self.assertEqual(read(self.path("proofs")).count("\n"), runs)
 
     def test_steps(self) -> None:
         names = {"rt" if step == "rt ci" else step.split()[0] for step in gate.ALL}
         for changed, lines, status, said in CASES["runs"]:
+            shutil.rmtree(self.path("cache"), ignore_errors=True)
             for name in names:
                 ends = changed.get(name, f"{name} is right (in 2 seconds)" if name == "rt" else f"{name} is right")
                 code, line = (ends, "x") if isinstance(ends, int) else (0, ends)
@@ -192,6 +240,16 @@ class Gate(InFolder):
             with self.subTest(changed=changed, lines=lines):
                 found, printed = self.judged(["all"], kept)
                 self.assertEqual((found, [text for text in said if text not in printed]), (status, []), printed)
+
+    def test_from_nothing(self) -> None:
+        """The steps that keep verdicts are told to read none, and no others."""
+        for step in (gate.WRONG, gate.NAMED, gate.QUICK[0]):
+            name, *words = step.split()
+            self.step(name, 'echo said "$@"\n')
+            for given in (["--from-nothing"], list[str]()):
+                wanted = " ".join(["said", *words, *(given if step in gate.KEEPING else [])])
+                with self.subTest(step=step, given=given):
+                    self.assertEqual(self.judged([*given, step], {step: wanted})[0], 0)
 
     def test_wrong_bodies_beside_the_proofs(self) -> None:
         """They begin while these are on their way, with the file of what these say, and end where these fail."""

@@ -8,12 +8,13 @@ import sys
 import tempfile
 import types
 import unittest
-from typing import Any, Callable, Iterable, Iterator
+from typing import Any, Callable, Iterable, Iterator, Sequence
 from unittest import mock
 
 from support import PYTHON, SCRIPTS, TOP, InFolder, cases_of, in_copy, module, read, run_command, write
 
 compare_symbols = module("compare_symbols")
+named_tests = module("named_tests")
 read_foreign = module("read_foreign")
 edits = module("edits")
 instructions = module("instructions")
@@ -65,6 +66,7 @@ pub fn one() -> u8
 }
 """
 CASES = cases_of("test_scripts", one=ONE)
+NAMED = CASES["named"]
 OTHER = "\nfn other() -> u8 {\n    7\n}\n"
 THIRD = "\nfn third() -> u8 {\n    9\n}\n"
 LIB, WRONG, RIGHT = "src/lib.rt", "wrong-bodies/one.edit", "right-bodies/one.edit"
@@ -279,28 +281,37 @@ class Outcomes(InFolder):
             with self.subTest(text), self.assertRaises(SystemExit):
                 edits.bodies_of(self.crate({WRONG: text}).folder)
 
+    def tried(self, folder: str, said_of_two: Sequence[str], from_nothing: bool = False) -> tuple[bool, list[str]]:
+        """Whether a check tries the bodies of a crate in this copy of the repository, and says this of two; and which
+        are refused."""
+        crate = types.SimpleNamespace(name="small", folder=folder, stamp=lambda: read(f"{folder}/{LIB}"))
+        top = mock.patch.object(wrong_bodies.sources, "TOP", folder)
+        with top, contextlib.redirect_stdout(io.StringIO()):
+            with mock.patch.object(wrong_bodies, "check", side_effect=said_of_two) as check:
+                (found,) = wrong_bodies.tried_once(None, [crate], from_nothing)
+        return check.called, found.refused
+
     def test_verdicts_that_are_kept(self) -> None:
-        """They hold until something changes that decides them; those with a fault are not kept."""
-        crate = types.SimpleNamespace(name="small", folder=self.folder, stamp=lambda: read(self.path(LIB)))
-        write(self.path(LIB), ONE)
-        write(self.path(WRONG), edit("2"))
-        self.enterContext(mock.patch.object(wrong_bodies.sources, "TOP", self.folder))
+        """They hold until something changes that decides them, in another copy of the repository too; those with a
+        fault are not kept, and --from-nothing reads none."""
+        self.enterContext(mock.patch.dict(os.environ, XDG_CACHE_HOME=self.path("cache")))
+        one, other = self.path("one"), self.path("other")
+        write(f"{one}/{LIB}", ONE)
+        write(f"{one}/{WRONG}", edit("2"))
         for name in wrong_bodies.SCRIPTS:
-            write(self.path("scripts", f"{name}.py"), "")
+            write(f"{one}/scripts/{name}.py", "")
+        right, wrong = [said(one=NOT), said(one=HOLES)], ["only=0\n"] * 2
         for file, text, is_tried in CASES["kept"]:
             if file:
-                write(self.path(file), text)
-            checks = [said(one=NOT), said(one=HOLES)]
-            with self.subTest(file=file), contextlib.redirect_stdout(io.StringIO()):
-                with mock.patch.object(wrong_bodies, "check", side_effect=checks) as check:
-                    (found,) = wrong_bodies.tried_once(None, [crate])
-                self.assertEqual((check.called, found.refused, found.lines), (is_tried, ["one"], []))
-        write(self.path(LIB), ONE)
+                write(f"{one}/{file}", text)
+            with self.subTest(file=file, text=text):
+                self.assertEqual(self.tried(one, right), (is_tried, ["one"]))
+        shutil.copytree(one, other)
+        self.assertEqual(self.tried(other, wrong), (False, ["one"]))
+        self.assertEqual(self.tried(other, wrong, from_nothing=True), (True, []))
+        write(f"{one}/{LIB}", OTHER + ONE)
         for _ in range(2):
-            with mock.patch.object(wrong_bodies, "check", return_value="only=0\n") as check:
-                with contextlib.redirect_stdout(io.StringIO()):
-                    wrong_bodies.tried_once(None, [crate])
-            self.assertTrue(check.called)
+            self.assertEqual(self.tried(one, wrong), (True, []))
 
     def test_beside_the_proofs(self) -> None:
         """A crate is tried once `rt ci` says that those below it are proved, over links to their libraries."""
@@ -429,10 +440,10 @@ BENT: tuple[tuple[Callable[[], Iterable[tuple[str, bool]]], Any, dict[str, Any],
     (run_recipes.wrong_cases, run_recipes.Commands, {"fault": lambda *_: ""}, 39),
     (run_recipes.wrong_cases, run_recipes, {"fault_of_picture": lambda *_: ""}, 9),
     (run_recipes.wrong_cases, run_recipes, {"judged": lambda *_: (3, 3)}, 48),
-    (instructions.wrong_cases, instructions, {"ROOM": 50}, 48),
-    (instructions.wrong_cases, instructions, {"fault_of": lambda *_: ""}, 56),
-    (instructions.wrong_cases, instructions, {"shape_of": lambda row: ""}, 8),
-    (instructions.wrong_cases, instructions, {"faults": lambda *_: []}, 88),
+    (instructions.wrong_cases, instructions, {"ROOM": 50}, 60),
+    (instructions.wrong_cases, instructions, {"fault_of": lambda *_: ""}, 70),
+    (instructions.wrong_cases, instructions, {"shape_of": lambda row: ""}, 10),
+    (instructions.wrong_cases, instructions, {"faults": lambda *_: []}, 110),
 )
 
 
@@ -477,6 +488,51 @@ class Judges(unittest.TestCase):
 # In the place of Python, which writes the table: what stands in for the tools reads none.
 NO_TABLE = {"python3": "true"}
 PAGES = ("README.md", "docs/TABLE.md", "docs/pictures/sheet.png")
+
+
+class NamedTests(InFolder):
+    """What the tests of the crates say that they compared, and bent code."""
+
+    def test_what_differs(self) -> None:
+        """What is left out of a test of `one`: each such text of `rt ci`, and what is said of it."""
+        wanted = {"one": {"a::first": "3 rows", "a::second": ""}}
+        for said_by_ci, differs in NAMED["differs"]:
+            with self.subTest(said_by_ci):
+                found = named_tests.tests_in(said_by_ci)
+                self.assertEqual([*named_tests.differences(wanted, found)], differs)
+
+    def test_tests_over_bent_code(self) -> None:
+        """A test that passes there is reported. Verdicts are kept until the code changes."""
+        self.enterContext(mock.patch.dict(os.environ, XDG_CACHE_HOME=self.path("cache")))
+        write(self.path("crates.txt"), "one:\n")
+        write(self.path("crates/one/src/lib.rt"), "let four = 4;\n")
+        write(self.path("scripts/named_tests.toml"), NAMED["list"])
+        for name in ("named_tests", "sources"):
+            write(self.path(f"scripts/{name}.py"), "")
+        write(self.path("out/steps/rt-ci.txt"), NAMED["differs"][0][0])
+        for changed, tried, status, words in NAMED["bent"]:
+            write(
+                self.path("bin/rt"), f"#!/bin/sh\ngrep -q 5 src/lib.rt && touch {self.path('tried')}\n{tried}\n", True
+            )
+            if changed:
+                write(self.path("crates/one/src/lib.rt"), changed)
+            path = mock.patch.dict(os.environ, PATH=f"{self.path('bin')}:{os.environ['PATH']}")
+            kit = mock.patch.object(named_tests.libraries, "kit", lambda: types.SimpleNamespace(KIT=self.folder))
+            write(self.path("WHAT"), "kit-1")
+            with self.subTest(changed=changed, words=words), path, kit:
+                found, said_then = in_copy(self.folder, "named_tests.py", *words)
+                self.assertEqual((found, os.path.exists(self.path("tried"))), (status, bool(tried)), said_then)
+            if tried:
+                os.remove(self.path("tried"))
+
+    def test_code_that_cannot_be_bent(self) -> None:
+        write(self.path("crates.txt"), "one:\n")
+        write(self.path("crates/one/src/lib.rt"), "4 4\n")
+        os.mkdir(self.path("room"))
+        for old in ("4", "5"):
+            with mock.patch.object(named_tests.sources, "TOP", self.folder), self.assertRaises(SystemExit):
+                named_tests.bend(self.path("room"), {"one/src/lib.rt": [[old, "6"]]})
+            shutil.rmtree(self.path("room/crates"))
 
 
 class PackageTests(InFolder):

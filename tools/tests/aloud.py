@@ -14,6 +14,7 @@ import support
 from labeltools.layout.pango import gi_library
 
 SECONDS = 120.0  # until something is there, on a busy machine
+PATIENCE = 120_000  # milliseconds until a window answers; it is less than one by itself
 Atspi = gi_library("Atspi", "2.0")
 
 
@@ -61,6 +62,7 @@ def main() -> None:
     wanted, *folds = sys.argv[1:between]
     program = subprocess.Popen(sys.argv[between + 1 :])
     Atspi.init()
+    Atspi.set_timeout(PATIENCE, PATIENCE)
     try:
         found(wanted)
         for fold in folds:

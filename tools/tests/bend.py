@@ -29,8 +29,7 @@ from labeltools.common.budget import SECONDS
 from labeltools.common.messages import Silence, ToolError
 from labeltools.designs.svg_design import read_design
 from labeltools.lines.file import read_lines, Record
-from labeltools.sending import ipp
-from labeltools.sending.answers import MORE, QUERIES
+from labeltools.sending.answers import QUERIES
 from labeltools.tables import table
 from labeltools.tables.guess import guess_of
 from labeltools.tables.old_encoding import old_encoding
@@ -52,10 +51,16 @@ PIECES = [
     *('table:number-columns-repeated="16384"', 'table:number-rows-repeated="1048576"', "</table>"),
     *('<use href="#a"/>', 'width="1e9mm"', '<filter id="f"/>', 'data-place="code"', "url(#f)"),
     *('#{"row":1}', '#{"end":1}', '{"a":' * 40, "ean13 ", "qr,level=H ", "\\x", "\x02", "\x03"),
+    # marks that stack, merges, exponents, a count that falls, remarks of another program
+    *("\u0e35" * 2000, "a\u0301\u0316" * 2000, "1E-999900", "1E300", "0" * 5000, "'", "Z"),
+    *('<mergeCell ref="A2:XFD900000"/>', 'table:number-columns-spanned="16384"', "T10:00:00Z"),
+    *("999999999", "999999998", '#{"price":"0,01 €","copies":50}\n', "#", "\nqr A\n"),
+    *('<xi:include xmlns:xi="http://www.w3.org/2001/XInclude" href="data:,"/>', "<switch>"),
+    *("<color-profile>", '<feTurbulence numOctaves="2000000"/>'),
 ]
 MORE_WORDS: Sequence[Sequence[str]] = (
     [],
-    ["--fill-zeros"],
+    ["--digits", "lost-zeros"],
     ["--symbology", "qr"],
     ["--price-as", "0,00 €"],
 )
@@ -73,9 +78,8 @@ DESIGN = (
 ).encode()
 STATUS = (
     b"\x02030,0,0,0320,002,0,0,0,000,0,0,0\x03\r\n\x02001,0,0,0,0,2,4,0,00000003,1,000\x03\r\n"
-    b"\x020000,0\x03\r\n\x02 PRINTER STATUS\r\n ERRORS: 1 00000000 00000008\r\n\x03\x16\x12"
+    b"\x020000,0\x03\r\n\x16\x12"
 )
-JOBS = ipp.question("ipp://a") + b"\x02" + ipp.attribute(0x42, "job-name", "a") + b"\x03"
 Judge = Callable[[bytes], None]
 
 
@@ -95,7 +99,7 @@ def seeds() -> Mapping[str, Sequence[bytes]]:
         "xlsx": [written],
         "ods": [ods(sheet_of(*CELLS), sheet_of(["a"], name="Other"))],
         "lines": [LINES],
-        "answer": [STATUS, JOBS],
+        "answer": [STATUS],
         "svg": [DESIGN],
     }
 
@@ -165,7 +169,7 @@ def judge_table(chance: random.Random, data: bytes) -> None:
         with suppress(ToolError):
             guess_of(data, "bent", TableOptions(), Silence())
         with suppress(ToolError):
-            old_encoding(data, "bent", TableOptions())
+            old_encoding(data, "bent", TableOptions(), Silence())
 
 
 def judge_lines(data: bytes) -> None:
@@ -179,10 +183,8 @@ def judge_lines(data: bytes) -> None:
 
 def judge_answer(data: bytes) -> None:
     """Reads the answers of a printer."""
-    for query in (MORE, *QUERIES.values()):
+    for query in QUERIES.values():
         query.read(data)
-    with mock.patch.object(ipp, "ipp_answer", return_value=data):
-        ipp.state_at_printer("ipp://a", "a")
 
 
 def judge_design(data: bytes) -> None:

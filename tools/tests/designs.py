@@ -92,9 +92,9 @@ def is_refused(message: object, why: str) -> bool:
 
 def reasons_of(found: Prepared) -> list[str]:
     """Why labels are left out."""
-    return [str(record.reason) for record in found.left_out]
+    return [str(record.problem.line) for record in found.left_out]
 
 
 def said_of(found: Prepared) -> list[str]:
     """What is said of labels that are printed."""
-    return [str(remark.reason) for remark in found.remarks]
+    return [str(remark.problem.line) for remark in found.remarks]

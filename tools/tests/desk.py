@@ -2,21 +2,24 @@
 
 import fcntl
 import os
+import sqlite3
 import struct
 import subprocess
 import tempfile
 import termios
 import time
 import unittest
+from contextlib import closing
 from pathlib import Path
 from types import MappingProxyType
-from typing import IO, Mapping, Sequence
+from typing import Any, IO, Mapping, Sequence
 from unittest import mock
 
 import jobs
 import support
 from labeltools.lines.file import read_lines
-from labeltools.sending.journal import Journal
+from labeltools.sending.database import Database
+from labeltools.sending.journal import BEGIN, Journal
 from printers import LABEL
 
 PIPE, NULL = subprocess.PIPE, subprocess.DEVNULL
@@ -62,10 +65,10 @@ def on_paper(done: "support.Finished[bytes]") -> list[bytes]:
 
 
 def entry(
-    event: str, code: str, place: str = "line 1", printer: str = "tcp://a", lane: int = 1
-) -> str:
-    """A line of a journal."""
-    return f"2026-11-27T09:30:00Z\t{event}\tlane {lane}\t{printer}\t{place}\t{code}\n"
+    state: str, code: str, place: str = "line 1", printer: str = "tcp://a"
+) -> tuple[str, str, str, str]:
+    """A label of a journal, of a run that has ended."""
+    return code, state, printer, place
 
 
 def program(code: str = "") -> Sequence[str]:
@@ -128,14 +131,37 @@ class Desk(unittest.TestCase):
             patient.start()
 
     def events(self) -> list[str]:
-        """The events of the journal."""
-        lines = Path(self.path).read_text().splitlines()[1:]
-        return [line.split("\t")[1] for line in lines]
+        """What became last of each label of the journal."""
+        return [state for (state,) in self.select("SELECT state FROM labels ORDER BY rowid")]
 
-    def journal(self, *entries: str) -> str:
-        """Writes the journal, and returns its name."""
-        Path(self.path).write_text("".join(["#labels journal 1\n", *entries]))
+    def select(self, statement: str, *values: Any) -> list[Any]:
+        """What a statement finds in the journal, or does there."""
+        with closing(sqlite3.connect(self.path, isolation_level=None)) as base:
+            return base.execute(statement, values).fetchall()
+
+    def add(self, entry: tuple[str, str, str, str]) -> None:
+        """Adds a label to the journal."""
+        code, state, printer, place = entry
+        ((run,),) = self.select(BEGIN, printer)
+        columns = "labels (code, state, run, turn, place)"
+        self.select(f"INSERT INTO {columns} VALUES (?, ?, ?, 1, ?)", code, state, run, place)
+
+    def remove(self) -> None:
+        """Removes the journal."""
+        for end in ("", "-wal", "-shm"):
+            Path(f"{self.path}{end}").unlink(missing_ok=True)
+
+    def journal(self, *entries: tuple[str, str, str, str]) -> str:
+        """Writes a new journal, and returns its name."""
+        self.remove()
+        Database(self.path)
+        for found in entries:
+            self.add(found)
         return self.path
+
+    def keeper(self, *words: str) -> "support.Finished[bytes]":
+        """What a keeper says of labels in doubt: the command needs no paper, and no lines."""
+        return support.run_here("label-print", "--journal", self.path, *words)
 
     def said(self, done: "support.Finished[bytes]", status: int, pattern: str) -> None:
         """Compares a status and a message."""
@@ -178,10 +204,10 @@ class Desk(unittest.TestCase):
         return run
 
     def holding(self) -> Program:
-        """A lane that keeps the journal until its standard input ends."""
+        """A run that keeps the journal until its standard input ends."""
         code = (
-            "with journal.Journal(sys.argv[1], 'tcp://b').locked():\n"
-            "    print('locked', flush=True); sys.stdin.read()\n"
+            "base = journal.Database(sys.argv[1]).base; base.execute('BEGIN EXCLUSIVE')\n"
+            "print('locked', flush=True); sys.stdin.read()\n"
         )
         lane = self.other(code, self.path)
         self.assertEqual(lane.stdout.readline(), b"locked\n")

@@ -4,15 +4,16 @@
 set -e
 
 draw() {
-    echo "$3" | labels --scale "$2" | pnmpad -white -top "$4" -bottom "$4" | pnmtopng -quiet -compression 9 > "$1.png"
+    python3 -m liblabels "$1" --digits --scale 3 "$2" | pngtopnm |
+        pnmpad -white -top 15 -bottom 6 | pnmtopng -quiet -compression 9 > "$1.png"
 }
-draw ean13 3 'ean13 400638133393' 15
-draw ean8 3 'ean8 7351353' 15
-draw upca 3 'upca 03600029145' 15
-draw code128 3 'code128 PJJ123C' 15
-draw qr 8 'qr,level=Q HELLO WORLD' 0
+draw ean13 400638133393
+draw ean8 7351353
+draw upca 03600029145
+draw code128 PJJ123C
+python3 -m liblabels qr --scale 8 'HELLO WORLD' > qr.png
 status=0
-label-table --code EAN --fill-zeros --title Artikel --price Preis --copies Stück examples/shop.csv > shop.lines \
+label-table --code EAN --digits lost-zeros --title Artikel --price Preis --copies Stück examples/shop.csv > shop.lines \
     2> left-out.txt || status=$?
 test $status = 1  # two rows are skipped
 label-print --stock 'Avery L7160' --to png --dpi 150 --only 2-5,7-8,10-12 shop.lines > sheet.png

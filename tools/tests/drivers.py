@@ -19,11 +19,16 @@ from labeltools.printing.press import labels_of
 from laying import boxes_of
 
 # The commands of a language, and what each does. The number in it, of digits or of one byte, is
-# that of the bytes or dots of a row, of rows that are skipped, or of the bytes of the row after it.
+# that of the bytes or dots of a row, of rows that are skipped, or of the bytes of the row after it;
+# a command may also say which row that is.
 BYTES, DOTS, SKIP, ROW, END, OTHER = range(6)
 NEAR = 320  # dots by which a driver may move a page: its margins
 Language = Sequence[tuple[bytes, int]]
-EPL: Language = ((rb"GW0,\d+,(\d+),1\n", ROW), (rb"P\d+\n", END), (rb"[^\n]*\n", OTHER))
+EPL: Language = (
+    (rb"GW0,(?P<row>\d+),(?P<number>\d+),1\n", ROW),
+    (rb"P\d+\n", END),
+    (rb"[^\n]*\n", OTHER),
+)
 DYMO: Language = (
     (rb"\x16", ROW),
     (rb"\x1bD(.)", BYTES),
@@ -60,7 +65,9 @@ def pages_of(
         else:
             raise JobError(f"not understood: {job[place:place + 20]!r}")
         place = command.end()
-        number = number_of(command[1]) if does < END and command.re.groups else size
+        named = command.groupdict()
+        count = named.get("number") or (command[1] if command.re.groups else b"")
+        number = number_of(count) if does < END and count else size
         if does == BYTES:
             size = number
         elif does == DOTS:
@@ -69,6 +76,8 @@ def pages_of(
             rows += [bytes(size)] * number
         elif does == ROW:
             size = max(size, number)
+            if "row" in named:  # rows that are not named are white, which is 1 there
+                rows += [b"\xff" * size] * (int(named["row"]) - len(rows))
             rows.append(job[place : place + number].ljust(size, b"\0"))
             place += number
         elif does == END and rows:

@@ -11,19 +11,16 @@ from types import FunctionType
 from typing import Any
 from unittest import mock
 
-from guess_tables import FOLDER, small_tables, Table, tables, Verdict, verdict_of
-from labeltools.common.budget import Budget
-from labeltools.tables import candidates, choices, compared_amounts, evidence, guess, scores
-from labeltools.tables.candidates import CODE, PRICE, ROLES, Samples
-from labeltools.tables.evidence import Evidences, evidences_of
+from guess_tables import needed, NEEDED, small_tables, Table, tables, Verdict, verdict_of
+from labeltools.tables import choices, evidence, facts, guess
+from labeltools.tables.evidence import Evidences, evidences_of, NONE, probabilities, WEIGHTS
+from labeltools.tables.facts import CODE, PRICE, ROLES, Samples
 from labeltools.tables.guess import samples_from
-from labeltools.tables.scores import NONE, probabilities, WEIGHTS
 
 ROUNDS = 150
 RATE = 0.3  # of a step
 SMALL = 0.0003  # what the square of a weight costs
 LEAST = 0.05  # a smaller weight is left out
-NEEDED = FOLDER / "needed.txt"  # for each part a table whose verdict it changes
 Weights = Mapping[str, Mapping[str, float]]
 
 
@@ -60,7 +57,7 @@ def candidates_of(columns: Samples, role: str, taken: Iterable[int]) -> Samples:
     """The columns that may have a role, if others have the other ones."""
     used = {*taken}
     if role == PRICE:
-        return choices.price_candidates(columns, used, Budget("", 0))[0]
+        return choices.price_candidates(columns, used)[0]
     if role == CODE:
         return choices.code_candidates(choices.without(columns, used))
     return choices.title_candidates(columns, used)
@@ -122,12 +119,12 @@ def verdicts() -> Mapping[str, tuple[Verdict, str]]:
     return {table.name: verdict_of(table, table.guess()) for table in tables()}
 
 
-def said_of(found: Mapping[str, tuple[Verdict, str]], is_fitted: bool) -> str:
+def said_of(found: Mapping[str, tuple[Verdict, str]], is_judge: bool) -> str:
     """How many guesses are worth what."""
-    names = [table.name for table in tables() if table.is_fitted is is_fitted]
+    names = [table.name for table in tables() if table.is_judge is is_judge]
     count = Counter(found[name][0] for name in names)
     parts = ", ".join(f"{count[verdict]} {verdict}" for verdict in Verdict)
-    return f"{len(names)} tables {'fitted on' if is_fitted else 'judged by'}: {parts}"
+    return f"{len(names)} tables {'judged by' if is_judge else 'made from'}: {parts}"
 
 
 def judge() -> int:
@@ -136,7 +133,7 @@ def judge() -> int:
     for name, (verdict, why) in found.items():
         if verdict is not Verdict.RIGHT:
             print(f"{verdict:10} {name}: {why}")
-    print(said_of(found, True), said_of(found, False), sep="\n")
+    print(said_of(found, False), said_of(found, True), sep="\n")
     return 0
 
 
@@ -165,9 +162,9 @@ class Part:
         """Switches it off, wherever it is called."""
         with ExitStack() as stack:
             if self.instead is None:
-                weights = {role: dict(scores.weights_of(role)) for role in ROLES}
+                weights = {role: dict(evidence.weights_of(role)) for role in ROLES}
                 del weights[self.role][self.name]
-                stack.enter_context(mock.patch.object(scores, "weights_of", weights.get))
+                stack.enter_context(mock.patch.object(evidence, "weights_of", weights.get))
             for module in CALLERS if self.instead else ():
                 if hasattr(module, self.name):
                     stack.enter_context(mock.patch.object(module, self.name, self.instead))
@@ -185,7 +182,7 @@ def never(*_: Any) -> bool:
 
 
 # the modules whose functions are switched off
-FACTS = (candidates, choices, compared_amounts, evidence)
+FACTS = (facts, choices, evidence)
 CALLERS = (*FACTS, guess)
 # what other functions than facts return that are switched off; those that are not here only name
 # what others decide
@@ -198,10 +195,9 @@ NOTHING: Mapping[str, Callable[..., Any]] = {
     "without_same": lambda columns: columns,
     "advised_beside": lambda *_: {},
     "named_again": lambda *_: (),
-    "costs_in": lambda *_: (),
-    "unit_price_choice": lambda *_: scores.Decision(),
-    "old_price_choice": lambda *_: scores.Decision(),
-    "copies_choice": lambda *_: scores.Decision(),
+    "unit_price_choice": lambda *_: evidence.Decision(),
+    "old_price_choice": lambda *_: evidence.Decision(),
+    "copies_choice": lambda *_: evidence.Decision(),
 }
 
 
@@ -214,7 +210,8 @@ def parts() -> Iterator[Part]:
                 yield from (Part(name, instead) for instead in (never, always))
     yield from (Part(name, instead) for name, instead in NOTHING.items())
     for role in ROLES:
-        yield from (Part(name, role=role) for name in scores.weights_of(role))
+        weights = {*evidence.weights_of(role)} - {"none"}  # the constant of a fit is no part
+        yield from (Part(name, role=role) for name in sorted(weights))
 
 
 def samples_at_once() -> Any:
@@ -237,11 +234,12 @@ def all_verdicts() -> Mapping[str, tuple[Verdict, str]]:
 
 
 def switched_off() -> int:
-    """Switches off each part, and writes the table whose verdict changes the most; those without
-    which none does are named, and the status is 1.
+    """Switches off each part, and writes a table whose verdict changes, that is no judge if one
+    does; those without which none does are named, and the status is 1.
     """
     useless = []
-    needed = {}
+    found = {}
+    judges = {table.name for table in tables() if table.is_judge}
     with samples_at_once():
         usual = all_verdicts()
         for part in parts():
@@ -249,10 +247,10 @@ def switched_off() -> int:
                 changed = changes(usual)
             print(f"{part.title}: {', '.join(changed.values()) or 'nothing'}", flush=True)
             if changed:
-                needed[part.title] = next(iter(changed))
+                found[part.title] = min(changed, key=judges.__contains__)
             else:
                 useless.append(part.title)
-    lines = [f"{title}\t{name}\n" for title, name in needed.items()]
+    lines = [f"{title}\t{name}\n" for title, name in found.items()]
     NEEDED.write_text("".join(lines), encoding="utf-8")
     print(f"{len(useless)} change nothing: {', '.join(useless) or 'none'}")
     return 1 if useless else 0
@@ -271,9 +269,8 @@ def changes(usual: Mapping[str, tuple[Verdict, str]]) -> Mapping[str, str]:
 def needless_parts(every: Iterable[Part]) -> Iterator[str]:
     """The parts for which no table is kept whose verdict they change, by the tables of `NEEDED`."""
     by_name = {table.name: table for table in (*tables(), *small_tables())}
-    needed = dict(line.split("\t") for line in NEEDED.read_text(encoding="utf-8").splitlines())
     for part in every:
-        table = by_name.get(needed.get(part.title, ""))
+        table = by_name.get(needed().get(part.title, ""))
         if table is None:
             yield part.title
             continue
@@ -302,7 +299,7 @@ def main(description: str) -> int:
     is_same = text == WEIGHTS.read_text(encoding="utf-8")
     if arguments.write:
         WEIGHTS.write_text(text, encoding="utf-8")
-        scores.weights_of.cache_clear()
+        evidence.weights_of.cache_clear()
         judge()
     count = sum(map(len, weights.values()))
     print(f"{len(tables())} tables, {count} weights{'' if is_same else ', which differ'}")

@@ -10,15 +10,14 @@ from enum import StrEnum
 from typing import Any
 
 from folders import TESTS
-from labeltools.common.budget import Budget
 from labeltools.common.messages import Silence, ToolError
-from labeltools.common.text import remedies_of
 from labeltools.sheets.file_options import FileOptions
 from labeltools.tables.guess import guess, Guess, guess_of, table_columns
 from labeltools.tables.old_encoding import old_encoding
 from labeltools.tables.table_options import TableOptions
 
 FOLDER = TESTS / "tables"
+NEEDED = FOLDER / "needed.txt"
 ROLES = ("code", "title", "price", "unit-price", "old-price", "copies")
 # what belongs to these, by its names in the truth and in a guess
 BESIDE = {"second-title": "title", "variants-of": "variants-of"}
@@ -42,13 +41,15 @@ ORDER = list(Verdict)
 @dataclass(frozen=True)
 class Truth:
     """The columns that are right for each role, by their names; what a question is fair about; what
-    may be left out; and the row of the names.
+    may be left out; the row of the names; and whether people who did not know the guess made the
+    table.
     """
 
     names: Mapping[str, Sequence[str]]
     ask: Collection[str] = ()
     optional: Collection[str] = ()
     header: int = 1
+    is_unseen: bool = False
 
     def is_asked(self, role: str) -> bool:
         """Whether only the keeper knows which column has a role."""
@@ -67,8 +68,16 @@ class Table:
 
     @property
     def is_fitted(self) -> bool:
-        """Whether weights are fitted on it; else they are judged by it. Its name alone decides."""
-        return hashlib.sha256(self.name.encode()).digest()[0] % 2 == 0
+        """Whether weights are fitted on it: its name decides, for a table that is not unseen."""
+        is_even = hashlib.sha256(self.name.encode()).digest()[0] % 2 == 0
+        return is_even and not self.truth.is_unseen
+
+    @property
+    def is_judge(self) -> bool:
+        """Whether the guess is judged by it: neither are weights fitted on it, nor is a part of the
+        guess kept for it.
+        """
+        return not self.is_fitted and self.name not in needed().values()
 
     def name_of(self, place: int) -> str:
         """The name of a column, or its number."""
@@ -85,6 +94,12 @@ class Table:
 
 
 @functools.cache
+def needed() -> Mapping[str, str]:
+    """For each part of the guess a table whose verdict it changes."""
+    return dict(line.split("\t") for line in NEEDED.read_text(encoding="utf-8").splitlines())
+
+
+@functools.cache
 def tables() -> Sequence[Table]:
     """The tables of the folder."""
     truths = tomllib.loads((FOLDER / "truth.toml").read_text(encoding="utf-8"))
@@ -96,11 +111,8 @@ def table_of(name: str, truth: Mapping[str, Any]) -> Table:
     data = (FOLDER / name).read_bytes()
     options = options_for(data, name)
     found = guess_of(data, name, options, Silence())
-    has_names = found.header > 0
-    file = replace(options.file, has_header=has_names, header_row=found.header or None)
-    columns, header, hidden = table_columns(
-        data, name, replace(options, file=file), Silence(), Budget(name, len(data))
-    )
+    file = replace(options.file, header_row=found.header)
+    columns, header, hidden = table_columns(data, name, replace(options, file=file), Silence())
     return Table(name, columns, hidden, header, truth_of(truth))
 
 
@@ -111,19 +123,20 @@ def truth_of(truth: Mapping[str, Any]) -> Truth:
         for role in (*ROLES, *BESIDE)
         if role in truth
     }
-    return Truth(names, truth.get("ask", ()), truth.get("optional", ()), truth.get("header", 1))
+    beside = {key: truth[key] for key in ("ask", "optional", "header") if key in truth}
+    return Truth(names, **beside, is_unseen=truth.get("unseen", False))
 
 
 def options_for(data: bytes, name: str) -> TableOptions:
     """The options by which a table is read: its encoding, and the sheet that has codes."""
     options = TableOptions()
-    old = old_encoding(data, name, options)
+    old = old_encoding(data, name, options, Silence())
     if old:
         options = TableOptions(file=FileOptions(encoding=old.name))
     try:
         guess_of(data, name, options, Silence())
     except ToolError as error:
-        for remedy in remedies_of(error.hint):
+        for remedy in error.remedies:
             other = TableOptions(file=replace(options.file, sheet=remedy.value))
             with suppress(ToolError):
                 found = guess_of(data, name, other, Silence())

@@ -15,7 +15,8 @@ from numpy.typing import NDArray
 
 Dots = NDArray[Any]
 ZPL_LABEL = re.compile(
-    rb"\^XA\^PON\^LH0,0\^LS0\^PW([0-9]+)\^LL([0-9]+)\n(.*?)(?:\^PQ([0-9]+)\n)?\^XZ\n", re.DOTALL
+    rb"\^XA\^MUD\^PON\^PMN\^JMA\^LH0,0\^LS0\^PW([0-9]+)\^LL([0-9]+)\n(.*?)(?:\^PQ([0-9]+)\n)?\^XZ\n",
+    re.DOTALL,
 )
 ZPL_FIELD = re.compile(rb"\^FO([0-9]+),([0-9]+)\^GFA,([0-9]+),([0-9]+),([0-9]+),([^^]*)\^FS\n")
 RESET, CUT = b"\x1b@", b"\x1bd\x03\x1dVB\x00"

@@ -1,13 +1,14 @@
 #!/usr/bin/python3
-"""Compares how labels look in two trees of the tools: no label may be lost, and nothing on it may
-be smaller. It is run by hand, since it takes minutes:
+"""Compares how labels look in two trees of the tools: no label may be lost, no more titles and
+texts may be cut, and prices and titles may be no smaller in the mean. It is run by hand, since it
+takes minutes:
 
     git archive 7ddd4193 tools lib | tar -x -C /tmp/before
     tools/tests/judge_look.py /tmp/before
 
 It makes random tables of a seed, lays out each for ten sheets and rolls, by the tools of each tree,
-and prints means and what is worse. Two trees whose places are exchanged are a wrong case: that has
-to be found, too. The status is 1 if anything is worse, or if the wrong case is not found.
+and prints what it found and the labels whose price lost most. One label may be worse so that others
+are better. The status is 1 if what may not be worse is worse.
 """
 
 import argparse
@@ -38,10 +39,9 @@ WORDS = """Bleistift Heft Umschlag kariert Rand weich Größe Käse Erdbeermarme
 Öl fein Wasser Seife rot blau 500 g 1 kg 32 Blatt mit Kaffee gemahlen Natur Honig Schrauben M6
 Filtertüten Café crème pâté Wein trocken 0,75 l Übertopf Ø14 XL""".split()
 PRICES = ("{},{:02} €", "{},{:02} €", "{}.{:02}", "${}.{:02}", "{} €", "1.{:03},{:02} €")
-# by how much a number may be smaller: a size is a whole number of dots
-ALLOWED_PART = 0.015
-ALLOWED = 0.02  # millimetres
 SIZES = ("price", "title", "details", "module", "bars")
+NO_SMALLER = ("price", "title")  # in the mean
+ALLOWED = 0.005  # by which part a mean may be smaller: a size is a whole number of dots
 DIGIT = 0.729  # the height of a digit, in sizes of letters
 
 
@@ -145,46 +145,55 @@ def by_tree(tree: Path, count: int) -> list[list[dict[str, Any] | None]]:
     return [json.loads(line) for line in done.stdout.splitlines()]
 
 
-def worse(old: dict[str, Any] | None, new: dict[str, Any] | None) -> list[str]:
-    """Returns what is worse on a label."""
-    if old is None or new is None:
-        return ["does not fit"] if old is not None else []
-    found = [name for name in SIZES if new[name] < old[name] * (1 - ALLOWED_PART) - ALLOWED]
-    return [*found, *(["is cut"] if old["is_whole"] and not new["is_whole"] else [])]
+class Judged(NamedTuple):
+    """What labels of a tree are like: how many there are, how many of them fit, how many of these
+    are cut, and the mean of each size in millimetres.
+    """
+
+    labels: int
+    fitting: int
+    cut: int
+    means: dict[str, float]
+
+    def __str__(self) -> str:
+        sizes = (f"{name} {mean:.3f}" for name, mean in self.means.items())
+        counts = f"{self.fitting} of {self.labels} fit", f"{self.cut} are cut"
+        return ", ".join([*counts, *sizes])
+
+    def faults_beside(self, before: "Judged") -> list[str]:
+        """What is worse than before."""
+        smaller = [
+            f"{name} is smaller"
+            for name in NO_SMALLER
+            if self.means[name] < before.means[name] * (1 - ALLOWED)
+        ]
+        lost = ["labels are lost"] if self.fitting < before.fitting else []
+        cut = ["more are cut"] if self.cut > before.cut else []
+        return [*lost, *cut, *smaller]
 
 
-def judged(
-    before: list[list[dict[str, Any] | None]],
-    after: list[list[dict[str, Any] | None]],
-    shown: int,
-) -> int:
-    """Prints what is worse on the first labels; returns on how many."""
-    count = 0
-    counts: dict[str, int] = {}
-    for number, (olds, news) in enumerate(zip(before, after)):
-        stock = STOCKS[number % len(STOCKS)]
-        for old, new in zip(olds, news):
-            found = worse(old, new)
-            count += bool(found)
-            for name in found:
-                counts[name] = counts.get(name, 0) + 1
-            if found and count <= shown:
-                print(number // len(STOCKS), stock, found, old, new)
-    if shown:
-        print(counts)
-    return count
-
-
-def means(labels: list[list[dict[str, Any] | None]]) -> str:
-    """Returns how many labels fit, and the means of what is measured."""
+def judged(labels: list[list[dict[str, Any] | None]]) -> Judged:
+    """What labels are like."""
     there = [label for several in labels for label in several if label]
-    total = sum(map(len, labels))
-    cut = [label for label in there if not label["is_whole"]]
-    texts = [f"{len(there)} of {total} fit", f"{len(cut)} are cut"]
-    for name in SIZES:
-        values = [label[name] for label in there if label[name]]
-        texts.append(f"{name} {sum(values) / len(values):.3f}")
-    return ", ".join(texts)
+    cut = sum(not label["is_whole"] for label in there)
+    values = {name: [label[name] for label in there if label[name]] for name in SIZES}
+    means = {name: sum(found) / max(1, len(found)) for name, found in values.items()}
+    return Judged(sum(map(len, labels)), len(there), cut, means)
+
+
+def losses(
+    before: list[list[dict[str, Any] | None]], after: list[list[dict[str, Any] | None]]
+) -> list[tuple[float, str]]:
+    """The stocks and labels on which a price is smaller than before, by its part of what it was,
+    the smallest first.
+    """
+    found = []
+    for number, (olds, news) in enumerate(zip(before, after)):
+        for old, new in zip(olds, news):
+            if old and new and old["price"] and new["price"] < old["price"]:
+                what = f"{STOCKS[number % len(STOCKS)]}: {old['texts']}"
+                found.append((new["price"] / old["price"], what))
+    return sorted(found)
 
 
 def main() -> None:
@@ -202,12 +211,14 @@ def main() -> None:
         return
     ours = Path(__file__).resolve().parents[2]
     before, after = (by_tree(tree, given.tables) for tree in (given.tree, ours))
-    print("before:", means(before))
-    print("after:", means(after))
-    count = judged(before, after, given.show)
-    wrong = judged(after, before, 0)
-    print(f"{count} labels are worse; exchanged, {wrong} are")
-    sys.exit(1 if count or not wrong else 0)
+    old, new = judged(before), judged(after)
+    print("before:", old)
+    print("after:", new)
+    for part, what in losses(before, after)[: given.show]:
+        print(f"{part:.2f} {what}")
+    faults = new.faults_beside(old)
+    print(", ".join(faults) or "nothing is worse")
+    sys.exit(1 if faults else 0)
 
 
 if __name__ == "__main__":

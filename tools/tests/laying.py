@@ -36,7 +36,7 @@ class Laid:
     @property
     def reasons(self) -> list[str]:
         """Why others have none."""
-        return [str(record.reason) for record in self.prepared.left_out]
+        return [str(record.problem.line) for record in self.prepared.left_out]
 
     def millimetres(self, dots: float) -> float:
         """A length in millimetres."""
@@ -64,7 +64,7 @@ def laid_out(data: bytes, cell: tuple[float, float], dpi: int = 300, **options: 
         sheet = PrintOptions(paper=cell, dpi=dpi, to="pbm", **options)
     else:
         sheet = PrintOptions(
-            cell=cell, columns=1, rows=1, page=cell, edge=NO_EDGES, dpi=dpi, to="pbm", **options
+            cell=cell, grid=(1, 1), paper=cell, edge=NO_EDGES, dpi=dpi, to="pbm", **options
         )
     job = planned(sheet)
     prepared = labels_of(job, "lines", data, Silence())

@@ -1,5 +1,5 @@
 #!/usr/bin/python3
-"""Draws the pictures of docs/PRINTING.md that show labels of many sizes and contents.
+"""Draws the pictures of designs/README.md that show labels of many sizes and contents.
 
 It writes layouts-article.png and layouts-shelf.png, a picture for each design, in which labels are
 drawn as label-print draws them in dots. A test reads each of these labels back.

@@ -7,6 +7,7 @@ import base64
 import importlib.machinery
 import importlib.util
 import lzma
+import os
 import random
 import re
 import subprocess
@@ -19,20 +20,25 @@ PACKAGES = (
     "foomatic-db-compressed-ppds openprinting-ppds hplip-data printer-driver-postscript-hp "
     "printer-driver-escpr printer-driver-fujixerox printer-driver-ptouch printer-driver-dymo "
     "printer-driver-brlaser printer-driver-splix printer-driver-c2esp printer-driver-hpcups "
-    "printer-driver-oki printer-driver-cups-pdf printer-driver-pxljr"
+    "printer-driver-oki printer-driver-cups-pdf printer-driver-pxljr "
+    "printer-driver-gutenprint libgutenprint9 libgutenprint-common"
 ).split()
+LIBRARIES = "usr/lib/x86_64-linux-gnu"
 BLOCK = 1 << 24  # bytes that are unpacked at once
 FOREIGN = re.compile(r"Fax|Braille|index", re.IGNORECASE)  # no printers of paper
 
 
 @dataclass(frozen=True)
 class Origin:
-    """Where the file of a driver is: in an archive, from a byte on, or a file of its own."""
+    """Where the file of a driver is: in an archive, from a byte on, or a file of its own, or what
+    a program writes.
+    """
 
     archive: str
     name: str
     start: int = 0
     size: int = 0
+    is_written: bool = False
 
 
 def fetch(folder: Path) -> None:
@@ -62,6 +68,8 @@ def drivers_in(folder: Path) -> Iterator[Origin]:
     """All drivers of the packages, in order."""
     for script in sorted((folder / "usr/lib/cups/driver").iterdir()):
         if not script.read_bytes().startswith(b"#!/usr/bin/"):
+            listed = written_by(script, folder, "list").decode().splitlines()
+            yield from (Origin(str(script), line.split('"')[1], is_written=True) for line in listed)
             continue
         for name, (start, size, _) in sorted(
             item for item in contents(script).items() if item[0] != "ARCHIVE"
@@ -78,6 +86,17 @@ def drivers_in(folder: Path) -> Iterator[Origin]:
             yield Origin(str(path), path.name)
 
 
+def written_by(program: Path, folder: Path, *words: str) -> bytes:
+    """What Gutenprint's program writes, by the files of its packages."""
+    found = {
+        "LD_LIBRARY_PATH": folder / LIBRARIES,
+        "STP_MODULE_PATH": folder / LIBRARIES / "gutenprint/5.3/modules",
+        "STP_DATA_PATH": folder / "usr/share/gutenprint/5.3/xml",
+    }
+    env = {**os.environ, **{name: str(path) for name, path in found.items()}}
+    return subprocess.run([program, *words], env=env, capture_output=True, check=True).stdout
+
+
 def drawn(folder: Path, seed: int, count: int, word: str) -> Sequence[Origin]:
     """Some drivers whose names have a word, drawn by a seed."""
     found = [
@@ -88,9 +107,14 @@ def drawn(folder: Path, seed: int, count: int, word: str) -> Sequence[Origin]:
     return random.Random(seed).sample(found, min(count, len(found)))
 
 
-def texts_of(origins: Sequence[Origin]) -> Mapping[Origin, bytes]:
+def texts_of(folder: Path, origins: Sequence[Origin]) -> Mapping[Origin, bytes]:
     """The files of some drivers: each archive is unpacked once, block by block."""
-    found = {origin: Path(origin.archive).read_bytes() for origin in origins if not origin.size}
+    found: dict[Origin, bytes] = {}
+    for origin in origins:
+        if origin.is_written:
+            found[origin] = written_by(Path(origin.archive), folder, "cat", origin.name)
+        elif not origin.size:
+            found[origin] = Path(origin.archive).read_bytes()
     for archive in sorted({origin.archive for origin in origins if origin.size}):
         wanted = [origin for origin in origins if origin.archive == archive and origin.size]
         packed = base64.b64decode(contents(Path(archive))["ARCHIVE"].encode())

@@ -15,7 +15,7 @@ import threading
 import time
 
 LABEL = re.compile(rb"\^XA.*?\^XZ\n", re.DOTALL)
-QUESTION = re.compile(rb"~HS|~HQES|(?:\x10\x04.){2}", re.DOTALL)
+QUESTION = re.compile(rb"~HS|~HI|(?:\x10\x04.){2}", re.DOTALL)
 # what ~HS answers: whether the paper is out, whether it is paused, how many labels wait, and
 # whether the head is open
 STATUS = (
@@ -24,7 +24,6 @@ STATUS = (
     b"\x020000,0\x03\r\n"
 )
 READY = STATUS % (0, 0, 0, 0)
-ERRORS = b"\x02\r\n\r\n  PRINTER STATUS\r\n ERRORS: %d 00000000 %08X\r\n WARNINGS: 0 .. \x03"
 QUIET = 600.0  # seconds without a connection after which the program ends
 BROKEN = struct.pack("ii", 1, 0)  # a connection that is closed so is reset
 LEAST = 512  # bytes
@@ -38,8 +37,8 @@ class Printer:
     ends a connection; `slow` are the seconds that it takes for each piece; `says` is what it
     sends. `rude` breaks each connection off at its end, `hangs_up` before it reads anything; one
     that `ends` ends it after a label. It answers a question by the next of `answers`, of which the
-    last one stays, after `late` seconds; nothing where there is none. ~HQES is answered by its
-    `errors`. One that `is_shy` ends its first connection at a question.
+    last one stays, after `late` seconds; nothing where there is none. ~HI is answered by its `dots`
+    a millimetre. One that `is_shy` ends its first connection at a question.
     """
 
     def __init__(
@@ -58,8 +57,8 @@ class Printer:
         ends: bool = False,
         answers: tuple[bytes, ...] = (READY,),
         late: float = 0.0,
-        errors: int = 0,
         is_shy: bool = False,
+        dots: int = 0,
     ) -> None:
         self.server = socket.create_server(("127.0.0.1", port))
         # of each connection from its beginning, so that the system takes little by itself
@@ -79,8 +78,8 @@ class Printer:
         self.ends = ends
         self.answers = [*answers]
         self.late = late
-        self.errors = ERRORS % (errors > 0, errors)
         self.is_shy = is_shy
+        self.dots = dots
         self.asked: list[bytes] = []
         self.connections = 0
         self.ended = 0
@@ -118,8 +117,8 @@ class Printer:
         if self.hangs_up:
             line.recv(1, socket.MSG_PEEK)  # it is there, and unread
         elif self.torn == 0:
-            if not self.answered(line, line.recv(100)):
-                line.recv(100)
+            while not self.answered(line, line.recv(100)):
+                pass  # until a label begins
             line.setsockopt(socket.SOL_SOCKET, socket.SO_LINGER, BROKEN)
         elif self.is_shy:
             self.is_shy = False
@@ -159,8 +158,8 @@ class Printer:
             buffer = buffer[found.end() :]
             self.asked.append(found[0])
             time.sleep(self.late)
-            if found[0] == b"~HQES":
-                line.sendall(self.errors)
+            if found[0] == b"~HI":
+                line.sendall(b"\x02TEST,V1.0,%d,2104KB\x03\r\n" % self.dots)
             elif self.answers:
                 line.sendall(self.answers[0])
                 del self.answers[: len(self.answers) > 1]

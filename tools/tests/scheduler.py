@@ -123,10 +123,15 @@ KINDS = {
     + own("QQPlaces", "TopLeft", "4up")
     + own("Copies", "1", "3")
     + option("Resolution", _300dpi="300 300"),
+    # one that turns pages round if it is asked for
+    "mirror": own("MirrorPrint", "False", "True") + option("Resolution", _300dpi="300 300"),
     # a tape of 24 mm, of any length
     "tape": "HWMargins 0 0 0 0\nVariablePaperSize Yes\nMinSize 36 36\nMaxSize 2000 2000\n"
     + '#media "Tape24/24 mm" 68 284\n*MediaSize Tape24\n'
     + option("Resolution", _180dpi="180 180"),
+    # one whose A4 is wider than it is, so that CUPS moves a page by 1.51 dots
+    "moved": '#media "Wide/A4" 596 842\n*MediaSize Wide\n'
+    + option("Resolution", _300dpi="300 300"),
     # a printer that takes PostScript
     "postscript": "Filter application/vnd.cups-postscript 0 -\nHWMargins 0 0 0 0\n"
     + "VariablePaperSize Yes\nMinSize 36 36\nMaxSize 612 1008\n"
@@ -261,7 +266,7 @@ class Scheduler:
 
     def printed(self, name: str) -> bytes:
         """What arrived at a queue, once its jobs are done."""
-        self.wait(lambda: not subprocess.run(["lpstat", "-o"], capture_output=True).stdout)
+        self.wait(lambda: not subprocess.run(["lpstat", "-o", name], capture_output=True).stdout)
         place = self.folder / name
         jobs = place.iterdir() if place.is_dir() else [place.with_suffix(".out")]
         return max(jobs, key=os.path.getmtime).read_bytes()

@@ -167,11 +167,11 @@ def show_turn(path: Path) -> None:
     """A long label, upright and turned."""
     step = DYMO[0] * SCALE + 4 * PAD
     picture = Picture(2 * step - 2 * PAD, DYMO[1] * SCALE + 3 * PAD + LETTERS)
-    for number, option in enumerate(("--no-turn", "--turn")):
+    for number, turn in enumerate(("no", "yes")):
         box = paper(PAD + number * step, 2 * PAD + LETTERS, DYMO)
-        picture.say(option, (box.x, box.y - PAD / 2), is_bold=True)
+        picture.say(f"--turn {turn}", (box.x, box.y - PAD / 2), is_bold=True)
         picture.fill(box, WHITE)
-        page = drawn(JAM, "--paper", "35.6x88.9", option, "--edge", ENDS)
+        page = drawn(JAM, "--paper", "35.6x88.9", "--turn", turn, "--edge", ENDS)
         picture.put(page, (box.x, box.y), box)
     picture.write(path)
 
@@ -187,7 +187,7 @@ def show_edge(path: Path) -> None:
         picture.say(" ".join(options) or "without --edge", (box.x, box.y - PAD / 2), is_bold=True)
         picture.fill(box, PALE)
         picture.fill(inner, WHITE)
-        page = drawn(JAM, "--paper", "35.6x88.9", "--turn", *options)
+        page = drawn(JAM, "--paper", "35.6x88.9", "--turn", "yes", *options)
         picture.put(page, (box.x, box.y), inner)
         picture.frame(box)
         right = box.x + box.width + 6
@@ -207,7 +207,7 @@ def show_shift(path: Path) -> None:
     cell, count, off = (70.0, 37.0), 2, (-3.0, 4.0)
     shown = Box(0, 0, 1.62 * cell[0] * SCALE, 2.15 * cell[1] * SCALE)
     picture = Picture(3 * PAD + 2 * shown.width, shown.height + 3 * PAD + LETTERS)
-    grid = ("--columns", "3", "--rows", "8", "--cell", "70x37")
+    grid = ("--grid", "3x8", "--cell", "70x37")
     for number, shift in enumerate(((), ("--shift=3,-4",))):
         box = Box(PAD + number * (shown.width + PAD), 2 * PAD + LETTERS, shown.width, shown.height)
         picture.say(" ".join(shift) or "without --shift", (box.x, box.y - PAD / 2), is_bold=True)

@@ -6,7 +6,7 @@ import support
 
 TABLE = "Code,Name\nBüro 7,Desk\nRegal 8,Rack\nŁódź 9,Map\n".encode()
 SAID = 'rows 2, 4: some scanners show "Büro" wrongly; a QR code without accents is safe'
-WORDS = ("--header", "--code", "1", "--title", "2", "--symbology", "qr")
+WORDS = ("--header-row", "1", "--code", "1", "--title", "2", "--symbology", "qr")
 ROLL = ("--paper", "60x40", "--dpi", "203", "--to", "zpl")
 
 

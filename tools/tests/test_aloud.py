@@ -36,7 +36,7 @@ class Aloud(unittest.TestCase):
         self.assertEqual(CAPTIONS - captions, frozenset())
         names = {part["name"] for part in controls}
         guessed = "Take back: The letters are Western European (Füller)."
-        wanted = {"Recent tables", "Options", "What is shown", "Save PDF…", guessed}
+        wanted = {"Recent tables", "Options", "Page or label", "Save PDF…", guessed}
         self.assertLessEqual(wanted, names)
         groups = {part["name"] for part in parts if part["role"] in GROUPS}
         self.assertIn("Labels", groups)  # of Sheet and Roll

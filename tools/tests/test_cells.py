@@ -24,6 +24,9 @@ def shared(*runs: tuple[str, str]) -> str:
     return f"<si>{''.join(texts)}</si>"
 
 
+WHICH = "which one has your articles?"
+
+
 class CellTest(WorkbookTest):
     """Steps that the tests share."""
 
@@ -141,7 +144,7 @@ class Sheets(CellTest):
     def test_hidden_rows(self) -> None:
         sheet = Sheet([["EAN"], [PENCIL], [SMALL], [BOOK], [], [SOAP]], hidden=(3, 4, 5))
         shown = [f"ean13 {PENCIL}", f"upca {SOAP}"]
-        note = "2 hidden rows are not printed: give --hidden to print them"
+        note = "2 hidden rows are not printed: print hidden rows too (--hidden)"
         every = [f"ean13 {PENCIL}", f"ean8 {SMALL}", f"ean13 {BOOK}", f"upca {SOAP}"]
         for kind in KINDS:
             self.check(kind(sheet), ["--code", "EAN"], shown, [note])
@@ -175,13 +178,15 @@ class Sheets(CellTest):
             self.assertEqual(self.found(kind(Sheet([[None]]), new)), small)
             self.assertEqual(self.found(kind(first, old)), pencil)  # in .xlsx, veryHidden
             data = kind(first, empty, old, new)
-            named = "has 2 visible sheets with data: give --sheet Tabelle1 or Preise"
+            named = f"has 2 visible sheets with data: {WHICH} Tabelle1 (--sheet Tabelle1) or Preise (--sheet Preise)"
             self.refused(data, named, status=2)
             self.assertEqual(self.found(data, "--sheet", "Preise"), small)
-            names = "Tabelle1 or leer or alt or Preise"
-            problem = f'has no sheet "preise" with data: give --sheet {names}'
+            every = ("Tabelle1", "leer", "alt", "Preise")
+            names = " or ".join(f"{name} (--sheet {name})" for name in every)
+            problem = f'has no sheet "preise" with data: {WHICH} {names}'
             self.refused(data, problem, "--sheet", "preise", status=2)
-            problem = "has 0 visible sheets with data: give --sheet Tabelle1 or leer"
+            problem = f"has 0 visible sheets with data: {WHICH} Tabelle1 (--sheet Tabelle1) or leer"
+            problem += " (--sheet leer)"
             self.refused(kind(Sheet([]), empty), problem, status=2)
 
 
@@ -303,7 +308,7 @@ class Marks(CellTest):
     def test_a_condition_that_takes_letters_away_is_reported(self) -> None:
         """The cells are read as they are without it: only the spreadsheet knows which it strikes."""
         report = "a condition of the spreadsheet strikes letters out or hides them, "
-        report += "and is not read: choose rows with --where"
+        report += "and is not read: look whether each row is meant, or choose rows (--where)"
         white = '<color rgb="FFFFFFFF"/>'
         after = '<conditionalFormatting sqref="A2:C9"><cfRule type="expression" dxfId="1" '
         after += 'priority="1"><formula>D2="x"</formula></cfRule></conditionalFormatting>'
@@ -564,8 +569,8 @@ class Codes(CellTest):
         words = "--code EAN --title Name".split()
         self.check(data, words, [f"upca {SOAP}", f"ean13 0{SOAP}"], [said])
         problem = f"row 2: 00{SMALL} may be an EAN-8 with zeros in front: "
-        problem += "write its 8 digits, or give --symbology ean13"
-        self.check(f"EAN\n00{SMALL}\n", "--code EAN --fill-zeros".split(), [], [problem], 1)
+        problem += "write its 8 digits; draw the codes as EAN-13 (--symbology ean13)"
+        self.check(f"EAN\n00{SMALL}\n", "--code EAN --digits lost-zeros".split(), [], [problem], 1)
 
 
 class Prices(CellTest):
@@ -590,9 +595,10 @@ class Prices(CellTest):
     def test_an_old_price_that_is_not_above_the_price_is_said_once(self) -> None:
         lines = ["1.00\t0.90", "2.00\t2.00", "3.00\t4.00"]
         said = self.priced(lines, "--old-price", "Old")[1]
-        self.assertEqual(said, ["row 2 has the old price 0.90, below the price 1.00 (2 rows)"])
-        said = self.priced(lines[1:], "--old-price", "Old")[1]
-        self.assertEqual(said, ["row 2 has 2.00 as the old price and as the price"])
+        below = "row 2 has the old price 0.90, below the price 1.00"
+        self.assertEqual(said, [below, "row 3 has 2.00 as the old price and as the price"])
+        said = self.priced([lines[0], lines[0], lines[2]], "--old-price", "Old")[1]
+        self.assertEqual(said, [f"{below} (2 rows)"])
         for line in ("2.00 €\t1.00 $", "1.234\t1.00", "1.00\t"):
             self.assertEqual(self.priced([line], "--old-price", "Old")[1], [], line)
 

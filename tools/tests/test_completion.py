@@ -14,6 +14,7 @@ from pathlib import Path
 from typing import Any
 
 import support
+from labeltools.drawing.forms import FORMS
 
 COMPLETIONS = support.TOP / "completions"
 SHELLS = ("bash", "fish", "zsh")
@@ -23,7 +24,7 @@ VALUES: dict[str, str | None] = {
     "label-table --code": "",
     "label-table --new-since": None,
     "label-print --design": "article shelf",
-    "label-print --to": "pdf svg png pbm zpl escpos",
+    "label-print --to": " ".join(FORMS),
     "labels --height": "",
     "labels --scale": "1 2 3 4 5 6 7 8",
     "labels --level": "L M Q H",
@@ -141,7 +142,7 @@ class Completion(unittest.TestCase):
         for tool in TOOLS:
             found = [(option.name, value) for option in commands[tool] for value in option.values]
             self.assertGreater(len(found), 5)
-            for words in [*found, (found[0][0], "none")]:
+            for words in [*found, (found[-1][0], "none")]:
                 said = support.run_here(tool, *words).stderr.decode()
                 self.assertEqual(f"error: argument {words[0]}: " in said, words[1] == "none", said)
 

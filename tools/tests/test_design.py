@@ -19,8 +19,8 @@ from designs import CODE, dots_of, Label, reasons_of, said_of, texts_of
 from labeltools.common.budget import Share
 from labeltools.common.messages import Silence, ToolError
 from labeltools.common.text import Text
-from labeltools.designs import svg_page
-from labeltools.designs.svg_labels import SvgLabels
+from labeltools.designs import drawer
+from labeltools.designs.svg_layout import SvgLabels
 from labeltools.printing.job import planned, PrintOptions
 from labeltools.printing.press import labels_of, Prepared
 from laying import documents_of
@@ -31,7 +31,6 @@ ONE: Label = ("code128 A", {"title": "Title"})
 PICTURE = '<image x="2" y="2" width="5" height="5" href="data:image/{};base64,{}"/>' + CODE
 NOT_EMBEDDED = "is of another file, or is not PNG or JPEG; embed it"
 TO_PATHS = "export it as a picture, or with texts as paths"
-PIXELS = "takes too much, more than 25 million pixels in its pictures; make its pictures smaller"
 HIDDEN = "the place title is hidden, or has no size; give it a width and a height, and show its"
 
 
@@ -99,8 +98,6 @@ REFUSED = (
     (PICTURE.format("webp", "aGVsbG8="), f"image {NOT_EMBEDDED}"),
     (PICTURE.format("svg+xml", "PHN2Zy8+"), "an SVG is embedded as a picture; in Inkscape import"),
     (f'<image href="data:image/png,hello"/>{CODE}', f"image {NOT_EMBEDDED}"),
-    (PICTURE.format("png", png_of(20_000, 20_000)), PIXELS),
-    (PICTURE.format("png", png_of(4_000, 4_000)) * 2, PIXELS),
     (PICTURE.format("png", "iVBORw0KGgo="), "a picture is broken; embed it again"),
     ('<rect data-place="code, blod"/>', '"code, blod": "blod" is not understood; after the name'),
     ('<rect data-place="title, level=Q"/>', '"level=Q" is not understood; after the name of a t'),
@@ -131,7 +128,7 @@ PAGES: tuple[tuple[str, dict[str, Any], str], ...] = (
     (designs.PAGE, {"turn": True}, "is 60 by 40 mm, and a label is 40 by 60 mm; set the size of"),
     (designs.PAGE, {"edge": (5.0, 13.0, 5.0, 5.0)}, "the place title is at the edge of the paper"),
     ('viewBox="0 0 90 40"', {}, "is 90 by 40 without a unit, and a label is 60 by 40 mm; draw"),
-    ('width="60" height="40"', {"paper": None}, "has no size in millimetres; name the paper with"),
+    ('width="60" height="40"', {"paper": None}, "has no size in millimetres; choose its paper"),
 )
 # what is in a file that is no SVG, and what it is refused with
 FILES = (
@@ -202,7 +199,7 @@ class Refused(OwnPages):
         with self.assertRaisesRegex(ToolError, r"seat is not a rectangle \(text\)"):
             self.found(body, [("code128 A", {"text": {"Seat": "7"}})])
 
-    @mock.patch.object(svg_page, "PAGE_SECONDS", Share(1, Text("seconds")))
+    @mock.patch.object(drawer, "PAGE_SECONDS", Share(1, Text("seconds")))
     def test_what_takes_too_long_or_too_much_memory(self) -> None:
         blur = '<filter id="f"><feGaussianBlur stdDeviation="{}"/></filter>'
         for by in (1, 2):  # threads of the first one stay, and are not waited for
@@ -229,7 +226,7 @@ class Refused(OwnPages):
         with self.assertRaisesRegex(ToolError, "is not SVG: no element found"):
             planned(PrintOptions(paper=designs.PAPER, design=str(fifo)))
         for path, why in ((Path("none.svg"), "No such file"), (folder, "Is a directory")):
-            with self.assertRaisesRegex(ToolError, f"--design {path}: {why}"):
+            with self.assertRaisesRegex(ToolError, f"{path}: {why}"):
                 planned(PrintOptions(paper=designs.PAPER, design=str(path)))
 
 
@@ -253,7 +250,7 @@ class Names(OwnPages):
 
     def test_rectangles_with_one_name_are_said(self) -> None:
         body = f'<rect id="a" data-place="title" {WIDE}/><rect data-place="Title, bold" {WIDE}/>'
-        said = ": several rectangles are named title: name the second one title-2, or remove one"
+        said = ": several rectangles are named title; name the second one title-2, or remove one"
         self.assertIn(said, self.said(self.found(body + CODE)))
 
     def test_a_group_of_matplotlib_is_drawn(self) -> None:
@@ -362,9 +359,9 @@ class Names(OwnPages):
     def test_what_has_no_place_and_places_that_have_nothing_are_said_once(self) -> None:
         labels = [("code128 A", {"title": "a", "text": {"Seat": "1"}})] * 3
         found = self.found(f'<rect id="Saet" {WIDE}/>{CODE}', labels)
-        hint = "give such a column with label-table --text Saet, or remove the name"
+        hint = "choose such a column as a text of the table, or remove the name (--text Saet)"
         lost = " has no rectangle for title, Seat: not on the labels"
-        self.assertEqual(self.said(found), [lost, f": no label has anything for Saet: {hint}"])
+        self.assertEqual(self.said(found), [lost, f": no label has anything for Saet; {hint}"])
 
 
 class Texts(OwnPages):
@@ -437,7 +434,7 @@ class Texts(OwnPages):
         )
         fields = {"title": "a", "price": "1 €"}
         hint = "a label has a text for each: move them apart"
-        said = [f": the places title and price overlap: {hint}"]
+        said = [f": the places title and price overlap; {hint}"]
         either = [("code128 A", {"title": "a"}), ("code128 B", {"price": "1 €"})]
         for top, labels, wanted in (
             (9, [("code128 A", fields)], said),
@@ -771,7 +768,7 @@ class Drawings(OwnPages):
         for ends, options, is_cut in cases:
             found = self.said(self.found(bar.format(*ends), [("code128 A", {})], **options))
             cut = [line for line in found if "smaller than drawn" not in line]
-            wanted = [": the drawing is cut at the edge"] * is_cut
+            wanted = [": the drawing is cut at the edge; move it in (--edge, --shift)"] * is_cut
             self.assertEqual([line.split(": move")[0] for line in cut], wanted, (ends, options))
 
     def test_a_link_and_white_letters_are_drawn_in_a_pdf(self) -> None:
@@ -794,7 +791,7 @@ class Drawings(OwnPages):
     def test_edges_that_take_no_ink(self) -> None:
         found = self.found(TITLE.format(WIDE), edge=(5.0, 2.0, 2.0, 2.0))
         why = "the printer does not print there, at the edge of the page (--edge)"
-        self.assertEqual(self.said(found), [f": smaller than drawn: title, code: {why}"])
+        self.assertEqual(self.said(found), [f": smaller than drawn: title, code; {why}"])
         self.assertGreaterEqual(self.ink(found)[0], 5)
 
 
@@ -883,8 +880,8 @@ class Papers(OwnPages):
             ' transform="rotate(-90)"/>'
             '<rect id="code" x="1" y="20" width="46" height="18"/>'
         )
-        sheet: dict[str, Any] = {"columns": 2, "rows": 3, "edge": (0.0, 0.0, 0.0, 0.0)}
-        pages = ("pdf", "svg", "png", "pbm")
+        sheet: dict[str, Any] = {"grid": (2, 3), "edge": (0.0, 0.0, 0.0, 0.0)}
+        pages = ("pdf", "png", "pbm")
         cases: Sequence[tuple[str, dict[str, Any]]] = (
             *((form, {"paper": (60.0, 40.0)}) for form in (*pages, "zpl", "escpos")),
             *((form, {"paper": (40.0, 60.0)}) for form in (*pages, "zpl", "escpos")),

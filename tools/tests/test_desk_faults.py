@@ -12,7 +12,7 @@ import socket
 import time
 import unittest
 from pathlib import Path
-from typing import Any, Callable, Sequence
+from typing import Any, Sequence
 from unittest import mock
 
 import support
@@ -20,10 +20,9 @@ from desk import Desk, entry, labels_in, NULL, on_paper, PIPE, printed, Program,
 from jobs import CUT
 from labeltools.common.messages import ToolError
 from labeltools.common.text import Text
-from labeltools.sending import journal as journals
 from labeltools.sending.journal import Journal
 from labeltools.sending.network import NetworkPrinter
-from labeltools.sending.outlets import Unreachable
+from labeltools.sending.outlets import Broken, Unreachable
 from printers import BROKEN, LABEL, Printer
 
 SEED = 20
@@ -41,15 +40,15 @@ class Printers(Desk):
     """Printers that hang up, that talk, and those that have no name."""
 
     def test_what_is_broken_off_at_the_end(self) -> None:
-        """A connection that is reset says that bytes were thrown away."""
+        """A connection that is reset says that bytes were thrown away: those of the labels after
+        the printer has said that it has none left.
+        """
         printer = Printer(rude=True).start()
         done = printed("--print", printer.name)
         self.said(done, 1, "the printer broke off at the end: it took 30 labels whole; lines 1-30 ")
-        self.said(done, 1, "may be missing: .*, and print what follows it with --after N\n")
+        self.said(done, 1, "may be missing: .*, and go on \\(--after N\\)\n")
         done = printed("--print", printer.name, "--journal", self.path)
-        self.said(
-            done, 1, f"lines 1-30 may be .* is missing with --only ROWS --again {printer.name}\n"
-        )
+        self.said(done, 1, f"lines 21-30: may be missing, sent to {printer.name}: look there\n")
 
     def test_a_stream_to_one_that_hangs_up(self) -> None:
         """Its system takes each label, and it reads none."""
@@ -57,7 +56,7 @@ class Printers(Desk):
         done = printed("--stream", "--print", printer.name, "--journal", self.path)
         words = [line.split()[0] for line in done.stderr.decode().splitlines()]
         self.assertEqual(words, ["doubtful"] * 30)
-        self.assertEqual(self.events(), ["sending"] * 30)
+        self.assertEqual(self.events(), ["sent"] * 30)
         self.assertEqual(printer.labels, [])
 
     def test_a_label_that_takes_longer_than_a_printer_may_rest(self) -> None:
@@ -69,6 +68,16 @@ class Printers(Desk):
             outlet.send(b"\0" * 300_000)
             outlet.close()
         self.assertGreater(printer.pieces, 100)
+
+    def test_a_label_that_is_taken_without_end(self) -> None:
+        """Some bytes each few seconds: the wait ends all the same."""
+        printer = Printer().start()
+        outlet = NetworkPrinter(printer.name, stuck=50.0)
+        outlet.open().setsockopt(socket.SOL_SOCKET, socket.SO_SNDBUF, 4096)  # on their way at most
+        clock = mock.Mock(monotonic=lambda: 20.0 * printer.pieces, sleep=time.sleep)
+        with mock.patch("labeltools.sending.outlets.time", clock):
+            with self.assertRaisesRegex(Broken, "takes the label too slowly"):
+                outlet.send(b"\0" * 1_000_000)
 
     def test_what_a_variable_without_a_value_leaves_empty(self) -> None:
         for word in ("--journal", "--again", "--only-code"):
@@ -84,7 +93,7 @@ class Printers(Desk):
         while status and (before := len(printer.labels)) < 3:
             done = printed(*words, "--after", f"{before}", input=lines)
             status = done.returncode
-            after = re.findall("with --after ([0-9])", done.stderr.decode())
+            after = re.findall("--after ([0-9])", done.stderr.decode())
             self.assertTrue(all(int(number) > before for number in after), done.stderr)
         printer.wait(3)
         self.assertEqual(len(printer.labels), 3)
@@ -120,18 +129,17 @@ class Rows(Desk):
             (tables, []),
             (tables, chosen),
             (alike, []),
-            (alike, ["--unique"]),
             (copies, []),
         )
         for lines, words in cases:
             with self.subTest(words=words, lines=lines):
                 said = self.broken_off(lines, *words)
-                found = re.search(r"; ([^;]+) may be on paper: .* with --after (\d+) the", said)
+                found = re.search(r"; ([^;]+) may be on paper: .* \(--after (\d+)\)", said)
                 assert found is not None, said
                 rest = printed(*words, "--after", found[2], input=lines)
                 every = on_paper(printed(*words, input=lines))
                 self.assertEqual(on_paper(rest), every[int(found[2]) :])
-                first = f"--after {found[2]}: the first label is {found[1]}\n"
+                first = f"the first label is {found[1]}\n"
                 self.assertIn(first, rest.stderr.decode())
 
     def test_copies_that_are_on_paper(self) -> None:
@@ -155,24 +163,25 @@ class Rows(Desk):
         claims = [True, True, ToolError(Text("no space"))]
         with mock.patch.object(Journal, "claim", mock.Mock(side_effect=claims)):
             done = printed("--print", printer.name, "--journal", self.path)
-        self.said(done, 1, "at the end: it took 2 labels whole; lines 1-2 may be missing")
+        self.said(done, 1, "at the end: it took 2 labels whole\n")
 
     def test_labels_of_a_journal_in_several_tables(self) -> None:
-        """Those that may be missing are chosen by their codes."""
+        """Those that may be missing are chosen by their printer: several have the same row."""
         rows = [(f"qr {table}{row}", {"row": row}) for table in "AB" for row in (2, 3, 4, 5)]
         lines = support.file_of(rows[:4]).replace(b"articles.xlsx", b"A.csv")
         said = self.broken_off(lines + support.file_of(rows[4:]), "--journal", self.path)
         self.assertRegex(
-            said, r"A.csv, rows? 2.* may be missing: .* with --only-code @FILE --again t"
+            said, r"A.csv, rows? 2.*: may be missing, (.*\n)*.* --print tcp://\S+ --state printed\n"
         )
 
     def test_again_with_a_journal_that_is_full(self) -> None:
         """Here, too, the same command would print the first of them twice."""
         printed("--journal", self.path, input=TICKETS[:50])
-        size = Path(self.path).stat().st_size * 3 // 2  # the mark of line 3 is too much
         words = ("--journal", self.path, "--only", "1-5", "--again", "standard output")
-        done = self.begin(*words, code=f"limit({size})", stdout=PIPE).done()
-        self.said(done, 1, "writable; line 3 may be on paper: look there; with --after 2 the same")
+        marks = [None, None, ToolError(Text("no space"))]
+        with mock.patch.object(Journal, "write_taken", mock.Mock(side_effect=marks)):
+            done = printed(*words)
+        self.said(done, 1, "lines 1-3: may be missing, sent to standard output(.*\n)*.*--after 2")
 
     def test_a_signal_after_the_last_label(self) -> None:
         """Without a word it would look as if nothing had gone out."""
@@ -206,7 +215,7 @@ class Rows(Desk):
             done.clear()
             printed("--print", printer.name, "--journal", self.path)
             done.clear()
-            pattern = "line 5 .* not sent; .*with --after 2 the same command begins with it\n"
+            pattern = "line 5 .* not sent; .*go on with label 3 .--after 2.\n"
             self.said(printed("--print", printer.name, *again), 1, pattern)
 
     def test_labels_of_a_roll_on_a_full_disk(self) -> None:
@@ -216,7 +225,9 @@ class Rows(Desk):
         self.said(done, 1, "were not sent; the same command begins with it\n")
         with open(self.path, "wb") as output:
             done = self.begin(code="limit(3000)", stdout=output).done()
-        self.said(done, 1, "sent; with --after [1-9] and >> the same command begins with it\n")
+        self.said(
+            done, 1, "sent; go on with label [2-9] by the same command, with >> .--after [1-9].\n"
+        )
 
     def test_a_pipe_whose_reader_ends(self) -> None:
         """What it has not read is gone."""
@@ -225,47 +236,17 @@ class Rows(Desk):
         run.stdin.close()
         run.stdout.read(1)
         run.stdout.close()
-        self.assertRegex(run.stderr.read(), b"lines? 1.* may be missing: look at the last one")
+        self.assertRegex(
+            run.stderr.read(), b"lines? 1.* may be missing: look which label came out last"
+        )
 
     def test_rows_that_no_table_has(self) -> None:
         for rows in ("9-7", "0-", "0", "2,0-3", "00"):
             self.said(printed("--only", rows), 2, f"'{rows}': write rows as 2,7-9 or 7-")
 
 
-class Editors(Desk):
-    """Journals that another program has written."""
-
-    def done_again(self) -> "support.Finished[bytes]":
-        """Runs the same command once more: no label may go out."""
-        done = printed("--journal", self.path)
-        self.assertEqual(labels_in(done), [], done.stderr)
-        return done
-
-    def test_what_an_editor_leaves(self) -> None:
-        """Remarks and empty lines are nothing; what may hide a code is refused."""
-        printed("--journal", self.path)
-        journal = Path(self.path)
-        head, first, *lines = journal.read_bytes().splitlines()
-        time, _, code = first.rpartition(b"\t")
-        quoted = b'%b\t"%b"' % (time, code)
-        for changed, said in (
-            ([head, b"# remark", b"", first, *lines, b"", b""], ""),
-            ([head, first + b"\r", *lines, b""], "line 2"),
-            ([head, first + b" ", *lines, b""], "line 2"),
-            ([head, b'"%b"' % first, *lines, b""], "line 2"),
-            ([head, quoted, *lines, b""], "line 2"),
-            ([b"\xef\xbb\xbf" + head, first, *lines, b""], "journal is not a journal"),
-        ):
-            journal.write_bytes(b"\n".join(changed))
-            self.said(self.done_again(), int(bool(said)), said or "30 labels are in .* already")
-            self.assertEqual(journal.read_bytes(), b"\n".join(changed))
-
-    def test_a_journal_of_version_1_1_0(self) -> None:
-        """It has a UPC-A as its line has it."""
-        self.journal(entry("taken", "upca 036000291452"))
-        for code in (b"upca 03600029145", b"ean13 0036000291452"):
-            done = printed("--journal", self.path, input=code + b"\n")
-            self.said(done, 0, "^label-print: nothing to print: 1 label is in .* already\n$")
+class Files(Desk):
+    """What becomes of the file of a journal."""
 
     def test_blanks_at_the_end_of_a_code_are_its_own(self) -> None:
         lines = b"qr A\nqr A \nqr A  \n"
@@ -273,42 +254,29 @@ class Editors(Desk):
             done = printed("--journal", self.path, input=lines)
             self.assertEqual((done.returncode, len(labels_in(done))), (0, count), done.stderr)
 
-    def test_an_editor_that_leaves_out_the_last_line_end(self) -> None:
-        """The label of the last line is in doubt: a code may be cut."""
-        printed("--journal", self.path)
-        journal = Path(self.path)
-        lines = journal.read_bytes().splitlines()
-        for left in (lines, lines[:-1]):
-            journal.write_bytes(b"\n".join(left))
-            for _ in range(2):
-                said = "line 30: may be on paper, from standard output"
-                self.said(self.done_again(), 1, said)
-                self.assertEqual(journal.read_bytes().splitlines(), lines[:-1])
-
-    def test_an_editor_that_had_read_it_before(self) -> None:
-        """What was printed since then is not in the new file."""
-        journal = Journal(self.path, "tcp://a")
-        old = Path(self.path).read_bytes()
-        for record in self.records[:2]:
-            journal.claim(record)
-            journal.write_taken(record)
-        Path(self.folder, "new").write_bytes(old)
-        os.rename(f"{self.folder}/new", self.path)
-        with self.assertRaisesRegex(ToolError, "it lacks line 1, line 2, which the same command"):
-            journal.claim(self.records[2])
-
     def test_a_journal_that_goes_while_a_label_goes_out(self) -> None:
-        """The label was sent: nothing else may be said."""
+        """What follows it is not sent, until the file is there again."""
+        moved = f"{self.folder}/moved"
         with mock.patch(
-            "labeltools.sending.outlets.write_whole", lambda file, output: os.unlink(self.path)
+            "labeltools.sending.outlets.write_whole", lambda *_: os.rename(self.path, moved)
         ):
             done = printed("--journal", self.path)
-        self.said(done, 1, "it took 0 labels whole; line 1 may be on paper; it lacks line 1")
-        self.assertNotIn(b"not sent", done.stderr)
+        said = "journal: another program has changed it: line 2 and what follows it were not sent"
+        self.said(done, 1, f"{said}; put back the file that was there, ")
+        os.rename(moved, self.path)
+        done = printed("--journal", self.path)
+        self.assertEqual((done.returncode, len(labels_in(done))), (0, 29), done.stderr)
 
     def test_a_disk_without_locks(self) -> None:
-        error = OSError(errno.ENOLCK, "No locks available")
-        with mock.patch("fcntl.lockf", mock.Mock(side_effect=error)):
+        locks = (fcntl.F_OFD_SETLK, fcntl.F_OFD_SETLKW, fcntl.F_OFD_GETLK)
+        before = fcntl.fcntl
+
+        def without_locks(file: int, command: int, asked: int | bytes = 0) -> int | bytes:
+            if command in locks:
+                raise OSError(errno.ENOLCK, "No locks available")
+            return before(file, command, asked)
+
+        with mock.patch("fcntl.fcntl", without_locks):
             done = printed("--journal", self.path)
         self.said(done, 1, "No locks available; put the journal on a disk that locks files")
 
@@ -329,49 +297,30 @@ class Editors(Desk):
 class Lanes(Desk):
     """Lanes that end, and others that go on."""
 
-    def test_a_number_that_a_label_waits_with(self) -> None:
-        """A lane that takes it would make others believe that the label is being sent."""
-        journal = Journal(self.journal(entry("sending", "qr T00001")), "tcp://b")
-        self.assertEqual(journal.lane, 2)
+    def test_a_label_that_is_given_up(self) -> None:
+        """Others see so, though the run goes on."""
+        journal = Journal(self.journal(entry("sent", "qr T00001")), "tcp://b")
         self.assertTrue(journal.claim(self.records[1]))
         journal.give_up()
-        self.assertEqual(journal.lane, 3)
         done = support.run("label-print", *ROLL, "--journal", self.path, input=TICKETS)
-        self.said(done, 1, "line 1: may be on paper, from tcp://a")
-        self.said(done, 1, "line 2: may be on paper, from tcp://b")
+        self.said(done, 1, "line 1: may be missing, sent to tcp://a")
+        self.said(done, 1, "line 2: may be missing, sent to tcp://b")
         self.assertEqual(len(labels_in(done)), 28)
 
     def test_a_lane_that_is_stopped(self) -> None:
         """It may keep the journal: the other one says so, and goes on when it is free."""
         Journal(self.path, "tcp://a")
         other = self.holding()
-        with mock.patch("labeltools.sending.journal.STUCK", 0.2):
+        with mock.patch("labeltools.sending.database.WAIT", 0.2):
             done = printed("--journal", self.path)
         self.said(
-            done, 1, "another run has held it for 0 seconds; is that process stopped[?] continue it"
+            done,
+            1,
+            "journal: database is locked: line 1 and .*; is another run stopped[?] continue",
         )
         self.assertEqual(labels_in(done), [])
         other.stdin.close()
         self.assertEqual(len(labels_in(printed("--journal", self.path))), 30)
-
-    def test_too_many_lanes(self) -> None:
-        free = journals.FAR  # the byte that is locked to read and write
-        busy = mock.patch.object(Journal, "lock_if_free", lambda _, byte: byte == free)
-        with busy, self.assertRaisesRegex(ToolError, "64 runs print with it already"):
-            Journal(self.path, "tcp://a")
-
-    def test_a_disk_that_is_full_names_the_row(self) -> None:
-        done = printed("--journal", self.path, "--only", "1")
-        self.assertEqual(done.returncode, 0)
-        size = Path(self.path).stat().st_size
-        words = ("--journal", self.path)
-        done = self.begin(*words, code=f"limit({size})", stdout=PIPE).done()
-        self.said(
-            done, 1, "File too large: line 2 and what follows it were not sent; make it writable"
-        )
-        done = self.begin(*words, "--stream", code=f"limit({size})", stdout=PIPE).done(TICKETS[:20])
-        self.said(done, 1, "^known 1 qr T00001\nunsent 2 .*File too large; make it writable")
-        self.assertEqual(labels_in(done), [])
 
 
 class Reprints(Desk):
@@ -384,11 +333,8 @@ class Reprints(Desk):
         words = ("--journal", self.path, "--print", printer.name)
         done = printed(*words, "--only", "3-", "--again", "standard output")
         last, first = self.events_of(printer.name)
-        gone = (
-            f"lines 3-{last} may be missing: look there, and print what is missing with --only ROWS"
-        )
-        rest = f"line {first} may be on paper: look there; with --after {last - 2} the same command"
-        self.said(done, 1, f"{gone} --again {printer.name}; {rest}")
+        self.said(done, 1, f"lines 3-{first}: may be missing, sent to {printer.name}: look there")
+        self.said(done, 1, f"; go on with label {last - 1} .--after {last - 2}")
         thrown = len(printer.labels)
         done = printed(*words, "--only", f"3-{last}", "--again", printer.name)
         self.said(done, 1, f"{last - 2} labels printed by {printer.name}")
@@ -396,9 +342,13 @@ class Reprints(Desk):
 
     def events_of(self, printer: str) -> tuple[int, int]:
         """The lines of the last label that a printer took, and of the last that it was sent."""
-        lines = [line.split("\t") for line in Path(self.path).read_text().splitlines()[1:]]
-        found = {line[1]: int(line[4].split()[1]) for line in lines if line[3] == printer}
-        return found["taken"], found["sending"]
+        places = "SELECT place FROM labels JOIN runs ON run = number WHERE printer = ?"
+        taken = [
+            int(place.split()[1])
+            for (place,) in self.select(f"{places} AND state <> 'sent'", printer)
+        ]
+        sent = [int(place.split()[1]) for (place,) in self.select(places, printer)]
+        return max(taken), max(sent)
 
 
 class Streams(Desk):
@@ -411,7 +361,7 @@ class Streams(Desk):
         stream = self.begin("--stream", *words)
         self.assertRegex(stream.answer(b"qr T00001\n"), "^doubtful 1 .* broke off")
         printer.hangs_up = False
-        self.assertRegex(stream.answer(b"qr T00001\n"), "^doubtful 2 may be on paper, from")
+        self.assertRegex(stream.answer(b"qr T00001\n"), "^doubtful 2 may be missing, sent to")
         again = ("--only-code", "T00001", "--again", printer.name)
         done = support.run("label-print", *ROLL, *words, *again, input=TICKETS)
         self.said(done, 0, "1 label printed by")
@@ -435,7 +385,7 @@ class Streams(Desk):
                 end.close()
             stream.write(b"qr T00002\n")
             self.assertEqual(stream.wait(support.SECONDS), 1)
-        self.assertEqual(self.events(), ["sending", "taken"] * 2)
+        self.assertEqual(self.events(), ["printed"] * 2)
         self.assertEqual(len(printer.labels), 2)
 
     def test_nobody_reads_the_labels_any_more(self) -> None:
@@ -446,7 +396,7 @@ class Streams(Desk):
         said = "unsent 2 standard output: Broken pipe\n"
         self.assertEqual(stream.answer(b"qr B\n"), said)
         self.assertEqual(stream.wait(support.SECONDS), 1)
-        self.assertEqual(self.events(), ["sending", "taken"])
+        self.assertEqual(self.events(), ["taken"])
 
     @support.slow
     def test_a_signal_waits_for_the_answer(self) -> None:
@@ -478,9 +428,23 @@ class Streams(Desk):
             Path(fifo).write_bytes(line)
             self.assertRegex(stream.stderr.readline(), b"^" + pattern)
         size = stream_size(stream, fifo, b"qr E\n")
-        self.written(stream, fifo, b'#{"title":"of another"}\n')
         self.assertEqual(stream_size(stream, fifo, b"qr E\n"), size)
-        self.assertGreater(stream_size(stream, fifo, b'#{"title":"Stuhl"}\nqr E\n'), size)
+        self.assertGreater(stream_size(stream, fifo, b'#{"title":"Stuhl"} qr E\n'), size)
+
+    def test_programs_that_share_a_fifo(self) -> None:
+        """What one leaves there changes no label of another one, and is answered."""
+        fifo = self.fifo()
+        stream = self.begin("--stream", fifo)
+        size = stream_size(stream, fifo, b"qr E\n")
+        apart = b"a remark has to be on one line with its label here\n$"
+        with open(fifo, "wb", buffering=0) as first, open(fifo, "wb", buffering=0) as second:
+            for data in (b'#{"price":"0,01","copies":50}\n', b"#", b"qr E\n", b"qr E\n"):
+                (second if data.startswith(b"qr") else first).write(data)
+            for number in (2, 3):
+                self.assertRegex(stream.stderr.readline(), b"^refused %d " % number + apart)
+            word, number_of_line, size_of_last, *_ = stream.stderr.readline().split()
+        self.assertEqual((word, number_of_line), (b"taken", b"4"))
+        self.assertEqual(int(size_of_last), size)
 
     def test_labels_and_answers_that_are_read_late(self) -> None:
         """By streams that do not wait."""
@@ -511,30 +475,22 @@ class Streams(Desk):
         self.assertEqual(run.wait(support.SECONDS), 1)
         self.assertRegex(said, b"^label-print: the lines cannot be read: Connection reset by peer")
 
-    def test_a_journal_that_another_program_has_written_ends_it_with_an_answer(self) -> None:
-        changes: Sequence[tuple[Callable[[str], object], str]] = (
-            (os.unlink, "another program has changed"),
-            (printed_by_hand, "line 4 is not a line of a"),
-        )
-        for change, said in changes:
-            stream = self.begin("--stream", "--journal", self.path)
-            self.assertRegex(stream.answer(b"qr A\n"), "^taken 1 ")
-            change(self.path)
-            self.assertRegex(stream.answer(b"qr B\n"), f"^unsent 2 .*{said}")
-            self.assertEqual(stream.wait(support.SECONDS), 1)
+    def test_a_journal_that_another_program_has_written(self) -> None:
+        """Nothing is sent until the file is there again."""
+        stream = self.begin("--stream", "--journal", self.path)
+        self.assertRegex(stream.answer(b"qr A\n"), "^taken 1 ")
+        os.rename(self.path, f"{self.path}.old")
+        Path(self.path).touch()
+        self.assertRegex(stream.answer(b"qr B\n"), "^unsent 2 .*another program has changed it")
+        os.rename(f"{self.path}.old", self.path)
+        self.assertRegex(stream.answer(b"qr B\n"), "^taken 3 ")
 
     def test_a_label_that_is_drawn_wrongly(self) -> None:
-        """The stream ends with an answer, and status 3."""
+        """It is refused, as each later one is."""
         with mock.patch("labeltools.printing.press.zpl", lambda picture, copies: b"^XA^XZ\n"):
-            done = printed("--stream", input=TICKETS)
-        self.said(done, 3, r"\Aunsent 1 .*\n\Z")
+            done = printed("--stream", input=b"qr A\nqr B\n")
+        self.said(done, 1, r"\Arefused 1 line 1: .*\nrefused 2 line 2: .*\n\Z")
         self.assertEqual(done.stdout, b"")
-
-
-def printed_by_hand(path: str) -> None:
-    """Adds a line to a journal that is none."""
-    with open(path, "ab") as file:
-        file.write(b"printed by hand: B\n")
 
 
 def stream_size(stream: Program, fifo: str, lines: bytes) -> int:

@@ -1,4 +1,4 @@
-"""Lines of texts: glyphs are where Pango has them, and lines end alike in each form."""
+"""Lines of texts: they end alike in each form."""
 
 import random
 import tempfile
@@ -12,11 +12,8 @@ import support
 from designs import Label
 from labeltools.common.messages import Silence
 from labeltools.drawing.pen import Pen
-from labeltools.layout.fitting import Fitted, Fitter, LEFT, Placed, Style
-from labeltools.layout.glyphs import LINE_END
+from labeltools.layout.fitting import LINE_END, Placed
 from labeltools.layout.layout import LaidOut
-from labeltools.layout.letters import FONT, Letters, OTHER_FONT
-from labeltools.layout.pango import UNIT
 from labeltools.printing.job import planned, PrintOptions
 from labeltools.printing.press import labels_of
 from laying import documents_of
@@ -32,88 +29,6 @@ def lines_in(layout: Any) -> list[str]:
     written = layout.get_text().encode()
     parts = [(line.start_index, line.length) for line in layout.get_lines_readonly()]
     return [written[start : start + size].decode().rstrip(" " + LINE_END) for start, size in parts]
-
-
-def places_of(layout: Any) -> list[tuple[float, float]]:
-    """Where Pango has the letters of a layout, but spaces at the ends of its lines: line by line,
-    from its corner, on their base lines.
-    """
-    found = []
-    lines = layout.get_iter()
-    written = layout.get_text().encode()
-    while True:
-        line = lines.get_line_readonly()
-        _, logical = lines.get_line_extents()
-        part = written[line.start_index : line.start_index + line.length].decode()
-        index = line.start_index
-        for letter in part.rstrip(" "):
-            place = logical.x + line.index_to_x(index, False)
-            found.append((place / UNIT, lines.get_baseline() / UNIT))
-            index += len(letter.encode())
-        if not lines.next_line():
-            return found
-
-
-def places_in(text: Fitted) -> list[tuple[float, float]]:
-    """Where the glyphs of a text are from its corner."""
-    corner = text._replace(x=0, y=0)
-    return [place[1:] for row, x, y in corner.lines() for place in row.glyphs(x, y)]
-
-
-class Glyphs(unittest.TestCase):
-    """Texts as glyphs: each is where Pango has it."""
-
-    SIGNS = [chr(code) for code in (*range(0x20, 0x7F), *range(0xA1, 0x250), 0x20AC)]
-
-    def compare(self, is_dots: bool, texts: Sequence[tuple[str, Style, int]]) -> int:
-        """Compares texts that are drawn as glyphs, and returns how many these are."""
-        known = 0
-        by = Fitter(Letters(FONT), is_dots)
-        for text, style, width in texts:
-            found = by.by_glyphs(text, style, width, 10 * style.size)
-            if found is None:
-                continue
-            wanted = by.by_pango(text, style, width, 10 * style.size)
-            self.assertEqual(found[:4], wanted[:4], text)
-            pairs = zip(places_in(found), places_of(wanted.layout), strict=True)
-            for (x, y), (left, base) in pairs:
-                self.assertLess(max(abs(x - left), abs(y - base)), 0.05, text)
-            known += 1
-        return known
-
-    @support.slow
-    def test_rows_are_as_pango_parts_them(self) -> None:
-        chosen = random.Random(8)
-        texts = []
-        for number in range(300):
-            text = " ".join(chosen.choices(WORDS, k=chosen.randrange(1, 9)))
-            size, lines = chosen.randrange(40, 130), chosen.randrange(0, 4)
-            style = Style(FONT, bool(number % 2), size, lines, number % 3 - 1, 0.5, 0)
-            texts.append((text.replace(" ", "\n", number % 5 == 0), style, 100 * (3 + number % 20)))
-        self.assertGreater(self.compare(False, texts), 60)
-        self.assertGreater(self.compare(True, texts), 60)
-
-    @support.slow
-    def test_letters_of_all_kinds(self) -> None:
-        chosen = random.Random(7)
-        texts = []
-        for number in range(200):
-            letters = chosen.choices(self.SIGNS[: 95 if number % 2 else None], k=1 + number % 29)
-            style = Style(FONT, bool(number % 3), chosen.choice((37, 75, 214)), 0, LEFT, 0.0, 0)
-            texts.append(("".join(letters).strip(), style, 9000))
-        self.assertGreater(self.compare(False, texts), 100)
-        self.assertGreater(self.compare(True, texts), 100)
-
-    def test_letters_that_are_one_glyph_are_left_to_pango(self) -> None:
-        by = Fitter(Letters(FONT), False)
-        style = Style(FONT, True, 120, 1, LEFT, 0.0, 0)
-        for text in ("قلم", "鉛筆", "é̄", "a\u00adb"):
-            self.assertIsNone(by.by_glyphs(text, style, 9000, 900), text)
-        for text in ("Profi", "Stoff", "Pfiff"):
-            joined = style._replace(family=OTHER_FONT)
-            self.assertIsNone(by.by_glyphs(text, joined, 9000, 900), text)
-        for text in ("Tafel", "Größe", "2,5 kg"):
-            self.assertIsNotNone(by.by_glyphs(text, style, 9000, 900), text)
 
 
 class Drawn(unittest.TestCase):
@@ -142,7 +57,7 @@ class Drawn(unittest.TestCase):
 class OwnLines(unittest.TestCase):
     """Lines of texts in designs of a user's own: they end alike in each form, at any resolution."""
 
-    FORMS = ("pdf", "svg", "pbm")
+    FORMS = ("pdf", "pbm")
     SCRIPTS = (
         WORDS,
         "Müller & Söhne GmbH Obst und Gemüse Nord Molkerei Boskoop Karton A-12".split(),
@@ -193,7 +108,7 @@ class OwnLines(unittest.TestCase):
                 found = [self.lines(design, labels, form, dpi) for form in self.FORMS]
                 with self.subTest(across=across, dpi=dpi):
                     self.assertGreater(len(found[0]), 60)
-                    self.assertEqual(found[1:], [found[0]] * 2)
+                    self.assertEqual(found[1], found[0])
 
     def test_lines_of_a_pallet(self) -> None:
         text = {**designs.PALLET, "From": "Müller & Söhne GmbH, Obst und Gemüse"}
@@ -202,7 +117,7 @@ class OwnLines(unittest.TestCase):
         for form in self.FORMS:
             with self.subTest(form=form):
                 rows = self.lines(design, labels, form, 203)
-                self.assertEqual(rows, [["Müller & Söhne GmbH, Obst", "und Gemüse"]])
+                self.assertEqual(rows, [["Müller & Söhne GmbH,", "Obst und Gemüse"]])
 
 
 class TitleLines(unittest.TestCase):
@@ -219,8 +134,7 @@ class TitleLines(unittest.TestCase):
         drawn = []
         for item in found.labels:
             title = next(found.pens[0].texts(item)).text
-            rows = [len(row.numbers) for row in title.rows]
-            drawn.append(rows or [len(line) for line in lines_in(title.layout)])
+            drawn.append([len(line) for line in lines_in(title.layout)])
         return drawn
 
     def test_lines_end_alike(self) -> None:

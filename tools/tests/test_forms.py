@@ -1,4 +1,4 @@
-"""Every form has the same dots: PDF, SVG, PNG, PBM, ZPL and ESC/POS of the same lines at one dpi.
+"""Every form has the same dots: PDF, PNG, PBM, ZPL and ESC/POS of the same lines at one dpi.
 """
 
 import os
@@ -16,7 +16,7 @@ from labeltools.layout.layout import LaidOut
 from labeltools.printing.job import planned, PrintOptions
 from labeltools.printing.press import labels_of
 from laying import boxes_of
-from rendering import dots_of_svg, rendered
+from rendering import rendered
 
 LINES = (
     "ean13 400638133393",
@@ -53,7 +53,6 @@ def forms_of(data: bytes, dpi: int, *arguments: str) -> Iterator[tuple[str, jobs
     """The dots of a label in each form."""
     pdf = ["pdftoppm", "-r", str(dpi), "-mono", "FILE", "out"]
     yield "pdf", rendered(pdf, printed(data, "pdf", dpi, *arguments))
-    yield "svg", dots_of_svg(printed(data, "svg", dpi, *arguments), dpi)
     yield "png", rendered(["pngtopnm", "FILE"], printed(data, "png", dpi, *arguments))
     yield "pbm", jobs.pictures_of_pbm(printed(data, "pbm", dpi, *arguments))[0]
     yield "zpl", jobs.dots_of_zpl(printed(data, "zpl", dpi, *arguments))[0]
@@ -84,7 +83,7 @@ def modules_of(item: LaidOut) -> jobs.Dots:
 class SameDots(unittest.TestCase):
     def test_bars_are_the_modules_in_every_form(self) -> None:
         """Guards too: they go on below their bars, so the rows of the bars are whole."""
-        support.needs("pdftoppm", "rsvg-convert", "pngtopnm")
+        support.needs("pdftoppm", "pngtopnm")
         for line in LINES:
             for fields in MIXES:
                 data = support.file_of([(line, dict(fields))])
@@ -97,7 +96,7 @@ class SameDots(unittest.TestCase):
     def test_turned_labels(self) -> None:
         support.needs("pdftoppm")
         data = support.file_of([(LINES[0], {"title": "Seife", "price": "1,20 €"})])
-        shown = dict(forms_of(data, 203, "--turn"))
+        shown = dict(forms_of(data, 203, "--turn", "yes"))
         code = jobs.ink_of(shown["pbm"])
         for form, dots in shown.items():
             ink = jobs.ink_of(dots)

@@ -33,38 +33,12 @@ TABLE = "EAN;Name;Preis\n4006381333932;Stift;0,80\n96385074;Gummi;1E3\n400638133
 
 # of a message in capitals: what is in quotes, names of characters, and options with their values
 NO_WORDS = (
-    r"\"[^\"]*\"|[a-z -]+ \(U\+\w+\)|--[a-z-]+(?: (?:'.*?'|[a-z0-9]+))?(?:[ (A-Z)]+ OR [a-z]\w+)*"
+    r"\"[^\"]*\"|[a-z -]+ \(U\+\w+\)|--[a-z-]+(?: (?:'.*?'|[a-z0-9-]+))?(?:[ (A-Z)]+ OR [a-z]\w+)*"
 )
-# the texts that name options in words; in front of each is an option without which it is not said, none of which
-# a window gives, or `-` where a window says something else
-IN_WORDS = """after: --after {}: the first label is {}
-again: --again needs --journal and rows or codes
-again: --again: the journal has these printers: {}
-each: --each
-each: --each: the folder {} is not empty
-each: --each: two labels would be the file {}
--: --encoding {} is unknown
--: --fill-zeros, --without-check-digit and --symbology code128 or qr do not go together
-list-stock: --list-stock takes one WORD: put quotes around several
-only: --only names {}, which the input does not have
-only-code: --only-code names {}, which the input does not have
--: --price-as needs --price, --unit-price or --old-price
--: --price-text and --price-as do not go together
-print: --print: printers do not take {}
-stream: --stream prints each line
-variants-of: --variants-of needs --title
-print: CUPS prints an interrupted run again from its beginning; give --print tcp://HOST or /dev/usb/lp0
-cell: a grid needs --columns, --rows and --cell
-print: give --to pdf, zpl or escpos
-print, journal, stream: give --to zpl or escpos
-journal: give a file that label-print --journal has made, or a new name
-stream: leave out --only and --after
-again: name what to print again with --only or --only-code
-no-cut, dots: only for --to escpos
-columns, rows, page, margin, gap: only for a grid of --cell
-no code: the following arguments are required: --code
-each: {} and --each do not go together
-""".splitlines()
+# the texts that name an option, for those of commands alone
+NAMES_AN_OPTION = {
+    "the following arguments are required: --code",
+}
 
 
 def fields_of(text: str) -> list[str]:
@@ -143,23 +117,6 @@ def is_literal(node: ast.expr) -> bool:
     return isinstance(node, ast.Constant) and isinstance(node.value, str)
 
 
-def in_words() -> list[tuple[str, str]]:
-    """The texts that name options in words, each behind what it needs."""
-    return [(needs, text) for needs, _, text in (line.partition(": ") for line in IN_WORDS)]
-
-
-def texts_of_windows() -> set[str]:
-    """The texts in whose place a window says another one: `Text("…").in_window(…)`."""
-    found = set()
-    for path in sources():
-        for node in nodes_of(path):
-            if isinstance(node, ast.Attribute) and node.attr == "in_window":
-                inner = node.value
-                if isinstance(inner, ast.Call) and inner.args and is_literal(inner.args[0]):
-                    found.add(ast.literal_eval(inner.args[0]))
-    return found
-
-
 def remedies(is_shown: bool = False) -> set[str]:
     """The options that are remedies: `Remedy("dpi")`, `map(Remedy, ("edge", "shift"))`; or those
     alone for which a window has a button.
@@ -167,13 +124,15 @@ def remedies(is_shown: bool = False) -> set[str]:
     found = set()
     for path in sources():
         for node in nodes_of(path):
-            if isinstance(node, ast.Call) and getattr(node.func, "id", "") == "Remedy":
+            name = getattr(node.func, "id", "") if isinstance(node, ast.Call) else ""
+            if isinstance(node, ast.Call) and name == "Remedy":
                 if is_shown and len(node.args) < 3 and not node.keywords:
                     continue
-                options = [word for word in node.args[:1] if isinstance(word, ast.Constant)]
-                found |= {option.value for option in options}
-            elif isinstance(node, ast.Call) and getattr(node.func, "id", "") == "map":
-                if not is_shown and getattr(node.args[0], "id", "") == "Remedy":
+                found |= {word.value for word in node.args[:1] if isinstance(word, ast.Constant)}
+            elif isinstance(node, ast.Call) and name == "map" and not is_shown:
+                if getattr(node.args[0], "id", "") == "Remedy" and isinstance(
+                    node.args[1], ast.Tuple
+                ):
                     found |= {*ast.literal_eval(node.args[1])}
     return found
 
@@ -255,16 +214,14 @@ class German(unittest.TestCase):
             self.assertNotEqual(judged_of(other.replace(old, new, 1)), judged_of(text))
 
     def test_options_are_remedies(self) -> None:
-        """A text has them as remedies, which a window shows as buttons; those that name them in
-        words are only reached by commands and typed options, and may only become fewer.
-        """
+        """No text names an option: a command writes it behind the text, a window has a button."""
         support.needs("xgettext", "msgcat")
         named = {text for text in texts_of_tools() if "--" in text}
-        (of_journal,) = (text for text in named if "line of the journal" in text)
-        self.assertEqual(named - {of_journal}, {text for _, text in in_words()})
-        other = texts_of_windows()
-        for needs, text in in_words():
-            self.assertEqual(needs == "-", text in other, text)
+        self.assertEqual(named, NAMES_AN_OPTION)
+        for name, call, _ in calls():
+            fields = [field for field in call.args[1:] if isinstance(field, ast.Call)]
+            has = any("Remedy" in ast.unparse(field.func) for field in fields)
+            self.assertEqual(has, has and name == "messages.py", ast.unparse(call))
 
     def test_remedies_are_options(self) -> None:
         helps = support.help_of("label-table") + support.help_of("label-print")
@@ -381,7 +338,7 @@ class German(unittest.TestCase):
         for words, said in (
             ("label-table --cod EAN", "unbekannte Argumente: --cod"),
             ("label-table --code", "Argument --code: ein Wert fehlt"),
-            ("label-print --columns x", "Argument --columns: 'x': in der Form 3 schreiben"),
+            ("label-print --grid x", "Argument --grid: 'x': in der Form 3x8 schreiben"),
         ):
             tool, *arguments = words.split()
             ran = self.ran("de", support.TOOLS / tool, *arguments)
@@ -402,7 +359,7 @@ class German(unittest.TestCase):
             (4, "no data", "no data", ()),
             (99, "something new", "{}", ("something new",)),
         ):
-            text = refused_line(number, message).what
+            text = refused_line(number, message).problem.what
             self.assertEqual((str(text), text.template), (message, template))
             self.assertEqual(text.fields, fields)
 

@@ -4,18 +4,21 @@ named. The seed is fixed; the moments are those of the machine.
 
 import os
 import random
-import re
 import signal
+import sqlite3
 import sys
 import time
 import unittest
+from contextlib import suppress
 from pathlib import Path
 
 import desk
+import power
 import support
 from printers import LABEL, Printer
 
 KILLS = 100
+POWER_CUTS = 4
 TICKETS = 40
 SEED = 73
 ENDED = os.WEXITED | os.WNOHANG | os.WNOWAIT
@@ -28,6 +31,8 @@ def setUpModule() -> None:
 @support.slow
 class Kills(desk.Desk):
     """Two lanes are killed a hundred times."""
+
+    most = KILLS
 
     def setUp(self) -> None:
         super().setUp()
@@ -72,16 +77,22 @@ class Kills(desk.Desk):
 
     def count(self) -> int:
         """How many events the journal has."""
-        path = Path(self.path)
-        return path.read_bytes().count(b"\n") if path.exists() else 0
+        with suppress(sqlite3.Error):  # which is not made yet
+            return sum(1 + (state != "sent") for state in self.events())
+        return 0
+
+    def doubtful_lines(self) -> set[int]:
+        """The lines that the journal has as doubtful: a message names only the first of many."""
+        places = self.select("SELECT place FROM labels WHERE state != 'printed'")
+        return {int(place.removeprefix("line ")) for (place,) in places}
 
     def test_each_label_is_on_paper_once_or_named(self) -> None:
         support.printed(input=b"")  # all modules are there before the first lane begins
         batch = doubtful = 0
-        while self.kills < KILLS:
+        while self.kills < self.most:
             batch += 1
-            self.assertLess(batch, KILLS, "lanes end by themselves, before they are killed")
-            Path(self.path).unlink(missing_ok=True)
+            self.assertLess(batch, self.most, "lanes end by themselves, before they are killed")
+            self.remove()
             codes = [f"B{batch:02}-{number:03}" for number in range(TICKETS)]
             Path(self.lines).write_text("".join(f"qr {code}\n" for code in codes))
             printers = [Printer().start(), Printer().start()]
@@ -93,7 +104,7 @@ class Kills(desk.Desk):
             self.assertEqual(len(labels), len(set(labels)), "a label is there twice")
             wanted = support.printed(*self.words(printers[0])[:6], self.lines)
             missing = self.missing(wanted.stdout, labels)
-            said = named_lines(named)
+            said = power.named_lines(named) if " in all)" not in named else self.doubtful_lines()
             self.assertEqual(missing - said, set(), named)
             self.assertEqual(done.returncode, int(bool(said)), named)
             doubtful += len(said)
@@ -107,14 +118,28 @@ class Kills(desk.Desk):
         return {line for line, label in enumerate(found, 1) if label not in labels}
 
 
-def named_lines(said: str) -> set[int]:
-    """The lines that messages name as doubtful, such as `lines 1, 7-9`."""
-    found: set[int] = set()
-    for listed in re.findall(r"lines? ([0-9, -]+): may be on paper", said):
-        for part in listed.split(", "):
-            first, _, last = part.partition("-")
-            found.update(range(int(first), int(last or first) + 1))
-    return found
+@support.slow
+class Power(desk.Desk):
+    """The power of the computer and of the printer is cut."""
+
+    def test_what_was_in_the_memory_of_a_printer_is_named(self) -> None:
+        """By each later run, of runs and of streams; tools/tests/power.py cuts it more often."""
+        support.needs("gcc")
+        trial = power.Trial(self.folder, SEED)
+        for _, (is_stream, is_silent) in zip(range(POWER_CUTS), power.kinds()):
+            trial.cut(is_stream, is_silent)
+        found = trial.found
+        self.assertEqual((found.unnamed, found.twice, found.lost_after_all), (0, 0, 0), found.said)
+        self.assertEqual(found.said, [])
+        self.assertGreater(found.missing, 0)
+
+    def test_a_label_waits_for_the_disk_once(self) -> None:
+        """Where it takes long to sync, a printer of tickets would else wait for it."""
+        support.needs("gcc")
+        variables = power.synced_files(self.folder, self.path)
+        done = self.begin("--journal", self.path, stdout=desk.PIPE, variables=variables).done()
+        self.assertEqual((done.returncode, len(desk.labels_in(done))), (0, 30))
+        self.assertLess(len(Path(f"{self.path}.count").read_bytes()), 30 + 15)
 
 
 if __name__ == "__main__":

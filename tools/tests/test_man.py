@@ -9,10 +9,11 @@ from unittest import mock
 import support
 from labeltools.commands import label_print, label_table
 from labeltools.common import budget, report
-from labeltools.layout import area, frame
+from labeltools.layout import area, needs
 from labeltools.lines import file
 from labeltools.paper.sizes import A4
 from labeltools.printing import job
+from labeltools.printing.press import Press
 from labeltools.sending import network, outlets, stream, watch
 from labeltools.sheets import workbook
 
@@ -27,7 +28,7 @@ NAMED = re.compile(
 NUMBER = re.compile(r"LABELS_[A-Z0-9_]+")
 # Numbers of label-print(1) and of label-table(1) and (5), and what they are in the tools.
 NUMBERS = (
-    (r"svg, which take (\d+)", job.DRAWING_DPI),
+    (r"pdf, which takes (\d+)", job.DRAWING_DPI),
     (r"sheets are drawn at (\d+) dpi", job.DRAWING_DPI),
     (r"on a port \((\d+)\)", network.PORT),
     (r"no connection is made in (\d+) seconds", network.CONNECT),
@@ -39,7 +40,7 @@ NUMBERS = (
     (r"within (\d+) seconds if the FIFO", stream.LOOK),
     (r"drawing that takes (\d+) seconds", budget.PAGE_SECONDS.most(0)),
     (r"seconds or (\d+) MB", budget.PAGE_MEMORY.most(0) // budget.MILLION),
-    (r"the smallest \(([\d.]+)\)", frame.LEAST_TEXT),
+    (r"the smallest \(([\d.]+)\)", needs.LEAST_TEXT),
     (r"above 60 mm, at most ([\d.]+) mm", area.LARGEST_MODULE),
     (
         r"at most (nine) such messages",
@@ -55,7 +56,7 @@ NUMBERS = (
 )
 
 # What a page says of a status: the tool, its arguments, its lines, and words of that paragraph.
-ROLL, CODE = ("--paper", "60x40", "--to", "svg"), ("--code", "EAN")
+ROLL, CODE = ("--paper", "60x40", "--to", "pdf"), ("--code", "EAN")
 STATUSES = (
     ("labels", (), "ean8 7351353\n", 0, "No line was refused"),
     ("labels", (), "ean8 1\n", 1, "one line was refused"),
@@ -103,12 +104,21 @@ class Pages(unittest.TestCase):
             self.assertIn("--help", options, tool)
             self.assertEqual([option for option in options if option not in text], [], tool)
 
+    def test_each_form_is_described(self) -> None:
+        paragraph = (
+            text_of("label-print.1").partition('.BI --to " FORM"\n')[2].partition("\n.TP")[0]
+        )
+        parser = label_print.print_parser()
+        [forms] = [option.choices or () for option in parser._actions if option.dest == "to"]
+        self.assertIn("escpos", forms)
+        self.assertEqual([form for form in forms if not re.search(rf"\b{form}\b", paragraph)], [])
+
     def test_defaults_are_those_of_the_parsers(self) -> None:
         """What a page and the help of a tool say of an option that is left out."""
         support.needs("mandoc")
         named = {
             "--edge": job.EDGE,
-            "--page": A4,
+            "--paper": A4,
             "--gap": job.NO_GAP,
             "--dots": job.RECEIPT_DOTS,
             "--to": "pdf",
@@ -130,7 +140,9 @@ class Pages(unittest.TestCase):
         self.assertEqual(defaults_of("labels.1"), dict(helps))
 
     def test_statuses_are_those_of_the_tools(self) -> None:
-        """The last of label-print is that of a fault: its modules are not drawn."""
+        """The last of label-print is that of a fault: its modules are not drawn, and no label is
+        found whose fault that is.
+        """
         support.needs("mandoc")
         for tool, words, lines, status, said in STATUSES:
             page = shown(f"{tool}.1").partition("\nEXIT STATUS\n")[2].partition("\nEXAMPLES\n")[0]
@@ -138,6 +150,7 @@ class Pages(unittest.TestCase):
             with ExitStack() as stack:
                 if status == 3 and tool == "label-print":
                     stack.enter_context(mock.patch("labeltools.drawing.pen.Pen.draw_modules"))
+                    stack.enter_context(mock.patch.object(Press, "wrong_labels", return_value={}))
                 if tool == "labels":
                     done = support.run(support.labels_program(), *words, input=lines.encode())
                 else:

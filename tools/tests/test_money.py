@@ -1,6 +1,6 @@
 """Every price of prices_right.txt is one, with its value, and no text of prices_wrong.txt is one.
 
-A line without a value is right, but needs --price-text: the grammar says so. `~`, `^` and `_` are
+A line without a value is right, but needs --price-as text: the grammar says so. `~`, `^` and `_` are
 spaces of Unicode.
 """
 

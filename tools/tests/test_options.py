@@ -7,7 +7,6 @@ import re
 import subprocess
 import tempfile
 import unittest
-from dataclasses import replace
 from pathlib import Path
 from typing import Any
 
@@ -18,6 +17,7 @@ import jobs
 import support
 from labeltools.drawing.dots import drawn_page
 from labeltools.drawing.pen import bits_of
+from labeltools.layout.layout import LaidOut
 from laying import boxes_of, laid_out
 from reading import fault_in
 
@@ -62,7 +62,7 @@ class Rows(unittest.TestCase):
     def test_only(self) -> None:
         codes = [line.split()[1] for line, _ in SHELF]
         self.assertEqual(self.zpl("--only", "3,5-6"), (0, [codes[1], *codes[3:5]], []))
-        said = ["--only names rows 20-21, which the input does not have"]
+        said = ["the input does not have rows 20-21 (--only)"]
         self.assertEqual(self.zpl("--only", "2,20-21"), (1, codes[:1], said))
         plain = b"# remark\n\nean8 7351353\nean8 9638507\n"
         self.assertEqual(self.zpl("--only", "4", data=plain), (0, ["96385074"], []))
@@ -162,7 +162,7 @@ class Rows(unittest.TestCase):
 
 
 class Cells(unittest.TestCase):
-    GRID = ("--columns", "2", "--rows", "2", "--cell", "60x40", "--to", "pbm", "--dpi", "150")
+    GRID = ("--grid", "2x2", "--cell", "60x40", "--to", "pbm", "--dpi", "150")
 
     def pages(self, *arguments: str) -> list[jobs.Dots]:
         """The pages of a grid."""
@@ -183,7 +183,9 @@ class Cells(unittest.TestCase):
         done = support.printed(*self.GRID, "--first", "5", input=support.file_of(SHELF))
         self.assertEqual((done.returncode, done.stdout), (2, b""))
         done = support.printed("--paper", "60x40", "--first", "3", input=support.file_of(SHELF))
-        self.assertEqual(done.stderr, b"label-print: --first 3: a page has 1 label\n")
+        self.assertEqual(
+            done.stderr, b"label-print: a page has 1 label: begin with one of them (--first)\n"
+        )
 
     def test_a_design_by_its_name(self) -> None:
         """One of those that come with the tools is found without its folder."""
@@ -208,7 +210,7 @@ class Cells(unittest.TestCase):
         left, top, right, bottom = jobs.ink_of(self.pages()[0])
         moved = jobs.ink_of(self.pages("--shift=2.54,-5.08")[0])
         self.assertEqual(moved, (left + 15, top - 30, right + 15, bottom - 30))
-        page = ("--page", "120x80", "--edge", "12.7")
+        page = ("--paper", "120x80", "--edge", "12.7")
         left, top, right, bottom = jobs.ink_of(self.pages(*page)[0])
         self.assertGreaterEqual(min(left, top), 75)
         self.assertLessEqual((right, bottom), (709 - 75, 472 - 75))
@@ -217,20 +219,20 @@ class Cells(unittest.TestCase):
         for bad in (
             (),
             ("--stock", "l7160", "--paper", "60x40"),
-            ("--columns", "2"),
+            ("--grid", "2x2"),
             ("--paper", "60"),
             ("--paper", "0x40"),
             ("--paper", "60x40", "--to", "zpl"),
             ("--paper", "60x40", "--only", "x"),
             ("--paper", "60x40", "--shift", "1"),
             ("--paper", "60x40", "--dpi", "0"),
-            ("--columns", "9", "--rows", "1", "--cell", "60x40"),
+            ("--grid", "9x1", "--cell", "60x40"),
             ("--paper", "60x40", "one.lines", "two.lines"),
-            ("--paper", "210x297", "--columns", "3", "--rows", "7"),
+            ("--paper", "210x297", "--grid", "3x7"),
             ("--stock", "l7160", "--gap", "1x0"),
             ("--paper", "60x40", "--margin", "1x1"),
-            ("--stock", "l7160", "--page", "200x297"),
-            ("--paper", "60x40", "--page", "210x297"),
+            ("--stock", "l7160", "--cell", "63x38"),
+            ("--paper", "60x40", "--cell", "50x30"),
             ("--stock", "l7160", "--gap", "0x0"),
             ("--paper", "60x40", "--dots", "384"),
             ("--paper", "60x40", "--dots", "576"),
@@ -305,16 +307,28 @@ class Files(unittest.TestCase):
         self.assertEqual(
             found[:2] + found[3:], ["4006381333931", "73513537", "SHELF-7", "https://example.com/7"]
         )
-        done = self.each("data/%s.svg", EVERY.encode())
+        done = self.each("data/%s.pdf", EVERY.encode())
         self.assertEqual(done.returncode, 0, done.stderr)
         names = [
-            "036000291452.svg",
-            "4006381333931.svg",
-            "73513537.svg",
-            "SHELF-7.svg",
-            "https___example.com_7.svg",
+            "036000291452.pdf",
+            "4006381333931.pdf",
+            "73513537.pdf",
+            "SHELF-7.pdf",
+            "https___example.com_7.pdf",
         ]
         self.assertEqual(sorted(os.listdir(self.folder / "data")), names)
+
+    def test_the_end_of_the_name_says_the_form(self) -> None:
+        for name, start in (("a/%d.PDF", b"%PDF"), ("b/%d.zpl", b"^XA"), ("c/2.5-%d", b"%PDF")):
+            self.each(name, b"ean8 7351353\n")
+            (written,) = (self.folder / name[0]).iterdir()
+            self.assertTrue(written.read_bytes().startswith(start), name)
+        done = self.each("d/%d.svg", b"ean8 7351353\n")
+        self.assertEqual(done.returncode, 2)
+        self.assertIn(b"not written as .svg: end the name in one of .pdf, .png", done.stderr)
+        self.assertFalse((self.folder / "d").exists())
+        done = self.each("d/%d.svg", b"ean8 7351353\n", "--to", "png")
+        self.assertEqual(done.returncode, 0, done.stderr)
 
     def test_names_that_come_twice(self) -> None:
         for code, other in (("a/b", "a:b"), ("A", "a"), ("x" * 100 + "1", "x" * 100 + "2")):
@@ -342,9 +356,9 @@ class Files(unittest.TestCase):
         self.assertIn(b"is not empty", done.stderr)
         self.assertEqual(os.listdir(self.folder), ["old.png"])
         done = support.printed("--paper", "60x40", "--each", "%d.pdf", input=b"ean8 7351353\n")
-        self.assertIn(b"name a folder", done.stderr)
+        self.assertIn(b"need a folder: name one", done.stderr)
 
-    def test_png_and_svg(self) -> None:
+    def test_png(self) -> None:
         support.needs("pngtopnm", "pamfile")
         data = b"ean13 400638133393\n"
         done = support.printed("--paper", "60x40", "--dpi", "300", "--to", "png", input=data)
@@ -352,15 +366,10 @@ class Files(unittest.TestCase):
         shown = subprocess.run(["pngtopnm"], input=done.stdout, capture_output=True)
         self.assertEqual((shown.stdout, shown.stderr), (pbm, b""))
         self.assertIn(b"pHYs" + (11811).to_bytes(4, "big") * 2 + b"\1", done.stdout)
-        svg = support.printed("--paper", "60x40", "--to", "svg", input=data).stdout.decode()
-        self.assertNotIn("<image", svg)
-        self.assertIn('width="170', svg)
-        for form in ("svg", "png"):
-            done = support.printed(
-                "--paper", "60x40", "--dpi", "300", "--to", form, input=EVERY.encode()
-            )
-            self.assertEqual((done.returncode, done.stdout), (1, b""))
-            self.assertIn(b"a file of each with --each", done.stderr)
+        words = "--paper 60x40 --dpi 300 --to png".split()
+        done = support.printed(*words, input=EVERY.encode())
+        self.assertEqual((done.returncode, done.stdout), (1, b""))
+        self.assertIn(b"has only one page: print fewer labels", done.stderr)
 
 
 class ReadBack(unittest.TestCase):
@@ -368,7 +377,7 @@ class ReadBack(unittest.TestCase):
         laid = laid_out(b"ean13 400638133393\nean13 501234567890\n", (60.0, 40.0), 300)
         first, second = laid.labels
         symbol = first.symbols[0]._replace(modules=second.record.modules)
-        wrong = replace(first, symbols=(symbol,))
+        wrong = LaidOut(first.record, (symbol,), first.texts)
         self.assertIsNone(laid.fault(first))
         self.assertEqual(laid.fault(wrong), "place code: as drawn it is read as b'5012345678900'")
 

@@ -4,6 +4,7 @@ out.
 No test here looks into label-print, so $TOOLS may name the folder of other tools.
 """
 
+import io
 import os
 import re
 import signal
@@ -13,11 +14,16 @@ import unittest
 from pathlib import Path
 from typing import Any, Iterator, NamedTuple, Sequence
 
+import cairo
 import numpy
 import zxingcpp
 
 import jobs
 import support
+from labeltools.common.messages import Silence
+from labeltools.printing.job import planned, PrintOptions
+from labeltools.printing.press import labels_of
+from labeltools.window.preview import Preview
 
 EAN = "ean13 400638133393"
 QR = "qr https://example.com/7"
@@ -96,7 +102,7 @@ def roll(size: tuple[float, float], dpi: int, *arguments: str) -> list[str]:
 def sheet(size: tuple[float, float], dpi: int, *arguments: str) -> list[str]:
     """The arguments for a page of one cell."""
     whole = f"{size[0]:g}x{size[1]:g}"
-    grid = ["--cell", whole, "--page", whole, "--columns", "1", "--rows", "1", "--edge", "0"]
+    grid = ["--cell", whole, "--paper", whole, "--grid", "1x1", "--edge", "0"]
     return [*grid, "--dpi", str(dpi), *arguments]
 
 
@@ -307,7 +313,8 @@ class Together(unittest.TestCase):
         together = words_of(printed([*usual, wide], *arguments))
         for number in range(10):
             word = f"1{number},95"
-            self.assertEqual(size_of(together[number], word), size_of(without[number], word))
+            size = size_of(without[number], word)
+            self.assertGreaterEqual(size_of(together[number], word), size)
         self.assertLess(size_of(together[10], "12.999,00"), size_of(without[0], "10,95"))
         self.assertEqual(
             said([*usual, wide], *arguments), ["row 12: a wide price is smaller than the others"]
@@ -458,10 +465,15 @@ class Forms(unittest.TestCase):
             self.assertTrue(below[place].all(), (name, guard))
             self.assertFalse(below[place.start - 1] or below[place.stop], (name, guard))
 
-    def test_guards_of_svg_are_one_piece(self) -> None:
-        """A guard that begins where its bar ends has a light line between them on a screen."""
-        svg = printed([(EAN, PRICED)], *roll((80.0, 50.0), 300, "--to", "svg")).decode()
-        svg = "\n".join(line for line in svg.splitlines() if "rgb(100%" not in line)
+    def test_guards_on_a_screen_are_one_piece(self) -> None:
+        """A guard that begins where its bar ends has a light line between them."""
+        job = planned(PrintOptions(paper=(80.0, 50.0), dpi=300))
+        labels = labels_of(job, "lines", support.file_of([(EAN, PRICED)]), Silence())
+        file = io.BytesIO()
+        with cairo.SVGSurface(file, 80, 50) as surface:
+            Preview(labels).draw(cairo.Context(surface), 1)
+        lines = file.getvalue().decode().splitlines()
+        svg = "\n".join(line for line in lines if "fill:rgb(0%" in line)
         path = r"M ([0-9.]+) ([0-9.]+) L ([0-9.]+) \2 L \3 ([0-9.]+) L \1 \4 Z"
         found = {tuple(map(float, match)) for match in re.findall(path, svg)}
         bars = {(left, right): (top, bottom) for left, top, right, bottom in sorted(found)}
@@ -496,12 +508,12 @@ class Turned(unittest.TestCase):
         for line in (*LINES, QR):
             labels: list[Label] = [(line, PRICED)]
             arguments = roll((50.0, 90.0), 203)
-            (turned,) = pictures(labels, *arguments, "--turn")
+            (turned,) = pictures(labels, *arguments, "--turn", "yes")
             box = bars_in(numpy.rot90(turned), line)
             self.assertIsNotNone(box, line)
             sizes = []
-            for option in ("--turn", "--no-turn"):
-                pdf = printed(labels, *arguments, option)
+            for turn in ("yes", "no"):
+                pdf = printed(labels, *arguments, "--turn", turn)
                 sizes.append(re.findall(rb"/MediaBox \[ ([0-9. ]+) \]", pdf))
             self.assertEqual(sizes[0], sizes[1])
 
@@ -509,7 +521,7 @@ class Turned(unittest.TestCase):
         line = "code128 ABCDEFGHIJKLMNOPQ"
         (turned,) = pictures([(line, PRICED)], *roll((36.0, 89.0), 300))
         self.assertIsNotNone(bars_in(numpy.rot90(turned), line))
-        done = run([(line, PRICED)], *roll((36.0, 89.0), 300, "--no-turn"))
+        done = run([(line, PRICED)], *roll((36.0, 89.0), 300, "--turn", "no"))
         self.assertEqual((done.returncode, done.stdout), (1, b""))
 
 
@@ -519,9 +531,9 @@ class Shelf(unittest.TestCase):
     def test_unit_price_and_old_price(self) -> None:
         pdf = printed([(EAN, {"title": "Seife", **FULL})], *roll((105.0, 74.0), 600))
         words = [word[0] for word in words_of(pdf)[0]]
-        for word in ("14,95", "12,80", "2"):
+        for word in ("14,95", "12,", "80", "2"):  # its cents are raised
             self.assertIn(word, words)
-        self.assertLess(size_of(words_of(pdf)[0], "14,95"), size_of(words_of(pdf)[0], "12,80"))
+        self.assertLess(size_of(words_of(pdf)[0], "14,95"), size_of(words_of(pdf)[0], "12,"))
 
     def test_the_old_price_is_struck_through_and_no_other(self) -> None:
         """`€` has three bytes and is one letter: the line ends below it."""
@@ -546,7 +558,7 @@ class Shelf(unittest.TestCase):
         self.assertEqual((done.returncode, done.stderr), (0, b""))
         done = support.run("label-print", *roll((60.0, 40.0), 600), input=done.stdout)
         words = [word[0] for word in words_of(done.stdout)[0]]
-        self.assertTrue({"3,95", "5,90", "2,95"} <= set(words), words)
+        self.assertTrue({"3,95", "5,90", "2,"} <= set(words), words)  # its cents are raised
 
     def test_a_note_is_on_each_label(self) -> None:
         labels: list[Label] = [(EAN, PRICED), (EAN, {**PRICED, "text": ["rot"]})]
@@ -614,10 +626,10 @@ class Users(unittest.TestCase):
     def test_too_much(self) -> None:
         """Cells, copies and pages have bounds, with a message and without much memory."""
         label = support.file_of([("ean8 7351353", {})])
-        cells = ("--cell", "1x1", "--columns", "9999", "--rows", "9999", "--page", "9999x9999")
+        cells = ("--cell", "1x1", "--grid", "9999x9999", "--paper", "9999x9999")
         copies = support.file_of([("ean8 7351353", {"copies": 9999})] * 101)
         for data, arguments, what in (
-            (label, cells, "the maximum is 10,000; give fewer"),
+            (label, cells, "the maximum is 10,000; take fewer"),
             (copies, self.ROLL, "the maximum is 1,000,000;"),
         ):
             script = 'ulimit -v 600000 -t 60; exec "$@"'

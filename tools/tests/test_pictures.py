@@ -1,4 +1,4 @@
-"""The labels that docs/PRINTING.md shows: each is laid out without a fault, and two readers read
+"""The labels that designs/README.md shows: each is laid out without a fault, and two readers read
 it.
 """
 

@@ -1,6 +1,7 @@
 """What a window needs: pages by their number, one document saved whole, and an end on request."""
 
 import os
+import subprocess
 import tempfile
 import unittest
 from pathlib import Path
@@ -75,7 +76,8 @@ class Pages(unittest.TestCase):
         (record,) = found.left_out
         self.assertEqual(record.origin, Origin("articles.xlsx", "row", 3))
         self.assertEqual(
-            (record.data, str(record.reason)), ("4006381333932", "check digit is 2, should be 1")
+            (record.data, str(record.problem.what)),
+            ("4006381333932", "check digit is 2, should be 1"),
         )
 
     def test_work_that_is_stopped_leaves_no_file(self) -> None:
@@ -98,6 +100,25 @@ class Pages(unittest.TestCase):
         again = b"".join(documents_of(found))
         self.assertTrue(again == written and written)
         self.assertEqual(len(found.labels), 30)
+
+    def test_a_viewer_prints_a_page_in_its_own_size(self) -> None:
+        """By default it fits pages to the paper."""
+        support.needs("mutool", "qpdf")
+        with tempfile.TemporaryDirectory() as folder:
+            path = Path(folder, "labels.pdf")
+            save_to(self.found, path, Silence())
+            words = ["mutool", "show", str(path), "trailer/Root/ViewerPreferences"]
+            shown = subprocess.run(words, capture_output=True, check=True).stdout
+            self.assertEqual(b"".join(shown.split()), b"<</PrintScaling/None>>")
+            checked = subprocess.run(["qpdf", "--check", path], capture_output=True, check=True)
+            self.assertIn(b"No syntax or stream encoding errors", checked.stdout)
+
+    def test_zpl_does_not_depend_on_what_others_have_set(self) -> None:
+        """Its unit, a turn, a mirror, dots that are doubled, where it begins."""
+        roll = planned(PrintOptions(paper=(60.0, 40.0), dpi=203, to="zpl"))
+        for label in documents_of(labels_of(roll, "lines", self.data, Silence())):
+            head, _, _ = label.partition(b"^PW")
+            self.assertEqual(head, b"^XA^MUD^PON^PMN^JMA^LH0,0^LS0")
 
 
 if __name__ == "__main__":

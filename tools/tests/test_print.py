@@ -130,7 +130,7 @@ class Sheets(unittest.TestCase):
         for number, cell in enumerate(cells):
             paths.append(Path(FOLDER.name, f"{stock}-{renderer}-{dpi}-{number}.pbm"))
             # zbar takes long for a whole cell: a part of it has the bars too
-            paths[-1].write_bytes(jobs.pbm_of(cell[len(cell) * 2 // 5 : len(cell) * 3 // 5]))
+            paths[-1].write_bytes(jobs.pbm_of(cell[len(cell) // 2 : len(cell) * 4 // 5]))
         return [[read(cell).decode() for cell in cells], support.read_codes(*paths)]
 
     def test_programs_find_nothing_wrong(self) -> None:
@@ -169,15 +169,18 @@ class Sheets(unittest.TestCase):
             line
             for line in support.draw(shelf(1)[0][0] + "\n", "--height", "1")[0].decode().split()[3:]
         ]
-        wanted = numpy.array([int(bit) for bit in "".join(modules)], dtype=numpy.int8).repeat(16)
+        bits = numpy.array([int(bit) for bit in "".join(modules)], dtype=numpy.int8)
         for renderer, away in (
             ("poppler", 0),
             ("ghostscript", 0),
             ("mupdf", 2),
         ):  # 2: each is within a dot
             cell = cells_of("Avery L7160", rendered(pdf, renderer, 1200), 1200)[0]
-            row = cell[len(cell) // 2].astype(numpy.int8)
-            left = int(row.nonzero()[0][0]) - 11 * 16
+            row = cell[len(cell) * 2 // 3].astype(numpy.int8)
+            inked = row.nonzero()[0]
+            module = round((inked[-1] + 1 - inked[0]) / 95)
+            wanted = bits.repeat(module)
+            left = int(inked[0]) - 11 * module
             found = self.edges(row[left : left + len(wanted)])
             self.assertEqual(len(found), len(self.edges(wanted)), renderer)
             self.assertLessEqual(int(numpy.ptp(found - self.edges(wanted))), away, renderer)
@@ -246,7 +249,7 @@ class Printers(unittest.TestCase):
                 self.assertEqual([read(label).decode() for label in labels], codes, (paper, dpi))
                 if (paper, dpi) == ("60x40", 203):
                     self.assertLessEqual(
-                        max(map(len, re.findall(rb"\^XA.*?\^XZ\n", job, re.DOTALL))), 8192
+                        max(map(len, re.findall(rb"\^XA.*?\^XZ\n", job, re.DOTALL))), 10240
                     )
                 escpos = jobs.dots_of_escpos(self.job(paper, dpi, "escpos")[1])
                 pictures = jobs.pictures_of_pbm(self.job(paper, dpi, "pbm")[1])

@@ -8,14 +8,14 @@ import signal
 import socket
 import subprocess
 import tempfile
-import threading
 import time
 import unittest
 from concurrent.futures import ThreadPoolExecutor
-from contextlib import suppress
+from dataclasses import replace
 from desk import unread
 from pathlib import Path
-from typing import Any, Callable, Iterator, Sequence
+from types import MappingProxyType
+from typing import Any, Callable, Iterator, Mapping, Sequence
 from unittest import mock
 
 import cups
@@ -27,12 +27,12 @@ import support
 from drivers import Bars, bars_of, shift_of, with_end
 from jobs import Dots, JobError
 from labeltools.common.messages import ToolError
+from labeltools.common.text import NOTHING
 from labeltools.lines.symbologies import SYMBOLOGIES
 from labeltools.printing.job import planned, PrintOptions
-from labeltools.sending import ipp
 from labeltools.sending.cups import queues
 from labeltools.sending.driver import dots_of, dpi_of
-from labeltools.sending.job import ABORTED, own_jobs, SentJob, UnknownJob
+from labeltools.sending.job import JobState, PROCESSING, SentJob, UnknownJob
 from labeltools.sending.papers import Papers, papers_of_driver
 from labeltools.sending.queue import lp_line, media_of, Queue, queue_of
 from laying import laid_out, look
@@ -178,6 +178,11 @@ class Heads(unittest.TestCase):
                     ):
                         papers.paper(name, (wide, length))
 
+    def test_a_head_that_is_narrower_than_each_tape(self) -> None:
+        """The file of PT-PC has one of 3 bytes, which no printer of tapes has."""
+        papers = self.papers(68, 3, 180)
+        self.assertAlmostEqual(papers.paper("PT-PC", (20.0, 50.0)).size[0], 20.0)
+
     def test_what_is_beside_the_head_is_white(self) -> None:
         """A paper of 62 mm is printed on 60.96 of them: on which side is not known."""
         paper = self.papers(176, 90, 300).paper("QL-500", (62.0, 100.0))
@@ -204,12 +209,12 @@ class Lines(unittest.TestCase):
         self.assertEqual(self.words(**roll), f"lp -d NAME -o media=Custom.60x40mm {end}")
         self.assertEqual(self.words(**roll, to="zpl"), "lp -d NAME -o raw FILE.zpl")
         self.assertEqual(self.words(**roll, to="escpos"), "lp -d NAME -o raw FILE.escpos")
-        for form in ("png", "svg", "pbm"):
+        for form in ("png", "pbm"):
             self.assertEqual(self.words(**roll, to=form), "")
-        grid = {"cell": (63.5, 38.1), "columns": 3, "rows": 7}
+        grid = {"cell": (63.5, 38.1), "grid": (3, 7)}
         line = "lp -d NAME -o media=A4 -o Resolution=600dpi -o print-scaling=none FILE.pdf"
         self.assertEqual(self.words(**grid), line)
-        self.assertIn("media=Letter", self.words(**grid, page=(215.9, 279.4)))
+        self.assertIn("media=Letter", self.words(**grid, paper=(215.9, 279.4)))
 
     def test_what_is_for_queues_is_loaded_only_for_them(self) -> None:
         """A till waits for its first label, and the rest of these takes time."""
@@ -220,7 +225,7 @@ class Lines(unittest.TestCase):
         done = subprocess.run(words, input=line, capture_output=True, env=env)
         self.assertTrue(done.stdout)
         self.assertIn(b"labeltools.sending.sender", done.stderr)
-        for module in (b"sending.queue", b"sending.job", b"sending.marks", b"_hashlib"):
+        for module in (b"sending.queue", b"sending.job", b"_hashlib"):
             self.assertNotIn(module, done.stderr)
 
     def test_it_is_said_by_summary(self) -> None:
@@ -264,10 +269,11 @@ class Queues(unittest.TestCase):
         "overruled": (300, 300, 300, None),
         "fine": (1200, 600, 1200, None),
         "coarse": (203, 203, 203, None),
-        "needles": (0, 600, 0, None),
+        "moved": (300, 300, 300, None),
+        "needles": (0, 0, 0, None),
         "default": (600, 600, 600, None),
-        "foomatic": (0, 600, 0, None),
-        "silent": (0, 600, 0, None),
+        "foomatic": (0, 0, 0, None),
+        "silent": (0, 0, 0, None),
         "home": (600, 600, 600, None),
         "generpcl": (300, 600, 300, "600dpi"),
         "zebra": (203, 600, 203, "600dpi"),
@@ -276,7 +282,7 @@ class Queues(unittest.TestCase):
     SHEET = ("--stock", "Avery L7160")
     ROLL = ("--paper", "60x40")
     # 6 mm at both ends are not printed
-    DYMO = ("--paper", "35.63x88.9", "--turn", "--edge", "1.5,6,1.5,6")
+    DYMO = ("--paper", "35.63x88.9", "--turn", "yes", "--edge", "1.5,6,1.5,6")
     # drivers of CUPS: what they are tried with, and what turns their language back into pages
     LANGUAGES: dict[str, tuple[Sequence[str], Pages, Sequence[int]]] = {
         "zebra": (ROLL, drivers.pages_of_zpl, (203, 300, 600)),
@@ -318,6 +324,9 @@ class Queues(unittest.TestCase):
             if name == "needles":
                 with self.assertRaisesRegex(ToolError, "prints 240 by 216 dots an inch"):
                     queue.options(sheet)
+            elif on_sheets == 0:  # bars of other dots would be uneven
+                with self.assertRaisesRegex(ToolError, "does not tell its resolution"):
+                    queue.options(sheet)
             elif on_sheets == 600:
                 self.assertEqual(queue.options(sheet).get("Resolution"), word, name)
                 self.assertEqual(bool(queue.resolution_doubt(sheet)), not dpi, name)
@@ -334,9 +343,11 @@ class Queues(unittest.TestCase):
             if name in ("generpcl", "zebra", "raw", "needles"):
                 continue
             with self.subTest(queue=name):
-                done = self.printed(*self.SHEET, "--print", name)
+                words = () if dpi else ("--dpi", "600")
+                done = self.printed(*self.SHEET, *words, "--print", name)
                 (said,) = support.messages(done)
-                self.assertRegex(said, f"5 labels sent to {name}, at {dpi} dpi: job [0-9]+")
+                dots = dpi or 600
+                self.assertRegex(said, f"5 labels sent to {name}, at {dots} dpi: job [0-9]+")
                 self.assertEqual("scan one label" in said, not own)
                 (across, down), page = raster_of(self.scheduler.printed(name))
                 if own:
@@ -366,20 +377,21 @@ class Queues(unittest.TestCase):
         self.labels.wait(5)
         plain = self.printed(*words, "--dpi", "203").stdout
         self.assertEqual(b"".join(self.labels.labels), plain)
-        grid = ("--cell", "60x40", "--columns", "1", "--rows", "1", "--to", "zpl")
+        grid = ("--cell", "60x40", "--grid", "1x1", "--to", "zpl")
         done = self.printed(*grid, "--print", "zebra")
         self.assertIn(b"at 203 dpi", done.stderr)
         done = self.printed(*words, "--print", "raw")
-        self.assertIn(b"--to zpl needs --dpi", done.stderr)
+        self.assertIn(b"choose the dots an inch of the printer", done.stderr)
 
     def test_a_queue_that_does_not_print_says_so(self) -> None:
         def printed(*command: str) -> str:
             subprocess.run([*command, "plain"], check=True)
             return self.printed(*self.SHEET, "--print", "plain").stderr.decode()
 
-        said = "job [0-9]+; it waits in the queue: plain: it is paused; cupsenable plain lets it go on\n$"
+        waits = "job [0-9]+; it waits in the queue: plain: it is paused; let it go on"
+        said = f"{waits} in the settings of printers, or by cupsenable plain\n$"
         self.assertRegex(printed("cupsdisable"), said)
-        sent = SentJob("plain", int(re.findall("job ([0-9]+)", printed("cupsdisable"))[0]))
+        sent = sent_job(printed("cupsdisable"))
         self.assertEqual(str(sent.state().trouble), "plain: it is paused")
         subprocess.run(["cancel", "-a", "plain"], check=True)
         state = sent.state()
@@ -394,7 +406,7 @@ class Queues(unittest.TestCase):
         roll = ("--paper", "60x40")
         for words, status, said in (
             ((*roll, "--dpi", "180", "--print", "zebra"), 2, "at 203 or 300 or 600 dpi, and the"),
-            ((*roll, "--dpi", "101", "--to", "zpl", "--print", "zebra"), 2, "leave out --dpi"),
+            ((*roll, "--dpi", "101", "--to", "zpl", "--print", "zebra"), 2, "(--dpi "),
             ((*roll, "--print", "nobody"), 1, "there is no queue nobody: the queues are both, "),
             ((*roll, "--dpi", "203", "--to", "png", "--print", "zebra"), 2, "do not take png"),
             ((*roll, "--print", "zebra", "--each", "x/%d.pdf"), 2, "not allowed with"),
@@ -478,6 +490,30 @@ class Queues(unittest.TestCase):
         self.scheduler.change("four", "QQPlaces=TopLeft")
         self.assertEqual(self.printed(*self.SHEET, "--print", "four").returncode, 0)
 
+    def test_a_driver_that_mirrors_each_page(self) -> None:
+        """CUPS keeps that as a queue has it, whatever a job asks for."""
+        self.add("mirrors", "mirror")
+        self.scheduler.change("mirrors", "MirrorPrint=True")
+        done = self.printed(*self.SHEET, "--print", "mirrors")
+        self.assertEqual(done.returncode, 2)
+        said = "mirrors is set to MirrorPrint: True, which could change labels"
+        self.assertIn(said, done.stderr.decode())
+        self.scheduler.change("mirrors", "MirrorPrint=False")
+        self.assertEqual(self.printed(*self.SHEET, "--print", "mirrors").returncode, 0)
+
+    def test_a_class_of_printers(self) -> None:
+        """CUPS shows the driver of its first one, and prints on any."""
+        for name, kind in (("first", "plain"), ("second", "tape")):
+            self.add(name, kind)
+            subprocess.run(["lpadmin", "-p", name, "-c", "office"], check=True)
+        self.addCleanup(self.scheduler.remove, "office")
+        subprocess.run(["cupsenable", "office"], check=True)
+        subprocess.run(["cupsaccept", "office"], check=True)
+        done = self.printed(*self.SHEET, "--print", "office")
+        self.assertEqual(done.returncode, 2)
+        said = "office is a class of printers, which may differ: choose one of them: first, second"
+        self.assertIn(said, done.stderr.decode().replace("; ", ": "))
+
     def test_a_driver_that_prints_each_page_several_times(self) -> None:
         """No job can ask CUPS for another choice of that option."""
         self.add("often", "vendor")
@@ -519,19 +555,28 @@ class Queues(unittest.TestCase):
         self.assertEqual(raster_of(self.scheduler.printed("outside"))[0], (600, 600))
 
     def test_paper_that_a_driver_does_not_know(self) -> None:
-        """It is asked for: a general edge, a size below the least, and the dots of a roll."""
+        """It is asked for: a general edge, a size below the least, the dots of a roll or a sheet."""
         self.add("any-size", "edged")
         self.add("general", "general")
         small = ("--paper", "60x24", "--edge", "4.3")
         given = "--paper-as-given"
-        edges = "how near to the edge it prints: 5 labels may be cut; give --paper-as-given if it p"
+        edges = "how near to the edge it prints: 5 labels may be cut; print on this paper (--paper-as-given"
         for queue, words, said in (
             ("general", self.ROLL, f"general does not say {edges}"),
-            ("any-size", small, "below 25.4 by 25.4 mm: if it takes 60 by 24 mm all the same give"),
-            ("any-size", small, "; for a label printer give"),
-            ("any-size", (*self.ROLL, given), "would be cut; give --edge 4.3,4.3,4.3,4.3"),
-            ("silent", self.ROLL, "resolution: look at its manual, and give --dpi 203 or 300 or"),
-            ("zebra", (*self.ROLL, "--to", "zpl", given), f"{given} is only for a PDF on a queue"),
+            ("any-size", small, "below 25.4 by 25.4 mm: labels on sheets need the name of their"),
+            ("any-size", small, "; a label printer needs a queue without"),
+            (
+                "any-size",
+                (*self.ROLL, given),
+                "would be cut; keep labels away from the edge (--edge 4.3,4.3,4.3,4.3",
+            ),
+            (
+                "silent",
+                self.ROLL,
+                "resolution: look at its manual, and choose it; 203 dpi (--dpi 203) or 300 dpi",
+            ),
+            ("silent", self.SHEET, "silent does not tell its resolution: look at its manual"),
+            ("zebra", (*self.ROLL, "--to", "zpl", given), "only for a PDF on a queue"),
         ):
             with self.subTest(queue=queue, words=words):
                 done = self.printed(*words, "--print", queue)
@@ -553,24 +598,28 @@ class Queues(unittest.TestCase):
         self.add("till", "plain", labels.name.replace("tcp", "socket"))
         roll = (*self.ROLL, "--to", "zpl", "--dpi", "203")
         said = self.printed(*roll, "--print", "till").stderr.decode()
-        self.assertIn(f"give --print {labels.name}, or make a queue without a driver", said)
+        self.assertIn("a label printer needs a queue without a driver", said)
+        self.assertIn(f"--print {labels.name}", said)
         self.assertIn(
-            "a label printer give", self.printed(*self.ROLL, "--print", "till").stderr.decode()
+            "a label printer needs a q", self.printed(*self.ROLL, "--print", "till").stderr.decode()
         )
-        subprocess.run(shlex.split(said[said.index("lpadmin") :]), check=True, capture_output=True)
+        line = said[said.index("lpadmin") :].partition(" (--")[0]
+        subprocess.run(shlex.split(line), check=True, capture_output=True)
         self.addCleanup(self.scheduler.remove, "till-labels")
         done = self.printed(*roll, "--print", "till-labels")
-        self.assertIn(b"the printer took all of it: look whether it comes out", done.stderr)
+        told = "the printer took all of it: look whether it comes out; printed without the queue, "
+        way = f"labels that get lost are named .--print {labels.name}.\n$"
+        self.assertRegex(done.stderr.decode(), told + way)
         self.assertEqual(done.returncode, 0)
         labels.wait(5)
         self.assertEqual(b"".join(labels.labels), self.printed(*roll).stdout)
 
     def test_a_number_that_another_job_has(self) -> None:
         """CUPS counts again once it has forgotten all: the time of a job tells it from others."""
-        said = self.printed(*self.SHEET, "--print", "plain").stderr.decode()
-        number = int(re.findall("job ([0-9]+)", said)[0])
-        self.assertTrue(SentJob("plain", number).state().is_printed)
-        for job in (SentJob("both", number), SentJob("plain", number, 1), SentJob("plain", 9999)):
+        sent = sent_job(self.printed(*self.SHEET, "--print", "plain").stderr.decode())
+        self.assertTrue(sent.state().is_printed)
+        others = replace(sent, queue="both"), replace(sent, created=1), replace(sent, number=9999)
+        for job in others:
             with self.assertRaisesRegex(UnknownJob, "does not know job .* any more"):
                 job.state()
 
@@ -578,23 +627,27 @@ class Queues(unittest.TestCase):
         self.add("any-size", "edged")
         self.add("tape", "tape")
         turned = ("--paper", "88.9x35.63")
-        grid = ("--cell", "50x30", "--columns", "2", "--rows", "2", "--page", "105x62")
+        grid = ("--cell", "50x30", "--grid", "2x2", "--paper", "105x62")
         for queue, words, said in (
             (
                 "plain",
                 self.ROLL,
                 "no paper of 60 by 40 mm: the nearest that it has is 209.9 by 297",
             ),
-            ("plain", grid, "for labels on sheets give --stock, or --cell with --columns"),
+            ("plain", grid, "labels on sheets need the name of their sheet (--stock, --cell)"),
             ("file-dymo", self.SHEET, "prints 57.15 mm across, and this is 210 mm wide: take"),
             ("file-dymo", turned, "it has 35.63 by 88.9 mm: give the sides in this order"),
             ("any-size", ("--paper", "300x300"), "prints 209.9 mm across, and this is 300 mm"),
             ("tape", self.ROLL, "tape prints 23.99 mm across, and this is 60 mm wide"),
-            ("any-size", self.ROLL, "5 labels would be cut; give --edge 4.3,4.3,4.3,4.3"),
+            (
+                "any-size",
+                self.ROLL,
+                "5 labels would be cut; keep labels away from the edge (--edge 4.3,4.3,4.3,4.3",
+            ),
             (
                 "plain",
                 (*self.ROLL, "--to", "zpl"),
-                "prints zpl as letters: for an office printer g",
+                "prints zpl as letters: an office printer takes PDF",
             ),
         ):
             with self.subTest(queue=queue, words=words):
@@ -624,7 +677,7 @@ class Queues(unittest.TestCase):
             (
                 "holds",
                 1,
-                "it waits in the queue: holds: job ([0-9]+) is held; lp -i holds-.* -H resume",
+                "it waits in the queue: holds: job ([0-9]+) is held; let it go on .* -H resume",
             ),
         ):
             with self.subTest(queue=name):
@@ -635,22 +688,15 @@ class Queues(unittest.TestCase):
                 subprocess.run(["cancel", "-a", name], capture_output=True)
 
     def test_a_printer_that_gives_a_job_up(self) -> None:
-        """It says so itself, whatever CUPS has seen of that."""
-        device = self.scheduler.add_driverless("gives-up", "/bin/false")
-        self.addCleanup(self.scheduler.remove, "gives-up")
-        done = self.printed(*self.SHEET, "--print", "gives-up")
-        self.assertRegex(done.stderr.decode(), "some labels may be on paper: .*job [0-9]+")
-        self.assertEqual(done.returncode, 1)
-        (job,) = ipp.groups_of(ipp.ipp_answer(device))
-        name = job[ipp.NAME].decode()
-        self.assertRegex(name, "^labels [0-9:.]+ [0-9a-f]+-[0-9]+$")
-        self.assertEqual(ipp.state_at_printer(device, name), ABORTED)
-        self.assertEqual(ipp.state_at_printer(device, "labels"), 0)
-        said = self.printed(*self.SHEET, "--print", "home").stderr.decode()
-        sent = SentJob("home", int(re.findall("job ([0-9]+)", said)[0]), title=name)
-        self.assertTrue(sent.state().is_printed)  # no job of this name is there
-        with mock.patch("labeltools.sending.ipp.state_at_printer", return_value=ABORTED):
-            self.assertEqual(str(sent.state().trouble), f"the printer gave up job {sent.number}")
+        """CUPS has passed a job on, and says then that it was not printed."""
+        sent = sent_job(self.printed(*self.SHEET, "--print", "home").stderr.decode())
+        self.assertTrue(sent.state().is_printed)
+        for reason in ("cups-remote-aborted", "cups-remote-canceled"):
+            line = Connection({"printer-state-reasons": [reason]})
+            with mock.patch("labeltools.sending.cups.connection", lambda line=line: line):
+                state = sent.state()
+            gave_up = f"some labels may be on paper: the printer gave up job {sent.number}"
+            self.assertEqual((str(state.told), state.is_printed), (gave_up, False))
 
     def meanwhile(self, queue: str, act: Callable[[], object]) -> str:
         """What label-print says if something is done while CUPS tries to print."""
@@ -667,9 +713,7 @@ class Queues(unittest.TestCase):
         return done.result().stderr.decode()
 
     def test_cups_that_goes_away(self) -> None:
-        """What was sent is said, and how it is looked for; the same labels are not sent again
-        without a question. Others are.
-        """
+        """What was sent is said, and how it is looked for."""
         self.add("lost", "zebra", "socket://127.0.0.1:1")
         with mock.patch("labeltools.sending.job.AWAY", 0.5):
             said = self.meanwhile("lost", self.scheduler.leave)
@@ -678,50 +722,20 @@ class Queues(unittest.TestCase):
         words = (*self.ROLL, "--print", "lost")
         self.assertIn(b"CUPS does not answer: install it", self.printed(*words).stderr)
         self.scheduler.come()
-        number = re.findall(sent, said)[0]
-        for _ in range(2):
-            asks = f"job {number} of lost has the same labels: it waits in the queue"
-            with mock.patch("labeltools.sending.job.IDLE", 0.5):
-                done = self.printed(*words)
-            self.assertEqual(done.returncode, 1)
-            self.assertIn(asks, done.stderr.decode())
-            self.assertIn("give --again lost to print them once more", done.stderr.decode())
-        self.assertEqual([sent.number for sent in own_jobs("lost")], [int(number)])
-        with mock.patch("labeltools.sending.job.IDLE", 0.5):
-            done = self.printed(*words, "--only", "2")
-            self.assertRegex(
-                done.stderr.decode(), "1 label sent to lost, .*; it waits in the queue"
-            )
-            done = self.printed(*words, "--again", "lost")
-        self.assertRegex(done.stderr.decode(), "5 labels sent to lost, .*; it waits in the queue")
 
     def test_cups_that_goes_away_as_it_takes_a_job(self) -> None:
-        """The job is found by its title; a job that CUPS never got is not said to be sent."""
-        for takes, said in ((True, "CUPS reports it as printed"), (False, "CUPS refuses plain: ")):
-            line = Leaving(takes)
-            with mock.patch("labeltools.sending.cups.connection", lambda line=line: line):
-                done = self.printed(*self.SHEET, "--print", "plain")
-            self.assertIn(said, done.stderr.decode())
-            self.assertEqual("labels sent to plain" in done.stderr.decode(), takes)
-
-    def test_cups_of_another_computer(self) -> None:
-        """It is asked for no password: there only jobs that are not over count."""
-        self.add("far", "zebra", "socket://127.0.0.1:1")
-        words = (*self.ROLL, "--print", "far")
-        job = mock.patch("labeltools.sending.job.IDLE", 0.5)
-        here = mock.patch("labeltools.sending.marks.cups_library")
-        with job, here as library:
-            library().getServer.return_value = "printers.example"
-            self.assertRegex(self.printed(*words).stderr.decode(), "5 labels sent to far")
-            self.assertIn(b"has the same labels: it waits", self.printed(*words).stderr)
-            (sent,) = own_jobs("far")
-            self.assertRegex(sent.title, "-0$")
-            subprocess.run(["cancel", "-a", "far"], check=True)
-            self.scheduler.wait(lambda: sent.state().is_over)
-            self.assertRegex(self.printed(*words).stderr.decode(), "5 labels sent to far")
+        """Nobody knows whether it has the job: that it is printed is not said, nor that it is not."""
+        line = Connection(is_leaving=True)
+        with mock.patch("labeltools.sending.cups.connection", lambda: line):
+            done = self.printed(*self.SHEET, "--print", "plain")
+        said = (
+            "label-print: CUPS does not answer any more: labels may be on paper; look there; once"
+        )
+        self.assertIn(said, done.stderr.decode())
+        self.assertEqual(done.returncode, 1)
 
     def test_cups_that_is_started_again(self) -> None:
-        """The job is found again, and nothing is asked of the next one."""
+        """The job is found again, and has begun twice; the next one has not."""
         with socket.create_server(("127.0.0.1", 0)) as free:
             port = free.getsockname()[1]
         self.add("restarted", "zebra", f"socket://127.0.0.1:{port}")
@@ -733,18 +747,34 @@ class Queues(unittest.TestCase):
             self.scheduler.come()
 
         said = self.meanwhile("restarted", come_back)
-        self.assertRegex(said, "5 labels sent to restarted, .*; CUPS reports it as printed")
+        twice = "CUPS has begun it twice: some labels may be there twice, look for them"
+        self.assertRegex(said, f"5 labels sent to restarted, .*; {twice}")
         done = self.printed(*self.ROLL, "--print", "restarted")
         self.assertIn(b"CUPS reports it as printed", done.stderr)
 
+    def test_a_printer_that_works_without_a_word(self) -> None:
+        """CUPS says that it prints, and nothing else, for longer than another job may wait; its own
+        words are in any language.
+        """
+        short = mock.patch.multiple("labeltools.sending.job", IDLE=0.05, LOOKS=(0.01, 0.01))
+        for said in ("Waiting for printer to finish", "Warten auf den Drucker", ""):
+            prints = JobState(NOTHING, said, False, marks=(PROCESSING, 0))
+            states = [*[prints] * 20, JobState(NOTHING, "", True, True)]
+            with short, mock.patch.object(SentJob, "state", side_effect=states):
+                self.assertTrue(SentJob("plain", 1).follow(str).is_printed)
+
     def test_a_job_that_is_cancelled_and_a_queue_that_is_removed(self) -> None:
-        """Of a job that was begun some labels may be on paper."""
+        """Of a job that was begun some labels may be on paper. CUPS begins it again, or not, before it
+        removes its queue.
+        """
         self.scheduler.add("removed", "zebra", "socket://127.0.0.1:1")
         said = self.meanwhile("removed", lambda: subprocess.run(["cancel", "-a", "removed"]))
         self.assertRegex(said, "; some labels may be on paper: job [0-9]+ was cancelled")
         said = self.meanwhile("removed", lambda: self.scheduler.remove("removed"))
-        gone = "the queue removed was removed with its job [0-9]+; labels may be on paper: look"
-        self.assertRegex(said, f"5 labels sent to removed, .*; {gone}")
+        gone = "CUPS does not know job [0-9]+ of removed any more; look at the paper"
+        twice = "CUPS has begun it twice: some labels may be there twice, look for them"
+        told = f"(some labels may be on paper: job [0-9]+ was cancelled|{gone}|{twice})"
+        self.assertRegex(said, f"5 labels sent to removed, .*; {told}")
 
     def test_a_signal_ends_only_the_watching(self) -> None:
         self.add("away", "zebra", "socket://127.0.0.1:1")
@@ -790,20 +820,35 @@ class Queues(unittest.TestCase):
         self.assertIn(b"apt-get install python3-cups", done.stderr)
 
 
-class Leaving:
-    """A connection to CUPS that breaks off when a file is printed, which it may have taken."""
+class Connection:
+    """A connection to CUPS that says something else of queues, or breaks off when it is given a
+    file.
+    """
 
-    def __init__(self, takes: bool) -> None:
-        self.takes = takes
+    def __init__(
+        self, attributes: Mapping[str, object] = MappingProxyType({}), is_leaving: bool = False
+    ) -> None:
+        self.attributes = attributes
+        self.is_leaving = is_leaving
         self.line = cups.Connection()
 
     def __getattr__(self, name: str) -> Any:
         return getattr(self.line, name)
 
+    def getPrinterAttributes(self, name: str) -> Mapping[str, object]:
+        return {**self.line.getPrinterAttributes(name), **self.attributes}
+
     def printFile(self, *given: Any) -> int:
-        if self.takes:
-            self.line.printFile(*given)
-        raise cups.IPPError(cups.IPP_SERVICE_UNAVAILABLE, "Service Unavailable")
+        if self.is_leaving:
+            raise cups.IPPError(cups.IPP_SERVICE_UNAVAILABLE, "Service Unavailable")
+        return int(self.line.printFile(*given))
+
+
+def sent_job(said: str) -> SentJob:
+    """The job of a message of label-print."""
+    found = re.search("sent to ([^,]+), .* job ([0-9]+)", said)
+    assert found
+    return SentJob(found[1], int(found[2]))
 
 
 def without_comments(job: bytes) -> bytes:
@@ -929,35 +974,6 @@ class Devices(unittest.TestCase):
             self.assertIn("it took 1 label whole: row 3 and what follows", done.stderr.decode())
             self.assertNotIn("may be on paper", done.stderr.decode())
             self.assertEqual(len(device.read_bytes()), size)
-
-
-class Ipp(unittest.TestCase):
-    """Printers that answer IPP with something else, slowly, or not at all."""
-
-    def test_what_is_no_answer(self) -> None:
-        head = b"HTTP/1.1 200 OK\r\nContent-Length: %d\r\n\r\n"
-        cut = b"\1\1\0\0\0\0\0\1\2\x42\0\x08job-name\0\6lab"
-        for answer in (b"", b"rubbish", head % 3 + b"abc", head % len(cut) + cut, None):
-            with socket.create_server(("127.0.0.1", 0)) as server:
-                device = f"ipp://127.0.0.1:{server.getsockname()[1]}/ipp/print"
-                args = (server, answer)
-                printer = threading.Thread(target=self.play, args=args, daemon=True)
-                printer.start()
-                with mock.patch("labeltools.sending.ipp.SECONDS", 0.5):
-                    self.assertEqual(ipp.state_at_printer(device, "labels"), 0)
-                printer.join()
-        self.assertEqual(ipp.state_at_printer(device, "labels"), 0)  # it is off
-
-    def play(self, server: socket.socket, answer: bytes | None) -> None:
-        """Plays a printer, which answers, or dribbles until the other side has enough of it."""
-        line, _ = server.accept()
-        with line, suppress(OSError):
-            line.recv(65536)
-            if answer is not None:
-                line.sendall(answer)
-            while answer is None:
-                line.sendall(b"H")
-                time.sleep(0.05)
 
 
 class Languages(unittest.TestCase):

@@ -41,7 +41,7 @@ class Release(unittest.TestCase):
     @classmethod
     def setUpClass(cls) -> None:
         """Makes two releases of new clones, the second one by a user who hides his files."""
-        support.needs("dpkg-buildpackage", "dh", "dpkg-scanpackages", "lintian")
+        support.needs("dpkg-buildpackage", "dh", "lintian")
         support.needs("aarch64-linux-gnu-gcc")
         if not PROVED_ARM64.exists():
             support.skip(f"{PROVED_ARM64} is not built: run scripts/plain_builds.py")

@@ -34,10 +34,10 @@ class Messages(unittest.TestCase):
             self.assertEqual(self.written(f"a{sign}b"), shown)
 
     def test_what_a_message_says_and_what_to_do(self) -> None:
-        error = ToolError(Text("there is no sheet"), Text("give --sheet"), 2)
+        error = ToolError(Text("there is no sheet"), Text("make one"), 2)
         self.assertEqual(
             (str(error), str(error.what)),
-            ("there is no sheet: give --sheet", "there is no sheet"),
+            ("there is no sheet: make one", "there is no sheet"),
         )
         self.assertEqual(str(ToolError(Text("there is no sheet"))), "there is no sheet")
 

@@ -78,7 +78,7 @@ class Stock(unittest.TestCase):
             for clear in (stock.glabels_parts.cache_clear, stock.brands.cache_clear):
                 clear()
                 self.addCleanup(clear)
-            with self.assertRaisesRegex(Exception, "apt-get install glabels-data"):
+            with self.assertRaisesRegex(Exception, "glabels-data, which is not installed"):
                 stock.stock_sheet("l7160")
 
     def test_several_makers_in_a_name(self) -> None:
@@ -108,7 +108,7 @@ class Grids(unittest.TestCase):
         with self.assertRaisesRegex(ToolError, "9999 by 9999 cells: the maximum is 10,000"):
             stock.grid_sheet(Grid((9999.0, 9999.0), (1.0, 1.0), 9999, 9999))
         done = support.printed(
-            *("--cell", "1x1", "--columns", "9999", "--rows", "9999", "--page", "9999x9999"),
+            *("--cell", "1x1", "--grid", "9999x9999", "--paper", "9999x9999"),
             input=b"ean8 7351353\n",
         )
         self.assertEqual((done.returncode, done.stdout), (2, b""))

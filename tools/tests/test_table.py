@@ -20,7 +20,7 @@ WRONG += "the article"
 NO_VALUE = "which the spreadsheet writes if it has no value to show: correct its formula"
 BECOMES = "which would become part of the code"
 AROUND = {
-    "setting": f"begins with a setting, {BECOMES}: delete it, and give it with --settings",
+    "setting": f"begins with a setting, {BECOMES}: delete it, and give it for all codes (--settings)",
     "before": f"begins with a space, {BECOMES}: delete the space",
     "after": f"ends in a space, {BECOMES}: delete the space",
     "quotes": f"is in quotes, {BECOMES}: delete the quotes",
@@ -30,12 +30,14 @@ AROUND = {
 EMPTY = (
     "standard input is empty: nothing is printed; did the command that wrote it report an error?"
 )
-OTHER = "a code that is not an EAN or UPC needs --symbology code128 (bars) or qr"
+OTHER = (
+    "is it another kind of code? draw the codes as Code 128 (--symbology code128) or draw the codes"
+    " as QR Code (--symbology qr)"
+)
 
 
 class Encodings(TableTest):
-    FIX = "save it as UTF-8, or give the right one of these: --encoding "
-    WIDE = "save it as UTF-8, or give --encoding utf-16-le or utf-16-be"
+    FIX = "save it as UTF-8, or choose what reads well; "
     TEXT = f"Nummer;Größe;Name\r\n{PENCIL};ß;Käse\r\n{SMALL};ü;Öl €\r\n"
     ARGUMENTS = "--code Nummer --title Name --text Größe".split()
 
@@ -68,15 +70,18 @@ class Encodings(TableTest):
         ):
             words = ["--encoding", given] if given else []
             self.check_letters(mark + self.TEXT.encode(codec), *words)
-        problem = f"standard input is not UTF-8, as line 1 shows: {self.WIDE}"
-        for text in (self.TEXT, "code\n1\n"):
+        for text, word in ((self.TEXT, "Größe"), ("code\n1\n", "code")):
+            problem = f"standard input is not UTF-8, as line 1 shows: {self.FIX}{word}"
+            problem += " (--encoding utf-16-le)"
             self.check(text.encode("utf-16-le"), ["--code", "1"], [], [problem], 1)
         latin = "--code code --symbology qr --encoding latin-1".split()
         notice = 'row 2: some scanners show "Käse" wrongly; a QR code without accents is safe'
         self.check("code\nKäse\n".encode("latin-1"), latin, ["qr Käse"], [notice])
 
     def test_bytes_that_do_not_decode(self) -> None:
-        problem = f'standard input is not UTF-8, as line 3 shows: {self.FIX}cp1252 reads "Füße"'
+        problem = (
+            f"standard input is not UTF-8, as line 3 shows: {self.FIX}Füße (--encoding cp1252)"
+        )
         self.check(
             f"code;name\r\n{PENCIL};a\r\n{SMALL};F".encode() + b"\xfc\xdfe",
             ["--code", "1"],
@@ -89,26 +94,27 @@ class Encodings(TableTest):
             " again"
         )
         self.check(b"\xff\xfea", ["--code", "1"], [], [problem], 1)
-        problem = f'standard input is not CP1252, as line 2 shows: {self.FIX}cp1251 reads "Ѓ"'
-        problem += ', cp850 reads "ü", cp866 reads "Б", mac_roman reads "Å"'
+        problem = f"standard input is not CP1252, as line 2 shows: {self.FIX}Ѓ (--encoding cp1251)"
+        problem += " or ü (--encoding cp850) or Б (--encoding cp866) or Å (--encoding mac_roman)"
         self.check(b"code\n\x81\n", "--code 1 --encoding windows-1252".split(), [], [problem], 1)
 
     def test_encodings_that_are_none(self) -> None:
         for encoding in ("x", "rot13", "base64", "ä"):
-            problem = f'--encoding "{encoding}" is unknown: give one as cp1252'
+            problem = f'the encoding "{encoding}" is unknown: give one as cp1252 (--encoding)'
             self.check(
                 f"code\n{SMALL}\n", ["--code", "code", "--encoding", encoding], [], [problem], 2
             )
 
     def test_encoding_told_that_the_file_contradicts(self) -> None:
         for encoding in "latin-1 cp1252 cp850 mac-roman koi8-r shift_jis gb18030".split():
-            problem = f"standard input is UTF-8: leave out --encoding {encoding}"
+            problem = "the letters of standard input are stored as UTF-8: read the letters as they"
+            problem += " are stored (leave out --encoding)"
             arguments = ["--code", "code", "--symbology", "qr", "--encoding", encoding]
             self.check("code\nKäse\n", arguments, [], [problem], 2)
             self.check("\ufeffcode\nabc\n", arguments, [], [problem], 2)
         problem = (
-            f'standard input is not ISO8859-1, as line 2 shows: {self.FIX}cp1252 reads "€", cp1251'
-            ' reads "Ђ", cp850 reads "Ç", cp866 reads "А"'
+            f"standard input is not ISO8859-1, as line 2 shows: {self.FIX}€ (--encoding cp1252)"
+            " or Ђ (--encoding cp1251) or Ç (--encoding cp850) or А (--encoding cp866)"
         )
         self.check(
             "code\n5 €\n".encode("cp1252"), "--code 1 --encoding latin-1".split(), [], [problem], 1
@@ -158,7 +164,7 @@ class Cells(TableTest):
         self.check(f'"price; net",code\n"1;20",{PENCIL}\n', ["--code", "2"], [f"ean13 {PENCIL}"])
         self.check(
             f"{PENCIL};a;1,20\n{SMALL};b;0,80\n",
-            "--code 1 --no-header".split(),
+            "--code 1 --header-row 0".split(),
             [f"ean13 {PENCIL}", f"ean8 {SMALL}"],
         )
         self.check(f'size 5"\tcode\n3"\t{SMALL}\n', ["--code", "code"], [f"ean8 {SMALL}"])
@@ -175,7 +181,8 @@ class Cells(TableTest):
         self.check(f"sep=|\r\ncode|a\r\n{SMALL}|b\r\n", ["--code", "code"], [f"ean8 {SMALL}"])
 
     def test_told_delimiter_that_row_1_does_not_have(self) -> None:
-        problem = 'row 1 has ";" between cells, and not ",": leave out --delimiter'
+        problem = 'row 1 has ";" between cells, and not ",": find what is between'
+        problem += " cells (leave out --delimiter)"
         self.check(
             "code;name\nA1;a\n", "--code 1 --symbology qr --delimiter ,".split(), [], [problem], 2
         )
@@ -312,8 +319,8 @@ class Columns(TableTest):
     def test_by_name_and_by_number(self) -> None:
         table = f'name;"the\ncode";2\na;{SMALL};{PENCIL}\n'
         self.check(table, ["--code", "the code"], [f"ean8 {SMALL}"])
-        self.check(table, "--code 3 --header".split(), [f"ean13 {PENCIL}"])
-        self.check(table, "--code 2 --header".split(), [f"ean13 {PENCIL}"])
+        self.check(table, "--code 3 --header-row 1".split(), [f"ean13 {PENCIL}"])
+        self.check(table, "--code 2 --header-row 1".split(), [f"ean13 {PENCIL}"])
         self.check(
             f" Größe ;x\n{SMALL};a\n",
             ["--code", "Größe"],
@@ -346,14 +353,14 @@ class Columns(TableTest):
     def test_no_header(self) -> None:
         table = f"{PENCIL};a\n73513538;b\n"
         problem = f"row 2: 73513538: {WRONG}"
-        self.check(table, "--code 1 --no-header".split(), [f"ean13 {PENCIL}"], [problem], 1)
-        self.check(f"ean;b\n{SMALL};c\n", "--code 1 --header".split(), [f"ean8 {SMALL}"])
+        self.check(table, "--code 1 --header-row 0".split(), [f"ean13 {PENCIL}"], [problem], 1)
+        self.check(f"ean;b\n{SMALL};c\n", "--code 1 --header-row 1".split(), [f"ean8 {SMALL}"])
         for column in ("code", "3"):
             problem = f'no column "{column}"; row 1 has 1 "{PENCIL}", 2 "a": give the number of one of these columns'
-            self.check(table, ["--code", column, "--no-header"], [], [problem], 2)
+            self.check(table, ["--code", column, "--header-row", "0"], [], [problem], 2)
 
     def test_a_number_where_row_1_may_be_an_article(self) -> None:
-        hint = "give --no-header if that is a code, --header if it is a name"
+        hint = "what is it? it is a code (--header-row 0) or it is a name (--header-row 1)"
         rows: Sequence[tuple[list[str], str, str]] = [
             ([], f"{PENCIL};a\n{SMALL};b\n", PENCIL),
             ([], PENCIL, PENCIL),
@@ -368,10 +375,12 @@ class Columns(TableTest):
             problem = f'row 1 has "{cell}" in column {place}: {hint}'
             self.check(table, ["--code", "1", *arguments], [], [problem], 2)
         self.check(
-            "LOT 7\nLOT 8\n", "--code 1 --symbology code128 --header".split(), ["code128 LOT 8"]
+            "LOT 7\nLOT 8\n",
+            "--code 1 --symbology code128 --header-row 1".split(),
+            ["code128 LOT 8"],
         )
         lots = ["code128 LOT 7", "code128 LOT 8"]
-        self.check("LOT 7\nLOT 8\n", "--code 1 --symbology code128 --no-header".split(), lots)
+        self.check("LOT 7\nLOT 8\n", "--code 1 --symbology code128 --header-row 0".split(), lots)
         for name in ("EAN-13", "GTIN14", "Code 128", "Artikel-Nr."):
             self.check(f"{name}\n{SMALL}\n", ["--code", "1"], [f"ean8 {SMALL}"])
 
@@ -450,9 +459,11 @@ class Texts(TableTest):
 
     def test_the_column_of_the_codes_as_text(self) -> None:
         arguments = "--code code --text name --text 1".split()
-        labels = self.labels(f"code;name\n {SOAP[1:]} ;a\n{SMALL};b\n", *arguments, "--fill-zeros")
+        labels = self.labels(
+            f"code;name\n {SOAP[1:]} ;a\n{SMALL};b\n", *arguments, "--digits", "lost-zeros"
+        )
         self.assertEqual([label["text"] for label in labels], [["a", f"0{SOAP}"], ["b", SMALL]])
-        labels = self.labels(f"code;name\n{BOOK[:-1]};a\n", *arguments, "--without-check-digit")
+        labels = self.labels(f"code;name\n{BOOK[:-1]};a\n", *arguments, "--digits", "no-check")
         self.assertEqual(labels[0]["text"], ["a", BOOK])
         labels = self.labels("code;name\nLOT 7;a\n", *arguments, "--symbology", "code128")
         self.assertEqual(labels[0]["text"], ["a", "LOT 7"])
@@ -554,18 +565,22 @@ class Texts(TableTest):
 # what messages say in several places
 SAID = {
     "wrong": "a digit is wrong (with these digits the last one would be",
-    "lengths": "ean8 has 8, upca has 12, ean13 has 13",
-    "lost": "if leading zeros are lost",
+    "lengths": "EAN-8 has 8, UPC-A has 12, EAN-13 has 13",
+    "lost": "are leading zeros lost? put lost zeros back in front (--digits lost-zeros)",
     "compare": "compare the number with the article",
-    "none": "if the column has no check digits, give --without-check-digit",
+    "none": "are check digits missing? add check digits to the codes (--digits no-check)",
+    "find": "find their kind (--symbology auto)",
     "case": "a GTIN-14 is drawn as ITF-14, which labels does not draw",
     "isbn": "is an ISBN of ten digits: its EAN-13 is",
     "rounded": "the spreadsheet has rounded the number; format the column as text, enter it again",
-    "looks": "looks rounded by the spreadsheet: enter it again as text, or give --allow-zeros",
-    "upce": "may be a UPC-E, which labels does not draw: for an EAN-8 give --symbology ean8",
+    "looks": "looks rounded by the spreadsheet: enter it again as text; take codes that end in "
+    "zeros (--allow-zeros)",
+    "upce": "may be a UPC-E, which labels does not draw: is it an EAN-8? draw the codes as EAN-8 "
+    "(--symbology ean8)",
     "zeros": "may be an EAN-8 with zeros in front: write its 8 digits",
-    "either": "may have its check digit: if not, give --symbology",
-    "whole": "give --without-check-digit only if no number has one",
+    "either": "may have its check digit: is it missing? draw the codes as",
+    "whole": "have some a check digit? take the last digit as the check digit (leave out "
+    "--digits)",
     "signs": "has other characters than digits: character",
     "other": OTHER,
 }
@@ -589,7 +604,7 @@ NUMBERS = """\
 9780306406158 | 978-0-306-40615-8 -> ! 9780306406158: {wrong} 7); {compare}
 73513530 -> ! {}: {wrong} 7); {compare}
 036000291453 -> ! {}: {wrong} 2); {compare}; {none}
-36000291452 -> ! {} has 11 digits, {lengths}: give --fill-zeros {lost}
+36000291452 -> ! {} has 11 digits, {lengths}: {lost}
 36000291453 -> ! {} has 11 digits, {lengths}: {none}
 7351353 -> ! {} has 7 digits, {lengths}: {none}
 5 -> ! {} has 1 digit, {lengths}: {other}
@@ -600,9 +615,9 @@ NUMBERS = """\
 01234565 -> ! {} {upce}
 0306406152 | 0-306-40615-2 | 0 306 40615 2 -> ! {} {isbn} 9780306406157
 080442957X | 0-8044-2957-x -> ! {} {isbn} 9780804429573
-000073513537 -> ! {} {zeros}, or give --symbology upca
-0000073513537 -> ! {} {zeros}, or give --symbology ean13
-00000073513537 -> ! 0000073513537 {zeros}, or give --symbology ean13
+000073513537 -> ! {} {zeros}; draw the codes as UPC-A (--symbology upca)
+0000073513537 -> ! {} {zeros}; draw the codes as EAN-13 (--symbology ean13)
+00000073513537 -> ! 0000073513537 {zeros}; draw the codes as EAN-13 (--symbology ean13)
 073513537 -> ! {} {zeros}
 2024-05-17 -> ! "{}" {signs} 5 is "-"; {other}
 40063-81333931 -> ! "{}" {signs} 6 is "-"; {other}
@@ -614,16 +629,16 @@ NUMBERS = """\
 978–0306406157 -> ! "{}" {signs} 4 is en dash (U+2013); {other}
 --symbology ean13
 4006381333931 | 0000073513537 -> ean13 {}
-036000291452 -> ! {} has 12 digits, ean13 has 13: give --symbology auto, or --fill-zeros {lost}
-73513537 -> ! {} has 8 digits, ean13 has 13: give --symbology auto, or --fill-zeros {lost}
+036000291452 -> ! {} has 12 digits, EAN-13 has 13: {lost} or {find}
+73513537 -> ! {} has 8 digits, EAN-13 has 13: {lost} or {find}
 --symbology upca
 036000291452 | 000073513537 -> upca {}
 00036000291452 -> upca 036000291452
-4006381333931 -> ! {} has 13 digits, upca has 12: give --symbology auto
+4006381333931 -> ! {} has 13 digits, UPC-A has 12: {find}
 --symbology ean8
 01234565 -> ean8 {}
-0000073513537 -> ! {} has 13 digits, ean8 has 8: write its 8 digits
---fill-zeros
+0000073513537 -> ! {} has 13 digits, EAN-8 has 8: write its 8 digits
+--digits lost-zeros
 36000291452 | 036000291452 -> ean13 0036000291452
 4006381333931 -> ean13 {}
 73513537 -> ean8 {}
@@ -633,40 +648,40 @@ NUMBERS = """\
 36000300000 -> ! 0036000300000 {looks}
 01234565 | 1234565 -> ! {} {upce}
 0306406152 | 0-306-40615-2 -> ! {} {isbn} 9780306406157
---fill-zeros --symbology ean13
+--digits lost-zeros --symbology ean13
 36000291452 | 036000291452 -> ean13 0036000291452
 36000291453 -> ! 0036000291453: {wrong} 2); {compare}
-73513537 -> ! {} has 8 digits, ean13 has 13: give --symbology auto, or --fill-zeros {lost}
---fill-zeros --symbology upca
+73513537 -> ! {} has 8 digits, EAN-13 has 13: {lost} or {find}
+--digits lost-zeros --symbology upca
 36000291452 | 036000291452 -> upca 036000291452
-73513537 -> ! {} has 8 digits, upca has 12: give --symbology auto, or --fill-zeros {lost}
+73513537 -> ! {} has 8 digits, UPC-A has 12: {lost} or {find}
 306406152 | 0306406152 -> ! {} {isbn} 9780306406157
---fill-zeros --symbology ean8
+--digits lost-zeros --symbology ean8
 1234565 -> ean8 01234565
 --allow-zeros
 4006350000000 -> ean13 {}
 20000004 -> ean8 {}
---without-check-digit
+--digits no-check
 400638133393 | 978030640615 -> ean13 {}
 7351353 -> ean8 {}
 03600029145 -> upca {}
-1234565 -> ! {} {either} ean8
-36000291452 -> ! {} {either} upca
-036000291452 -> ! {} {either} ean13
-73513537 -> ! {} has 8 digits, ean8 has 7, upca has 11, ean13 has 12: {whole}
+1234565 -> ! {} {either} EAN-8 (--symbology ean8)
+36000291452 -> ! {} {either} UPC-A (--symbology upca)
+036000291452 -> ! {} {either} EAN-13 (--symbology ean13)
+73513537 -> ! {} has 8 digits, EAN-8 has 7, UPC-A has 11, EAN-13 has 12: {whole}
 0123456 -> ! {} {upce}
---without-check-digit --symbology ean13
+--digits no-check --symbology ean13
 400638133393 | 978030640615 | 036000291452 | 400635100000 -> ean13 {}
-4006381333931 -> ! {} has 13 digits, ean13 has 12: {whole}
+4006381333931 -> ! {} has 13 digits, EAN-13 has 12: {whole}
 400635000000 -> ! {} {looks}
 400638133393.0 -> ! "{}" {signs} 13 is "."; {other}
 978-0-306-40615 -> ! "{}" {signs} 4 is "-"; {other}
---without-check-digit --symbology ean8
+--digits no-check --symbology ean8
 7351353 | 1234565 -> ean8 {}
-73513537 -> ! {} has 8 digits, ean8 has 7: {whole}
---without-check-digit --symbology upca
+73513537 -> ! {} has 8 digits, EAN-8 has 7: {whole}
+--digits no-check --symbology upca
 03600029145 | 36000291452 -> upca {}
-036000291452 -> ! {} has 12 digits, upca has 11: {whole}
+036000291452 -> ! {} has 12 digits, UPC-A has 11: {whole}
 --symbology code128
 1E10 -> code128 {}
 4,00638E+12 -> ! "{}": {rounded}
@@ -701,7 +716,11 @@ class Numbers(TableTest):
         for number in range(100000000, 100001000):
             total = sum(int(digit) * weight for digit, weight in zip(str(number), range(10, 1, -1)))
             cells.append(f"{number}{'0123456789X'[-total % 11]}")
-        for arguments in ((), ("--fill-zeros",), "--fill-zeros --symbology ean13".split()):
+        for arguments in (
+            (),
+            ("--digits", "lost-zeros"),
+            "--digits lost-zeros --symbology ean13".split(),
+        ):
             table = "code\n" + "\n".join(cells)
             done = support.run_here(
                 "label-table", "--code", "code", *arguments, input=table.encode()
@@ -718,19 +737,19 @@ class Numbers(TableTest):
         problem = f'standard input: no row has an EAN or UPC in column 1 ("code"); {OTHER}'
         for cells in (("A-01-01", "A-01-02", ""), ("101", "102", "4711"), ("LOT 7",)):
             table = "code;name\n" + "".join(f"{cell};x\n" for cell in cells)
-            for arguments in (["--code", "code"], "--code code --without-check-digit".split()):
+            for arguments in (["--code", "code"], "--code code --digits no-check".split()):
                 self.check(table, arguments, [], [problem], 1)
 
     def test_of_codes_without_check_digits_none_is_drawn(self) -> None:
         """One in ten has a right last digit by chance."""
         codes = [f"40063813339{number:02}" for number in range(30, 40)]
         done = support.run_here(
-            "label-table", "--code", "1", "--no-header", input="\n".join(codes).encode()
+            "label-table", "--code", "1", "--header-row", "0", input="\n".join(codes).encode()
         )
         self.assertEqual((done.returncode, done.stdout), (1, b""))
-        problem = "label-table: standard input: most codes in column 1 have a wrong check digit; if"
-        problem += " they have none, give --symbology code128, or --without-check-digit if they"
-        problem += " have 12 digits"
+        problem = "label-table: standard input: most codes in column 1 have a wrong check digit"
+        problem += "; are check digits missing? add check digits to the codes "
+        problem += "(--digits no-check) or draw the codes as Code 128 (--symbology code128)"
         self.assertEqual(support.messages(done)[-1], problem)
         table = f"code;price\n{SMALL};1\n{PENCIL};?\n73513538;1\n73513539;1\n"
         done = support.run_here(
@@ -791,11 +810,11 @@ class Data(TableTest):
         for symbology in ("code128", "qr"):
             for delimiter in (";", ","):
                 ask = (
-                    f"give --delimiter '{delimiter}' if it is between cells, --delimiter none if it"
-                    " is data"
+                    f"what is it? it is between cells (--delimiter '{delimiter}') or it is data"
+                    " (--delimiter none)"
                 )
                 table = f"a{delimiter}b\nc{delimiter}d\n"
-                arguments = ["--code", "1", "--no-header", "--symbology", symbology]
+                arguments = ["--code", "1", "--header-row", "0", "--symbology", symbology]
                 self.check(table, arguments, [], [f'row 1 has "{delimiter}": {ask}'], 2)
                 whole = [f"{symbology} a{delimiter}b", f"{symbology} c{delimiter}d"]
                 self.check(table, [*arguments, "--delimiter", "none"], whole)
@@ -806,7 +825,7 @@ class Data(TableTest):
                 )
                 self.check(table, [*arguments, "--text", "2"], [f"{symbology} a", f"{symbology} c"])
                 self.check(f'"x"{delimiter}b\n', arguments, [f"{symbology} x"])
-        self.check("a\tb\n", "--code 1 --no-header --symbology qr".split(), ["qr a"])
+        self.check("a\tb\n", "--code 1 --header-row 0 --symbology qr".split(), ["qr a"])
         self.check("Lot;Link\nA;B\n", "--code Lot --symbology qr".split(), ["qr A"])
 
     def test_a_delimiter_that_only_later_rows_have_is_asked_for(self) -> None:
@@ -816,7 +835,8 @@ class Data(TableTest):
             ("\t", "a tab", "tab"),
         ):
             ask = (
-                f"give --delimiter {option} if it is between cells, --delimiter none if it is data"
+                f"what is it? it is between cells (--delimiter {option}) or it is data"
+                " (--delimiter none)"
             )
             table = f"code\nLOT 6\nLOT 7{delimiter}Name\n"
             arguments = "--code code --symbology code128".split()
@@ -825,9 +845,9 @@ class Data(TableTest):
         self.check("code\nLOT 6\nLOT 7;Name\n", [*arguments, "--delimiter", "none"], lines)
         self.check('code\nLOT 6\n"LOT 7;Name"\n', arguments, lines)
         self.check(f"code\n{SMALL}\n", ["--code", "code"], [f"ean8 {SMALL}"])
-        ask = "row 1 has \"^\": give --delimiter '^' if it is between cells, --delimiter none if it"
+        ask = "row 1 has \"^\": what is it? it is between cells (--delimiter '^') or it is data"
         table = f"code^Name\n{SMALL}^Tea\n"
-        self.check(table, ["--code", "code"], [], [f"{ask} is data"], 2)
+        self.check(table, ["--code", "code"], [], [f"{ask} (--delimiter none)"], 2)
         self.check(table, "--code code --delimiter ^".split(), [f"ean8 {SMALL}"])
 
 
@@ -848,18 +868,20 @@ class Arguments(TableTest):
             self.check_usage(["--code", "1", "--delimiter", argument], text)
 
     def test_arguments_that_do_not_go_together(self) -> None:
-        text = (
-            "--fill-zeros, --without-check-digit and --symbology code128 or qr do not go together"
-        )
+        text = "codes of Code 128 and QR have neither lost zeros nor check digits"
+        ways = {
+            "lost-zeros": "put no zeros in front (leave out --digits)",
+            "no-check": "take the last digit as the check digit (leave out --digits)",
+        }
         for symbology in ("code128", "qr"):
-            for argument in ("--fill-zeros", "--without-check-digit"):
-                hint = f"leave out {argument} or --symbology {symbology}"
-                words = ["--code", "1", "--symbology", symbology, argument]
+            for argument, way in ways.items():
+                hint = f"{way} or find their kind (leave out --symbology)"
+                words = ["--code", "1", "--symbology", symbology, "--digits", argument]
                 self.check_usage(words, f"{text}: {hint}")
-        hint = "leave out --fill-zeros or --without-check-digit"
-        words = ["--code", "1", "--fill-zeros", "--without-check-digit"]
-        self.check_usage(words, f"{text}: {hint}")
-        text = "--price-as needs --price, --unit-price or --old-price: leave out --price-as"
+        text = (
+            "there are no prices to be given another look: print prices as in the table (leave out"
+        )
+        text += " --price-as)"
         self.check_usage("--code 1 --price-as 0,00".split(), text)
         text = "EAN-13 has no setting level"
         self.check_usage("--code 1 --settings height=20,level=Q".split(), text)
@@ -868,7 +890,7 @@ class Arguments(TableTest):
 
     def test_settings_of_another_symbology_leave_their_row_out(self) -> None:
         table = f"code;kind\n{SMALL};ean8\nLOT 7;qr\n"
-        arguments = "--code code --symbology-column kind --settings height=20".split()
+        arguments = "--code code --symbology kind --settings height=20".split()
         problem = "row 3: QR Code has no setting height"
         self.check(table, arguments, [f"ean8,height=20 {SMALL}"], [problem], 1)
 
@@ -880,7 +902,7 @@ class Arguments(TableTest):
 
     def test_options_of_the_other_kind_of_table(self) -> None:
         for words in (["--sheet", "x"], ["--hidden"], ["--links"], ["--date-as", "dd.mm.yyyy"]):
-            problem = f"standard input is CSV: leave out {words[0]}"
+            problem = f"standard input is CSV: read it all the same (leave out {words[0]})"
             self.check(f"code\n{SMALL}\n", ["--code", "code", *words], [], [problem], 2)
 
     @support.slow

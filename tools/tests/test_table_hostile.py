@@ -36,7 +36,7 @@ class Hostile(TableTest):
 
     @support.slow
     def test_one_cell_many_times(self) -> None:
-        wide = ods_cell("x" * 100_000, more='table:number-columns-repeated="16384"')
+        wide = ods_cell("x" * 100_000, more='table:number-columns-repeated="16383"')
         self.assertIn("more than 1 MB", self.ended(ods(table(["EAN", wide]))))
         row = (
             "<table:table-row"
@@ -83,7 +83,6 @@ class Hostile(TableTest):
         )
         text = f'EAN;Name\n{SMALL};"' + "abcdefghijklmno\n" * 1_100_000
         self.assertIn("a quote is not closed", self.ended(text.encode()))
-        self.assertIn("line ends", self.ended(b"\n" * 39_000_000 + b"x;y\n"))
         self.assertIn("no column", self.ended(b"\n" * 1_100_000 + b"x;y\n"))
 
     @support.slow

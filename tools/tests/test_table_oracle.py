@@ -23,7 +23,6 @@ from typing import Any, Callable, Iterator, NamedTuple
 from xml.etree import ElementTree
 
 import support
-from labeltools.common.budget import Budget
 from labeltools.common.messages import RowError, Silence
 from labeltools.sheets.cells import PRINTED, taken_of
 from labeltools.sheets.number_format import Formatter, Signs
@@ -106,8 +105,7 @@ def ours(data: bytes) -> Sheet:
     formatter = Formatter(Signs(".", ","))
     cells: dict[tuple[int, int], Found] = {}
     hidden: set[int] = set()
-    budget = Budget("x", len(data))
-    for row in rows_of_workbook(data, None, formatter, Silence(), budget):
+    for row in rows_of_workbook(data, "x", None, formatter, Silence()):
         if row.is_hidden:
             hidden.add(row.number)
         for place in range(len(row.cells)):

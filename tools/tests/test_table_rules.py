@@ -27,10 +27,13 @@ from workbooks import (
 )
 
 NO_PRICE = "which is not a price: it"
-WORDS = "has words that are not part of a price; give --price-text if it is right"
+WORDS = "has words that are not part of a price; is it right? take any text as a price (--price-as text)"
 NUMBER = 400638100000
 MOVED = "cells may have moved, so compare the row with the table"
 HINT = "open it in the spreadsheet and save it again"
+
+
+MONTH = "may be a month; if it is none, choose how prices are printed (--price-as)"
 
 
 class RulesTest(TableTest):
@@ -110,15 +113,16 @@ class Prices(RulesTest):
                     self.assertIn(quoted(price), messages[0])
 
     def test_the_message_says_what_to_do(self) -> None:
-        no_number = "has no number; give --price-text if it is right"
+        no_number = "has no number; is it right? take any text as a price (--price-as text)"
         self.assertEqual(self.price("verzinkt"), no_number)
         self.assertEqual(self.price("auf Anfrage ab 5"), WORDS)
-        hint = "if this is a currency, give --currency-name"
+        hint = "is it a currency? take {0} as a currency (--currency-name {0})"
         self.assertEqual(
-            self.price("Zz12.50"), f"has letters before its digits, as a code has; {hint} Zz"
+            self.price("Zz12.50"),
+            f"has letters before its digits, as a code has; {hint.format('Zz')}",
         )
         self.assertEqual(self.price("Zz12.50", "--currency-name", "Zz"), "Zz12.50")
-        hint = f"{hint} R"
+        hint = hint.format("R")
         self.assertEqual(self.price("R12"), f"has letters before its digits, as a code has; {hint}")
         self.assertEqual(self.price("R12", "--currency-name", "R"), "R12")
 
@@ -132,11 +136,11 @@ class Prices(RulesTest):
 
     def test_free_text(self) -> None:
         for price in ("auf Anfrage", "gratis", "3 zum Preis von 2"):
-            self.assertEqual(self.price(price, "--price-text"), price)
+            self.assertEqual(self.price(price, "--price-as", "text"), price)
         problem = "has neither a letter nor a digit"
-        self.assertEqual(self.price("€", "--price-text"), problem)
+        self.assertEqual(self.price("€", "--price-as", "text"), problem)
         for price in ("undefined", "Fehler:502", "#WERT!"):
-            found = self.price(price, "--price-text")
+            found = self.price(price, "--price-as", "text")
             self.assertRegex(found, "which (a program|the spreadsheet) writes if it has no value")
 
     def test_a_price_is_printed_as_it_is(self) -> None:
@@ -157,14 +161,14 @@ class Prices(RulesTest):
     def test_a_text_that_may_be_a_month_is_no_price(self) -> None:
         """Excel makes 12.2026 of a date; a program's number may be the same."""
         for text in ("12.2026", "1.1999"):
-            self.assertEqual(self.price(text), "may be a month; give --price-as if it is none")
-            self.assertEqual(self.price(text, "--price-text"), text)
+            self.assertEqual(self.price(text), MONTH)
+            self.assertEqual(self.price(text, "--price-as", "text"), text)
             self.assertEqual(self.price(text, "--price-as", "0.00"), f"{float(text):.2f}")
         for text in ("13.2026", "12.2126", "12.20265", "12.2026 €"):
             self.assertEqual(self.price(text), text)
 
     def test_what_a_column_says_once(self) -> None:
-        program = "row 2 has {}, as programs write prices{}: give --price-as {} for two decimals"
+        program = "row 2 has {}, as programs write prices{}: print two decimals (--price-as {})"
         cases = {
             ("1.234", "5.678"): "",
             ("1,50", "1.50"): "",
@@ -197,7 +201,11 @@ class Prices(RulesTest):
         for (price, pattern), wanted in cases.items():
             self.assertEqual(self.price(price, "--price-as", pattern), wanted)
         refused = {
-            ("2.675", "0,00 €"): "may have thousands or decimals; give --decimal comma or point",
+            (
+                "2.675",
+                "0,00 €",
+            ): "may have thousands or decimals; which sign is before the cents? the "
+            "comma, as in 1,50 (--decimal comma) or the point, as in 1.50 (--decimal point)",
             ("0.001", "0,00 €"): "would be printed as zero",
             ("3 €", "0,00"): "has EUR, and the format of prices has no currency",
             ("3", "0,00 ¤"): "has no currency, and the format of prices wants one",
@@ -259,8 +267,8 @@ class Prices(RulesTest):
             "write it into one of them",
             f'row 6: column 2 ("Preis") has "1.00 €", {cannot} EUR, and its row has USD; '
             "write the same currency in both",
-            'row 3 has the currency "Soap", which is not known: if it is right, give '
-            "--currency-name Soap",
+            'row 3 has the currency "Soap", which is not known: is it right? take '
+            "Soap as a currency (--currency-name Soap)",
         ):
             self.assertIn(message, messages)
         labels = self.said(text, *arguments, "--price-as", "0,00 €")[2]
@@ -358,7 +366,10 @@ class Titles(RulesTest):
             ],
         )
         done = support.run_here("label-table", *"--code EAN --variants-of Handle".split())
-        self.assertIn("--variants-of needs --title", support.messages(done)[0])
+        self.assertIn(
+            "variants have one title, and there is none: name its column (--title)",
+            support.messages(done)[0],
+        )
 
     def test_tabs_and_marks_of_the_direction_are_white(self) -> None:
         labels = self.labels(
@@ -414,7 +425,11 @@ class Codes(RulesTest):
         problem = 'row 6: column 2 ("Art") has "Aztec", which is not a symbology: '
         problem += "it is one of EAN-13, EAN-8, UPC-A, Code 128, QR Code"
         lines = [f"ean13 {PENCIL}", "code128 LOT 7", "qr https://example.com/7", f"ean8 {SMALL}"]
-        self.check(text, "--code EAN --symbology-column Art".split(), lines, [problem], 1)
+        self.check(text, "--code EAN --symbology Art".split(), lines, [problem], 1)
+        wrong = '"eab13" is neither a symbology nor a column; row 1 has 1 "EAN", 2 "Art": give one '
+        wrong += "of auto, ean8, upca, ean13, code128, qr, or the column that has them"
+        self.check(text, "--code EAN --symbology eab13".split(), [], [wrong], 2)
+        self.check(f"EAN\n{PENCIL}\n", "--code EAN --symbology EAN-13".split(), lines[:1])
 
     def test_a_cell_that_leads_to_an_address(self) -> None:
         link = f'<hyperlinks xmlns:r="{SPACE}"><hyperlink ref="A2" r:id="rId1"/></hyperlinks>'
@@ -431,9 +446,7 @@ class Codes(RulesTest):
             xlsx(rows(["EAN"], [formula], ["B7"])),
             ods(table(["EAN"], [ods_cell(inside)], ["B7"])),
         )
-        said = (
-            "the code of row 2 is a text that leads to an address: give --links to draw the address"
-        )
+        said = "the code of row 2 is a text that leads to an address: draw the address (--links)"
         for data in files:
             arguments = "--code EAN --symbology qr".split()
             self.check(data, arguments, ["qr Hier klicken", "qr B7"], [said])
@@ -467,15 +480,17 @@ class Names(RulesTest):
         arguments = "--code EAN --title Name --price Preis".split()
         status, messages, labels = self.said(text, *arguments)
         self.assertEqual((status, labels), (2, []))
-        said = '^no column "EAN"; row 1 has 1 "Preisliste 2026".* the names are in row 5: give'
-        self.assertRegex(messages[0], f"{said} --header-row 5$")
+        said = '^no column "EAN"; row 1 has 1 "Preisliste 2026".*: take the names from row 5'
+        self.assertRegex(messages[0], f"{said} [(]--header-row 5[)]$")
         status, messages, labels = self.said(text, *arguments, "--header-row", "5")
         self.assertEqual((status, messages), (0, []))
         self.assertEqual(
             [(label["row"], label["title"]) for label, _ in labels], [(6, "Pen"), (7, "Atlas")]
         )
         data = xlsx(rows(*(line.split(";") for line in lines)))
-        self.assertRegex(self.said(data, *arguments)[1][0], "give --header-row 5$")
+        self.assertRegex(
+            self.said(data, *arguments)[1][0], "take the names from row 5 [(]--header-row 5[)]$"
+        )
         labels = self.said(data, *arguments, "--header-row", "5")[2]
         self.assertEqual([label["row"] for label, _ in labels], [6, 7])
         problem = "standard input has nothing in row 4"
@@ -606,8 +621,7 @@ class Workbooks(RulesTest):
         self.assertEqual(dates("yyyy-mm-dd h:mm:ss"), ["2026-11-25 0:00:00"])
         self.assertEqual(dates("h:mm AM/PM"), ["12:00 AM"])
         said = (
-            'dates are printed as "2026-11-25": is that right? else give --date-as dd.mm.yyyy, or'
-            " another format"
+            'dates are printed as "2026-11-25": print dates as 31.12.2026 (--date-as' " dd.mm.yyyy)"
         )
         self.assertEqual(dates(14), ["2026-11-25", said])
         formats: list[str | int] = [
@@ -631,10 +645,7 @@ class Workbooks(RulesTest):
 
     def test_damaged_numbers_and_counts(self) -> None:
         damaged = "standard input is damaged, has a password, or is neither .xlsx nor .ods "
-        ods_files = [
-            ods(table(["EAN", "x"], [SMALL, ods_cell("1", "float", f'office:value="{value}"')]))
-            for value in ("abc", "sNaN", "1e1000000", "NaN", "Infinity")
-        ]
+        ods_files = []
         for count in ("0", "-1", "1.5", "abc", "99999999999"):
             row = (
                 "<table:table-row"
@@ -644,15 +655,24 @@ class Workbooks(RulesTest):
             ods_files.append(
                 ods(table(["EAN", ods_cell("x", more=f'table:number-columns-repeated="{count}"')]))
             )
-        shared = '<c t="s"><v>-2</v></c>'
-        xlsx_files = [
-            xlsx(rows(["EAN"], [shared]), strings="<si><t>a</t></si><si><t>b</t></si>"),
-            xlsx(rows(["EAN"], [cell(7, style=-1)]), formats=["0"]),
-        ]
-        for data in (*ods_files, *xlsx_files):
+        for data in ods_files:
             status, messages, labels = self.said(data, "--code", "EAN")
             self.assertEqual((status, labels, len(messages)), (1, [], 1))
             self.assertTrue(messages[0].startswith(damaged), messages)
+
+    def test_damaged_cells(self) -> None:
+        """Each leaves out its row, and no other one."""
+        values = ("abc", "sNaN", "1e1000000", "1e-1000000", "NaN", "Infinity")
+        numbers = [ods_cell("1", "float", f'office:value="{value}"') for value in values]
+        files = [ods(table(["EAN", "x"], [SMALL, number], [SMALL, "a"])) for number in numbers]
+        shared = ('<c t="s"><v>-2</v></c>', '<c t="s"><v>7</v></c>', cell(7, style=-1))
+        for odd in (*shared, "<c><v>1E999</v></c>", '<c s="9"><v>7</v></c>'):
+            lines = (["EAN", "x"], [SMALL, odd], [SMALL, "a"])
+            files.append(xlsx(rows(*lines), strings="<si><t>a</t></si>", formats=["0"]))
+        for data in files:
+            status, messages, labels = self.said(data, "--code", "EAN", "--text", "x")
+            self.assertEqual((status, [label[0]["row"] for label in labels]), (1, [3]), messages)
+            self.assertRegex(messages[0], r'^row 2: column 2 \("x"\) is damaged')
 
     def test_one_part_twice(self) -> None:
         parts = unpacked(xlsx(rows(["EAN"], [SMALL])))
@@ -684,7 +704,8 @@ class Encodings(RulesTest):
             for codec in codecs.split():
                 data = f"EAN;Name\n{SMALL};{text}\n".encode(codec)
                 _, messages, _ = self.said(data, "--code", "EAN", "--title", "Name")
-                read = dict(re.findall(r'([\w-]+) reads "([^"]*)"', messages[0]))
+                found = re.findall(r"(?:; |\) or )(.*?) \(--encoding ([\w-]+)", messages[0])
+                read = {name: word for word, name in found}
                 self.assertLessEqual(len(read), 4)
                 words = text.replace(",", " ").split()
                 right = [name for name, word in read.items() if set(word.split()) <= set(words)]
@@ -698,7 +719,8 @@ class Encodings(RulesTest):
 
     def test_an_encoding_that_is_no_text(self) -> None:
         done = support.run("label-table", "--code", "1", "--encoding", b"\xff", input=b"EAN\n")
-        problem = 'label-table: --encoding "<U+DCFF>" is unknown: give one as cp1252'
+        problem = 'label-table: the encoding "<U+DCFF>" is unknown: give one as cp1252'
+        problem += " (--encoding)"
         self.assertEqual((done.returncode, support.messages(done)), (2, [problem]))
 
 

@@ -3,6 +3,7 @@
 import gettext
 import json
 import os
+import random
 import re
 import shlex
 import subprocess
@@ -11,8 +12,8 @@ import tempfile
 import threading
 import time
 import unittest
-from contextlib import redirect_stderr, redirect_stdout
-from dataclasses import fields, replace
+from contextlib import contextmanager, redirect_stderr, redirect_stdout
+from dataclasses import asdict, replace
 from functools import partial
 from importlib import import_module
 from io import StringIO
@@ -27,17 +28,18 @@ import cairo
 
 import support
 import test_german
-from labeltools.commands.label_print import print_options
-from labeltools.commands.label_table import table_options, understood
+from labeltools.commands.label_print import OPTIONS, print_options
+from labeltools.commands.label_table import understood
 from labeltools.common.arguments import words_of
-from labeltools.common.messages import BadArguments, ToolError
-from labeltools.common.text import NOTHING, Text
+from labeltools.common.messages import Problem, ToolError
+from labeltools.common.text import capitalized, NOTHING, Text, translated
 from labeltools.drawing.forms import FORMS
+from labeltools.layout.layout import LaidOut
 from labeltools.printing.job import planned
 from labeltools.sending import cups as sending_cups, network, printers as sending
 from labeltools.sending.job import JobState, SentJob
 from labeltools.sending.queue import Queue
-from labeltools.tables.codes import NAMES
+from labeltools.tables.codes import NAMES, WAYS_OF_DIGITS
 from printers import Printer, READY, STATUS
 from scheduler import raster_of, Scheduler, WITH_TEST
 from workbooks import cell, rows, xlsx
@@ -52,8 +54,9 @@ PROGRAMS = ("Xvfb", "pdftoppm", "msgfmt")
 WAIT = 300.0  # seconds for work, on a busy machine too
 BEAT = 10  # milliseconds between two looks at the window
 SCALE = 4  # pixels of a millimetre
+TYPED = ("stock", "edge", "note", "for_table", "for_print")  # GTK tells of these a moment later
 LOADED = (
-    "application bar choices designs further gtk printers questions sheets shop ways widgets window"
+    "application bar choices designs further gtk owners presets printers questions sheets shop ways window"
     " work".split()
 )
 # What setUpModule makes.
@@ -65,13 +68,14 @@ bar: Any = None
 choices: Any = None
 designs: Any = None
 further: Any = None
+owners: Any = None
+presets: Any = None
 printers: Any = None
 gtk: Any = None
 questions: Any = None
 sheets: Any = None
 shop: Any = None
 ways: Any = None
-widgets: Any = None
 window: Any = None
 work: Any = None
 Gdk: Any = None
@@ -111,8 +115,9 @@ def load() -> None:
     """Loads the window, where there is a screen. Nothing moves on it, since each step of a movement
     would be drawn.
     """
-    global application, bar, choices, designs, further, gtk, printers, questions, sheets, shop, ways
-    global widgets, window, work, Gdk, Gio, GLib, Gtk
+    global application, bar, choices, designs, further, gtk, owners, presets, printers, questions
+    global sheets
+    global shop, ways, window, work, Gdk, Gio, GLib, Gtk
     sys.path.insert(0, str(support.TOOLS))
     (
         application,
@@ -121,12 +126,13 @@ def load() -> None:
         designs,
         further,
         gtk,
+        owners,
+        presets,
         printers,
         questions,
         sheets,
         shop,
         ways,
-        widgets,
         window,
         work,
     ) = (import_module(f"labeltools.window.{name}") for name in LOADED)
@@ -143,12 +149,34 @@ def tearDownModule() -> None:
     folder.cleanup()
 
 
-def settle(seconds: float) -> None:
-    """Lets the window work, on a busy machine for longer."""
-    for _ in range(max(round(1000 * seconds / BEAT), 1)):
-        while Gtk.events_pending():
-            Gtk.main_iteration_do(False)
+def settle() -> None:
+    """Lets the windows do all that waits, and what the screen answers to what they asked of it."""
+    Gdk.Display.get_default().sync()
+    while Gtk.events_pending():
+        Gtk.main_iteration_do(False)
+
+
+def until(is_done: Callable[[], Any]) -> None:
+    """Lets the windows work until something is so."""
+    end = time.monotonic() + WAIT
+    while not is_done():
+        if time.monotonic() > end:
+            raise AssertionError("the window did not get there")
+        settle()
         time.sleep(BEAT / 1000)
+
+
+def draw(shown: Any) -> None:
+    """Waits until a window is drawn as it is now: for a third time, since what is drawn may move
+    what is beside it.
+    """
+    for _ in range(3):
+        frames: list[Any] = []
+        clock = shown.get_frame_clock()
+        handler = clock.connect("after-paint", frames.append)
+        clock.request_phase(Gdk.FrameClockPhase.PAINT)
+        until(lambda: frames)
+        clock.disconnect(handler)
 
 
 def settle_until(is_done: Callable[[], Any]) -> None:
@@ -198,26 +226,23 @@ def show_cut_texts(path: Path) -> None:
     shown.present()
     shown.resize(1024, 554)
     shown.open_table(path)
-    while not shown.has_labels:
-        settle(0.1)
+    until(lambda: shown.has_labels)
     for fold in (shown.widgets.more_of_table, shown.widgets.more_of_paper, shown.widgets.fold):
-        (fold.set_active if fold is shown.widgets.fold else fold.set_expanded)(True)
-    with shown.filling():
-        given = "--variants-of Handle --encoding cp1252 --decimal point --fill-zeros --links"
-        shown.take_values(given_table=given, given_print="--edge 1 --paper-as-given")
+        fold.set_expanded(True)
+    shown.table = shown.path = None  # it is only looked at
+    given = "--variants-of Handle --encoding cp1252 --decimal point --digits lost-zeros --links"
+    shown.take_values(given_table=given, given_print="--edge 1 --paper-as-given")
     for name in questions.BELOW:
-        shown.questions.ask_below(
-            name, questions.which("copies"), [("Preis A  –  19,57", bool)] * 2
-        )
-    settle(0.5)
+        answers = [("Preis A  –  19,57", bool)] * 2
+        shown.questions.below(name).ask(translated(questions.WHICH["copies"]), answers)
+    draw(shown)
     print([*cut_texts(shown.get_child())])
     long = Text(
         "it is not clear how the letters of {} are stored", "Price list of the old till.csv"
     )
-    shown.questions.ask_of_file(
-        questions.reason_and_hint(long), questions.reason_and_hint(long), [("Füller", bool)] * 4
-    )
-    settle(0.5)
+    asked = questions.in_sentences(Problem(long))
+    shown.questions.ask_of_file(asked, asked, [("Füller", bool)] * 4)
+    draw(shown)
     print([*cut_texts(shown.get_child())])
 
 
@@ -239,8 +264,17 @@ class Keeper(unittest.TestCase):
         self.addCleanup(none.stop)
         self.table = self.folder / "articles.csv"
         self.table.write_text(TABLE)
+        self.untold: set[Any] = set()  # fields whose text GTK has yet to tell of
+        self.begin()
+
+    def begin(self) -> None:
+        """Shows a window, which has looked for printers."""
         self.window = window.Window()
         self.window.present()
+        for name in TYPED:
+            self.widgets.__dict__[name].connect("changed", self.untold.add)
+            self.widgets.__dict__[name].connect("search-changed", self.untold.discard)
+        self.until(lambda: self.window.of_printers.wanted)
 
     @property
     def widgets(self) -> Any:
@@ -251,7 +285,7 @@ class Keeper(unittest.TestCase):
         if not self.has_typed:
             self.check_sentences()
         self.window.destroy()
-        settle(0.05)
+        settle()
         self.assertEqual(self.raised, [])
 
     def check_sentences(self) -> None:
@@ -261,8 +295,7 @@ class Keeper(unittest.TestCase):
 
     def shown(self) -> Any:
         """The pixels of what the window shows, and how many of them are dark."""
-        settle(0.1)
-        shown = self.window.shown
+        shown = self.window.result.shown
         sides = (round(side * SCALE) for side in shown.size)
         surface = cairo.ImageSurface(cairo.FORMAT_RGB24, *sides)
         canvas = cairo.Context(surface)
@@ -274,10 +307,19 @@ class Keeper(unittest.TestCase):
 
     def until(self, is_done: Callable[[], Any]) -> None:
         """Waits for something."""
-        end = time.monotonic() + WAIT
-        while not is_done():
-            self.assertLess(time.monotonic(), end, "the window did not get there")
-            settle(0.03)
+        until(is_done)
+
+    def rest(self) -> None:
+        """Waits until nothing is under way: what is typed is told, each thread has done its work,
+        and what came of it is shown.
+        """
+        talk = None
+        while talk is not self.window.work.talk:
+            talk = self.window.work.talk
+            threads = self.window.work.thread, self.window.of_printers.thread
+            ends = [thread.submit(int) for thread in threads]
+            self.until(lambda: not self.untold and all(end.done() for end in ends))
+            settle()
 
     def open(self, text: str | bytes | None = None, path: Path | None = None) -> None:
         """Opens the table, with another text where one is given, or another file."""
@@ -285,7 +327,8 @@ class Keeper(unittest.TestCase):
             self.table.write_bytes(text if isinstance(text, bytes) else text.encode())
         self.window.events.hide()
         self.window.open_table(path or self.table)
-        self.until(lambda: self.window.has_labels or self.problem())
+        self.rest()
+        self.assertTrue(self.window.has_labels or self.problem())
 
     def closed(self) -> None:
         """Leaves the table, for a file that is not there."""
@@ -303,32 +346,25 @@ class Keeper(unittest.TestCase):
         calls = {f"{call}.return_value": value for call, value in values.items()}
         confirmed = Gtk.ResponseType.ACCEPT if "get_filename" in values else Gtk.ResponseType.OK
         dialog = mock.Mock(**{"run.return_value": confirmed, **calls})
-        self.window.widgets = replace(self.widgets, **{name: dialog})
+        setattr(self.widgets, name, dialog)
 
     def change(self, **choices: Any) -> None:
         """Changes choices, and waits for the labels; for other words the table is read again."""
         self.has_typed = self.has_typed or bool({"for_table", "for_print"}.intersection(choices))
         self.remade(lambda: [self.window.take_values(**{name: choices[name]}) for name in choices])
-        words = choices.get("for_table", self.window.further.typed)
-        self.until(lambda: self.window.further.typed == words)
-        self.until(lambda: self.window.has_labels or self.problem())
 
     def remade(self, change: Callable[[], Any]) -> None:
-        """Changes something, and waits for other labels than before."""
+        """Changes something, and waits for its labels."""
         self.window.events.hide()
-        before, old = self.window.__dict__.get("made"), self.problem()
         change()
-        self.until(
-            lambda: self.window.has_labels
-            and self.window.made is not before
-            or self.problem() not in ("", old)
-        )
+        self.rest()
+        self.assertTrue(self.window.has_labels or self.problem())
 
     def problem(self) -> Any:
         """What the window asks, or says that it cannot do."""
         if self.widgets.stack.get_visible_child_name() == "asking":
             return f"{self.widgets.asked.get_text()}\n{self.widgets.asked_more.get_text()}"
-        asked = [self.window.questions.box(name) for name in questions.BELOW]
+        asked = [self.window.questions.below(name) for name in questions.BELOW]
         if texts := [box.text.get_text() for box in asked if box.get_visible()]:
             return texts[0]
         event = self.window.events.event
@@ -351,7 +387,7 @@ class Keeper(unittest.TestCase):
 
     def answers(self) -> Any:
         """The buttons that help."""
-        asked = [self.window.questions.box(name) for name in questions.BELOW]
+        asked = [self.window.questions.below(name) for name in questions.BELOW]
         boxes = [box.answers for box in asked if box.get_visible()] + [*self.widgets.helps]
         if self.widgets.stack.get_visible_child_name() == "asking":
             boxes = [self.widgets.answers]
@@ -362,10 +398,12 @@ class Keeper(unittest.TestCase):
 
     def said_after(self, work: Callable[..., Any], *values: Any) -> Any:
         """What the window says once it has saved, printed or sent labels."""
-        before = len(self.happened())
+        before = self.widgets.history_list.get_children()[:1]
         work(*values)
-        self.until(lambda: len(self.happened()) > before or self.problem())
-        return self.happened()[-before - 1].removeprefix("6 labels are ")
+        self.until(lambda: self.widgets.history_list.get_children()[:1] != before or self.problem())
+        rows = self.widgets.history_list.get_children()
+        place = rows.index(before[0]) if before else len(rows)
+        return self.happened()[place - 1].removeprefix("6 labels are ")
 
     def saved(self, name: str) -> Any:
         """What the window saves."""
@@ -379,6 +417,7 @@ class Keeper(unittest.TestCase):
         how = {} if answer is None else {"return_value": answer}
         with mock.patch.object(self.window, "asked_in_dialog", create=True, **how):
             self.answers()[button].clicked()
+            settle()
 
     def chosen(self, key: str) -> None:
         """Chooses a printer, of those that are there now."""
@@ -395,23 +434,46 @@ class Keeper(unittest.TestCase):
 
     def confirmed(self, kind: str = "", which: str = "") -> Any:
         """What the window says once Print is pressed, there and in the dialog."""
-        GLib.timeout_add(BEAT, self.confirm, kind, which)
-        return self.said_after(self.widgets.print_button.clicked)
+        with self.in_dialog(partial(self.confirm, kind, which)):
+            return self.said_after(self.widgets.print_button.clicked)
 
-    def confirm(self, kind: str, which: str) -> bool:
-        """Presses Print in the dialog once that is there; returns whether to look again."""
-        if not self.widgets.printing.get_visible():
-            return not self.problem()
+    @contextmanager
+    def in_dialog(self, act: Callable[[], Any]) -> Iterator[None]:
+        """Does something in the dialog that asks what is printed, each time that it is there."""
+
+        def look() -> bool:
+            if self.widgets.printing.get_visible():
+                act()
+            return True
+
+        looks = GLib.timeout_add(BEAT, look)
+        try:
+            yield
+        finally:
+            GLib.source_remove(looks)
+
+    def confirm(self, kind: str = "", which: str = "") -> None:
+        """Presses Print in the dialog."""
         self.widgets.print_trial.set_active(kind == "trial")
         if which:
             self.widgets.print_what.set_active_id(kind)
             self.widgets.print_rows.set_text(which)
         self.widgets.printing.response(Gtk.ResponseType.OK)
-        return False
 
     def by_commands(self, *words: Any) -> Any:
         """What the commands write for the table."""
-        options = ["--header", "--code", "2", "--title", "3", "--price", "4", "--copies", "6"]
+        options = [
+            "--header-row",
+            "1",
+            "--code",
+            "2",
+            "--title",
+            "3",
+            "--price",
+            "4",
+            "--copies",
+            "6",
+        ]
         lines = support.run("label-table", *options, "--", self.table).stdout
         return support.run("label-print", *words, input=lines).stdout
 
@@ -428,7 +490,7 @@ IS_AUTO = {"symbology": "auto"}
 OPEN = "EAN;Name;Price\n96385074;Gum;1,200\n4006381333931;Pen;2,500\n"
 CARETS = "EAN^Name\n96385074^Gum\n4006381333931^Tea\n"
 CARET = "EAN^13\n96385074\n4006381333931\n"
-BARE = "--without-check-digit"
+BARE = "--digits no-check"
 NAMED = ["EAN", "Name", "Price"]
 BOUGHT = ["96385074", "Gum", "1,00"]
 LINK = '<c t="str"><f>HYPERLINK("https://example.com/7","Here")</f><v>Here</v></c>'
@@ -440,54 +502,53 @@ NUMBERS = rows(NAMED, ["96385074", "Gum", cell(1.5, style=1)])
 DAYS = rows(NAMED, ["96385074", cell(45678, style=1), "1,00"])
 # a table, what is chosen before, a button that helps, and the words of label-table instead
 PRESSED: tuple[tuple[str | bytes, dict[str, Any], str, str], ...] = (
-    (NOT_YET.format("36000291452"), {}, "Put lost zeros back in front", "--fill-zeros"),
-    (NOT_YET.format("4006350000000"), {}, "Codes may end with zeros", "--allow-zeros"),
-    (TWO.format("3", "4"), IS_AUTO, "The codes are Code 128", "--symbology code128"),
-    (TWO.format("A-1", "A-2"), IS_AUTO, "The codes are QR Code", "--symbology qr"),
-    (NOT_YET.format("01234565"), {}, "The codes are EAN-8", "--symbology ean8"),
-    (PEN.format("0000096385074"), {}, "The codes are EAN-13", "--symbology ean13"),
+    (NOT_YET.format("36000291452"), {}, "Put lost zeros back in front", "--digits lost-zeros"),
+    (NOT_YET.format("4006350000000"), {}, "Take codes that end in zeros", "--allow-zeros"),
+    (TWO.format("3", "4"), IS_AUTO, "Draw the codes as Code 128", "--symbology code128"),
+    (TWO.format("A-1", "A-2"), IS_AUTO, "Draw the codes as QR Code", "--symbology qr"),
+    (NOT_YET.format("01234565"), {}, "Draw the codes as EAN-8", "--symbology ean8"),
+    (PEN.format("0000096385074"), {}, "Draw the codes as EAN-13", "--symbology ean13"),
     (
         NOT_YET.format("40063813339"),
         {"for_table": BARE},
-        "The codes are UPC-A",
+        "Draw the codes as UPC-A",
         f"{BARE} --symbology upca",
     ),
     (NOT_YET.format("4006381333931"), {"for_table": "--symbology ean8"}, "Find their kind", ""),
-    (TWO.format("400638133393", "401234500000"), {}, "The codes have no check digit", BARE),
-    (NOT_YET.format("4006381333931"), {"for_table": BARE}, "The codes have a check digit", ""),
-    (TEA.format("soon"), {}, "Prices may be any text", "--price-text"),
-    (TEA.format("2,0000"), {}, "Print two decimals", "--price-as 0,00"),
-    (TEA.format("Taler2,00"), {}, "Taler is a currency", "--currency-name Taler"),
+    (TWO.format("400638133393", "401234500000"), {}, "Add check digits to the codes", BARE),
+    (
+        NOT_YET.format("4006381333931"),
+        {"for_table": BARE},
+        "Take the last digit as the check digit",
+        "",
+    ),
+    (TEA.format("soon"), {}, "Take any text as a price", "--price-as text"),
+    (TEA.format("2,0000"), {"price_as": ""}, "Print two decimals", "--price-as 0,00"),
+    (TEA.format("Taler2,00"), {}, "Take Taler as a currency", "--currency-name Taler"),
     (
         TEA.format("2,00"),
-        {"for_table": "--fill-zeros", "symbology": "code128"},
+        {"for_table": "--digits lost-zeros", "symbology": "code128"},
         "Put no zeros in front",
         "--symbology code128",
     ),
     (
         TEA.format("2,00"),
-        {"for_table": "--fill-zeros", "symbology": "code128"},
+        {"for_table": "--digits lost-zeros", "symbology": "code128"},
         "Find their kind",
-        "--fill-zeros",
+        "--digits lost-zeros",
     ),
     (
         TEA.format("2,00"),
-        {"for_table": "--price-text", "price_as": "0,00 €"},
-        "Every price is a number",
-        "--price-as '0,00 €'",
-    ),
-    (
-        TEA.format("2,00"),
-        {"for_table": "--price-text", "price_as": "0,00 €"},
-        "As in the table",
-        "--price-text",
+        {"price": "", "for_table": "--price-as text"},
+        "Print prices as in the table",
+        "--code 1 --title 2",
     ),
     (TEA.format("2,00"), {"for_table": "--hidden"}, "Read it all the same", ""),
     (TEA.format("2,00"), {"for_table": "--delimiter tab"}, "Find what is between cells", ""),
     (
         "of May;;\n" + TEA.format("2,00"),
         {"for_table": "--where Name=Gum", "header_row": 1},
-        "The names are in row 2",
+        "Take the names from row 2",
         "--header-row 2 --where Name=Gum",
     ),
     (
@@ -520,7 +581,7 @@ PRESSED: tuple[tuple[str | bytes, dict[str, Any], str, str], ...] = (
     (SHEETS, {}, "Tea", "--sheet Tea"),
     (xlsx(HIDDEN), {}, "Print hidden rows too", "--hidden"),
     (xlsx(NUMBERS, formats=["0.00"]), {}, "1,50", "--decimal comma"),
-    (xlsx(DAYS, formats=[14]), {"title": "2"}, "As 31.12.2026", "--date-as dd.mm.yyyy"),
+    (xlsx(DAYS, formats=[14]), {"title": "2"}, "Print dates as 31.12.2026", "--date-as dd.mm.yyyy"),
     (
         xlsx(rows(NAMED, [LINK, "Gum", "1,00"], ["B7", "Tea", "2,00"])),
         {"symbology": "qr"},
@@ -531,24 +592,24 @@ PRESSED: tuple[tuple[str | bytes, dict[str, Any], str, str], ...] = (
 
 
 # what a button says that it changes of a label
-CHANGED = {"Draw the address": "code", "As 31.12.2026": "title"}
+CHANGED = {"Draw the address": "code", "Print dates as 31.12.2026": "title"}
 # a table, what is chosen before, and a button that would do harm to its first row
 HARMFUL: tuple[tuple[str, dict[str, Any], str], ...] = (
-    (NOT_YET.format("A-1"), {}, "The codes are Code 128"),
-    (NOT_YET.format("3"), {}, "The codes are QR Code"),
-    (NOT_YET.format("0000096385074"), {}, "The codes are EAN-13"),
-    (PEN.format("01234565"), {}, "The codes are EAN-8"),
-    (NOT_YET.format("400638133393"), {}, "The codes have no check digit"),
+    (NOT_YET.format("A-1"), {}, "Draw the codes as Code 128"),
+    (NOT_YET.format("3"), {}, "Draw the codes as QR Code"),
+    (NOT_YET.format("0000096385074"), {}, "Draw the codes as EAN-13"),
+    (PEN.format("01234565"), {}, "Draw the codes as EAN-8"),
+    (NOT_YET.format("400638133393"), {}, "Add check digits to the codes"),
     (
         TWO.format("01234565", "4006381333931"),
         {"for_table": "--symbology ean8"},
         "Find their kind",
     ),
-    (TEA.format("2,0000").replace("1,00", "1,00 €"), {}, "Print two decimals"),
+    (TEA.format("2,0000").replace("1,00", "1,00 €"), {"price_as": ""}, "Print two decimals"),
     (
         "EAN;Name;Price;Currency\n96385074;Gum;1.00;EUR\n4006381333931;Tea;soon;EUR\n",
         {"for_table": "--currency Currency"},
-        "Prices may be any text",
+        "Take any text as a price",
     ),
 )
 
@@ -561,79 +622,26 @@ OF_PRINTERS = (
 )
 
 
-class Record(unittest.TestCase):
-    """The widgets of window.ui are those of the record that code has them by."""
+class Ids(unittest.TestCase):
+    """Code finds what it uses of window.ui by its ids, and each id has a use."""
 
     # ids by which tests and pictures for the pages find something, and code does not
-    BY_TESTS = {"left_out_list", "more", "recent_button"}
+    BY_TESTS = {"recent_button"}
 
-    def test_each_widget_has_its_type_and_a_use(self) -> None:
-        tree = ElementTree.parse(support.TOOLS / "labeltools/window/window.ui")
+    def test_each_id_has_a_use_and_each_use_an_id(self) -> None:
+        folder = support.TOOLS / "labeltools/window"
+        tree = ElementTree.parse(folder / "window.ui")
         parts = [*tree.iter("object"), *tree.iter("menu"), *tree.iter("section")]
-        types = {part.get("id"): part.get("class", "GMenu") for part in parts if part.get("id")}
-        record = {field.name: field.type.__gtype__.name for field in fields(widgets.Widgets)}
-        self.assertEqual(record, {name: types.get(name) for name in record})
+        ids = {part.get("id") for part in parts if part.get("id")}
+        code = "".join(path.read_text() for path in folder.glob("*.py"))
+        used = {*re.findall(r"widgets\.(\w+)", code), *re.findall(r'get_object\("(\w+)', code)}
+        used |= {*window.CONTROLS, *(f"ask_{name}" for name in questions.BELOW)}
+        used |= {f"sheet_{name}" for name in sheets.OwnSheet.__dataclass_fields__}
+        used |= {"printing", "adding", "choosing", "describing", "typing"}
+        self.assertEqual(used - ids, set())
         named = {part.text for part in tree.iter()}  # in the file itself
         named |= {part.get("bind-source") for part in tree.iter("property")}
-        self.assertEqual({*types} - {*record} - named, self.BY_TESTS)
-
-    def test_what_lacks_is_named(self) -> None:
-        empty = Gtk.Builder()
-        with self.assertRaisesRegex(TypeError, "adding"):
-            widgets.widgets_of(empty)
-
-
-class Options(unittest.TestCase):
-    """The options of what is chosen are those of the commands that are shown."""
-
-    COLUMNS = {"code": "2", "title": "3", "price": "4", "copies": "6"}
-    NONE = dict.fromkeys(("text", "text_2", "unit_price", "old_price", "price_as"), "")
-    PAPER = {"stock": "Avery L7160", "first": 3, "width": 60.0, "height": 40.0, "design": "shelf"}
-    TYPED = dict.fromkeys(("for_table", "for_print", "given_table", "given_print"), "")
-    KINDS = {"symbology": "auto", "to": "pdf", "dpi": "600", "header_row": 1, "printer": ""}
-    FLAGS = {"sheet": True, "roll": False, "new_only": False}
-    ALL: dict[str, Any] = {**COLUMNS, **NONE, **PAPER, **TYPED, **KINDS, **FLAGS}
-    CHANGES: tuple[dict[str, Any], ...] = (
-        {"title": "", "copies": "", "price": "", "symbology": None, "to": None, "stock": ""},
-        {"text": "4", "text_2": "5", "unit_price": "6", "old_price": "7"},
-        {"text_2": "5", "symbology": "qr", "price_as": "0,00 €", "header_row": 0},
-        {"roll": True, "width": 62.5, "to": "zpl", "dpi": "203", "design": "article"},
-        {"for_table": "--title 9 --price 8 --where Name=Tea", "given_table": "--decimal point"},
-        {"for_table": "--header-row 3 --symbology ean8 --price-as 0.00", "price_as": "0,00 €"},
-        {"for_print": "--first 2 --edge 1 --to svg", "given_print": "--edge 2 --turn"},
-        {"for_table": "--no-header", "header_row": 0, "for_print": "--stock L7169"},
-    )
-    # options that are typed, and do not go with what is chosen
-    WRONG: tuple[dict[str, Any], ...] = (
-        {"for_table": "--header"},
-        {"for_table": "--no-header"},
-        {"for_table": "--header", "header_row": 0},
-        {"for_print": "--paper 9x9"},
-        {"for_print": "--stock L7169", "roll": True},
-        {"for_print": "--list-stock"},
-    )
-
-    def of_words(self, chosen: Any) -> Any:
-        """What the commands read."""
-        arguments = understood(choices.table_words(chosen))
-        return table_options(arguments), print_options(choices.print_words(chosen))
-
-    def test_they_are_those_of_the_words(self) -> None:
-        for change in self.CHANGES:
-            with self.subTest(change):
-                chosen = choices.Choices(**{**self.ALL, **change})
-                found = choices.table_options_of(chosen), choices.print_options_of(chosen)
-                self.assertEqual(found, self.of_words(chosen))
-
-    def test_what_does_not_go_together_is_refused_as_the_commands_do(self) -> None:
-        for change in self.WRONG:
-            with self.subTest(change):
-                chosen = choices.Choices(**{**self.ALL, **change})
-                with self.assertRaises(BadArguments) as found:
-                    choices.table_options_of(chosen), choices.print_options_of(chosen)
-                with self.assertRaises(BadArguments) as wanted:
-                    self.of_words(chosen)
-                self.assertEqual(found.exception.what, wanted.exception.what)
+        self.assertEqual(ids - used - named, self.BY_TESTS)
 
 
 class Mnemonics(unittest.TestCase):
@@ -667,20 +675,19 @@ class Sentences(unittest.TestCase):
         try:
             make(words)
         except ToolError as error:
-            return str(questions.reason_and_hint(error.what, error.hint))
+            return str(questions.in_sentences(error.problem))
         return ""
 
     def test_what_controls_and_buttons_give_together(self) -> None:
         """Each choice of them with each other one."""
-        flags = ("fill-zeros", "without-check-digit", "price-text")
         said = set()
-        for kind, pattern, price, *given in product(
-            NAMES, ("", "0,00 €"), ("", "3"), *((False, True) for _ in flags)
+        for kind, pattern, price, digits in product(
+            NAMES, ("", "0,00 €", "text"), ("", "3"), ("", *WAYS_OF_DIGITS)
         ):
             chosen = {"code": "1", "symbology": kind, "price": price, "price-as": pattern}
-            words = words_of({**chosen, **dict(zip(flags, given))})
+            words = words_of({**chosen, "digits": digits})
             said.add(self.said_of(understood, [*words, "a.csv"]))
-        self.assertEqual(len(said), 4)
+        self.assertEqual(len(said), 3)
         papers: list[dict[str, str]] = [{"paper": "60x40"}, {"paper": "5x5"}, {}]
         papers += [{"stock": "Avery L7160"}, {"stock": "-x"}]
         for form, dpi, first, edge, paper in product(
@@ -690,17 +697,6 @@ class Sentences(unittest.TestCase):
             said.add(self.said_of(lambda words: planned(print_options(words)), words))
         self.assertGreater(len(said), 8)
         self.assertEqual([text for text in said if "--" in text], [])
-
-    def test_texts_that_name_options_are_not_said(self) -> None:
-        """Each needs an option that the window never gives, or words without a code."""
-        own = {
-            *(name.replace("_", "-") for name in window.CONTROLS),
-            "paper",
-            "new-since",
-            *test_german.remedies(True),
-        } - {"after"}
-        for needs, text in test_german.in_words():
-            self.assertEqual(own.intersection(needs.split(", ")), set(), text)
 
 
 class Remedies(Keeper):
@@ -755,7 +751,7 @@ class Remedies(Keeper):
                     self.change(**{name: value})
                 self.until(lambda: self.window.has_labels)
                 self.assertEqual(self.window.made.lines.count, 1 + (button == "Print two decimals"))
-                said = [str(remedy.says) for remedy in self.window.made.harmful]
+                said = [capitalized(remedy.says) for remedy in self.window.made.harmful]
                 self.assertIn(button, said)
                 self.assertNotIn(button, self.answers())
 
@@ -766,15 +762,16 @@ class Remedies(Keeper):
             with self.subTest(button, driver=driver):
                 scheduler.add(f"queue-{number}", driver)
                 self.chosen(f"queue-{number}")
-                self.change(roll=True, width=60, height=size, given_print="")
+                self.change(roll=True, width=60, height=size, given_print="", edge="")
                 self.until(lambda: self.window.has_labels)
-                GLib.timeout_add(BEAT, self.confirm, "", "")
-                self.widgets.print_button.clicked()
-                self.until(self.answers)
+                with self.in_dialog(self.confirm):
+                    self.widgets.print_button.clicked()
+                    self.until(self.answers)
                 self.check_sentences()
                 self.remade(self.answers()[button].clicked)
                 self.until(lambda: self.window.has_labels)
-                self.assertEqual(self.window.choices().given_print, words)
+                chosen = self.window.choices()
+                self.assertEqual(chosen.given_print or f"--edge {chosen.edge}", words)
                 self.assertIn("sent to", self.confirmed())
                 self.until(lambda: not self.window.ways.waiting)  # the next one is not told of it
                 paper = ("--paper", f"60x{size}", "--dpi", "300")
@@ -785,21 +782,495 @@ class Remedies(Keeper):
         """But for whether row 1 has names, which a window always says."""
         pressed = [(button, words) for *_, button, words in (*PRESSED, *OF_PRINTERS)]
         pressed += [
-            ("The letters are wrong", "--encoding"),
+            ("Read them in another way", "--encoding"),
             ("203 dpi", "--dpi"),
             ("Go on with label 3", "--after"),
         ]  # by tests of their own
         for option, text in test_german.says():
-            if option not in ("header", "no-header"):
-                words = re.escape(text).replace(r"\{\}", ".+")
+            if option != "header-row" and ">>" not in text:  # of standard output
+                words = re.escape(text[:1].upper() + text[1:]).replace(r"\{\}", ".+")
                 found = [option for button, option in pressed if re.fullmatch(words, button)]
                 self.assertTrue(found, text)
         for row in (0, 1, 2):
             chosen = replace(self.window.choices(), code="1", header_row=row)
-            self.assertTrue({"--no-header", "--header-row"} & {*choices.table_words(chosen)})
+            self.assertIn("--header-row", choices.table_words(chosen))
+
+
+TWO_CODES = """SKU;EAN;Article;Price
+A-100;4006381333931;Pencil;0,80 €
+A-101;4006381333932;wrong;2,95 €
+A-102;96385074;Gum;1,20 €
+"""
+ONE, OTHER = "tcp://10.0.0.1", "tcp://10.0.0.2"  # printers that take labels one by one
+
+
+class Owned(Keeper):
+    """What is chosen belongs to a column, a printer or a paper, and comes and goes with it."""
+
+    def values(self, *names: str) -> Any:
+        """What is chosen."""
+        chosen = self.window.choices()
+        found = [getattr(chosen, name) for name in names]
+        return found if len(found) > 1 else found[0]
+
+    def known(self) -> None:
+        """Makes printers known, as the dialog for one in the network does."""
+        for key, kept in {ONE: {"to": "zpl"}, OTHER: {"to": "escpos"}}.items():
+            printers.PRINTERS.keep(key, {"name": key[-1], **kept})
+
+    def test_each_choice_and_each_option_has_one_owner(self) -> None:
+        self.open()
+        owned = [owner for owner in self.window.owners.all if not owner.options]
+        found = [*owners.OF_TABLE, *owners.TYPED, *(name for one in owned for name in one.fields)]
+        self.assertEqual(sorted(found), sorted(choices.TYPES))
+        sharing = [one for one in self.window.owners.all if one.options]
+        self.assertEqual({tuple(one.fields) for one in sharing}, {owners.TYPED})
+        options = [option for one in sharing for option in one.options]
+        self.assertEqual(sorted(options), sorted(owners.options_in_groups(*OPTIONS)))
+
+    def test_a_column_has_its_kind_of_code(self) -> None:
+        """Codes of another column are read as that one has them, and each wrong one is said."""
+        self.open(TWO_CODES)
+        self.change(code="1")
+        self.remade(lambda: self.pressed("Draw the codes as Code 128"))
+        self.assertEqual(self.values("symbology"), "code128")
+        self.change(code="2")
+        self.assertEqual(self.values("symbology"), "auto")
+        self.assertIn("a digit is wrong", self.rows()[0][2])
+        self.change(code="1")
+        self.assertEqual(self.values("symbology"), "code128")
+        self.saved("a.pdf")
+        self.open()
+        self.assertEqual(self.values("code", "symbology"), ["1", "code128"])
+        self.change(code="2")
+        self.assertEqual(self.values("symbology"), "auto")
+
+    def test_numbers_that_are_drawn_as_text_are_said(self) -> None:
+        """A wrong digit would not be seen."""
+        self.open(GUM + "4006381333931;Tea;2,00\n")
+        self.change(symbology="code128")
+        said = "All codes are EAN or UPC numbers, and are drawn as Code 128."
+        self.assertEqual(self.rows()[0], ("", "", said))
+        self.remade(lambda: self.pressed("Find their kind"))
+        self.assertEqual(self.values("symbology"), "auto")
+        self.assertEqual(self.rows(), [])
+
+    def test_a_sheet_has_one_owner_by_any_of_its_names(self) -> None:
+        self.open()
+        self.change(first=5, right=1)
+        self.change(stock="l7160")
+        self.assertEqual(self.values("first", "right"), [5, 1])
+
+    def test_a_column_has_its_form_of_prices(self) -> None:
+        self.open("EAN;Name;Price;Offer\n96385074;Gum;1,20;0,80\n")
+        self.change(price="3", price_as="0,00 €")
+        self.change(price="4")
+        self.assertEqual(self.values("price_as"), "")
+        self.change(price="3")
+        self.assertEqual(self.values("price_as"), "0,00 €")
+
+    def test_what_is_known_of_a_printer_counts(self) -> None:
+        """A table and a preset say which printer, and no more of it."""
+        self.known()
+        self.open()
+        self.chosen(ONE)
+        self.change(width=40)
+        self.answer("naming")
+        self.widgets.preset_name.set_text("shelf")
+        self.window.lookup_action("keep-preset").activate(None)
+        settle()
+        self.saved("a.zpl")
+        self.open(TWO_CODES)
+        self.remade(lambda: self.window.of_printers.know(ONE, {"to": "escpos", "dpi": "180"}))
+        self.open(TABLE)
+        self.assertEqual(self.values("printer", "to", "dpi"), [ONE, "escpos", "180"])
+        self.chosen(OTHER)
+        preset = GLib.Variant("s", "shelf")
+        self.remade(lambda: self.window.lookup_action("preset").activate(preset))
+        self.assertEqual(self.values("printer", "to", "dpi"), [ONE, "escpos", "180"])
+
+    def test_a_printer_has_its_dots(self) -> None:
+        """In a later window, too."""
+        self.known()
+        self.open()
+        self.chosen(ONE)
+        self.change(dpi="300")
+        self.chosen(OTHER)
+        self.assertEqual(self.values("dpi"), "203")
+        self.chosen(ONE)
+        self.assertEqual(self.values("dpi"), "300")
+        self.window.destroy()
+        self.begin()
+        self.open()
+        self.chosen(ONE)
+        self.assertEqual(self.values("dpi"), "300")
+
+    def test_a_printer_has_its_paper(self) -> None:
+        """And a paper in it has its corrections, for each table."""
+        self.known()
+        scheduler.add("shifted", "plain")
+        self.open()
+        self.chosen(ONE)
+        self.change(width=100, height=50)
+        self.chosen("shifted")
+        self.change(for_print="--shift=0.5,-1")
+        self.chosen(OTHER)
+        self.assertEqual(self.values("width", "height", "for_print"), [60, 40, ""])
+        self.change(width=48)
+        self.chosen(ONE)
+        self.assertEqual(self.values("width", "height", "for_print"), [100, 50, ""])
+        self.open(TWO_CODES)
+        self.chosen("shifted")
+        self.assertEqual(self.values("sheet", "for_print"), [True, "--shift=0.5,-1"])
+        self.change(stock="Avery L7651")
+        self.assertEqual(self.values("for_print"), "")
+
+    def test_each_typed_option_has_its_owner(self) -> None:
+        """Corrections stay with the paper, looks with the table; which rows is for one run."""
+        self.known()
+        self.open()
+        self.change(for_print="--note New --only 2-4 --edge=7")
+        self.saved("a.pdf")
+        self.chosen(ONE)
+        self.assertEqual(self.values("for_print"), "--note New --only 2-4")
+        self.chosen(printers.FILE)
+        self.remade(lambda: self.window.take_values(sheet=True))
+        self.assertEqual(self.values("for_print"), "--note New --only 2-4 --edge=7")
+        self.saved("a.pdf")
+        self.open(TWO_CODES)
+        self.assertEqual(self.values("for_print"), "--edge=7")
+        self.open(TABLE)
+        self.assertEqual(self.values("for_print"), "--edge=7 --note New")
+
+    def test_what_is_changed_together_with_its_owner_counts(self) -> None:
+        self.open()
+        self.change(first=5)
+        self.change(stock="Avery L7163", first=3, code="1", symbology="code128")
+        names = ("stock", "first", "code", "symbology")
+        self.assertEqual(self.values(*names), ["Avery L7163", 3, "1", "code128"])
+
+    def test_a_job_moves_its_own_sheet(self) -> None:
+        """Whatever is chosen when it ends."""
+        scheduler.add("owned", "pdf")
+        subprocess.run(["cupsdisable", "owned"], check=True)
+        self.open()
+        with mock.patch.object(ways, "WATCH", BEAT):
+            self.answered("owned")
+            self.change(stock="Avery L7651")
+            subprocess.run(["cupsenable", "owned"], check=True)
+            self.until(lambda: self.said() == "6 labels are printed on owned.")
+        self.assertEqual(self.values("stock", "first"), ["Avery L7651", 1])
+        self.assertNotIn("The next labels", self.widgets.bar_text.get_text())
+        self.window.take_values(stock="Avery L7160")
+        self.until(lambda: self.values("first") == 7)
+
+    def test_only_what_is_new_is_for_one_run(self) -> None:
+        self.open()
+        self.saved("a.pdf")
+        self.open(TABLE.replace("Soap", "Soap, blue"))
+        self.change(new_only=True)
+        self.saved("b.pdf")
+        self.open()
+        self.assertFalse(self.values("new_only"))
+        self.assertEqual(self.problem(), "")
+
+
+class Walk(Keeper):
+    """Whatever a keeper does, what is shown is what would be sent, and what each owner has."""
+
+    RUNS_APART = True
+
+    TABLES = {"first.csv": TABLE, "second.csv": TWO_CODES}
+    USUAL = dict.fromkeys(("sheets", "roll"), ("pdf", "600"))
+    USUAL |= {ONE: ("zpl", "203"), OTHER: ("escpos", "203")}
+    STOCKS = ("Avery L7160", "Avery L7163", "Corner shop")
+    STEPS = 500
+
+    def setUp(self) -> None:
+        super().setUp()
+        self.chance = random.Random(20261130)
+        self.has: dict[str, dict[Any, Any]] = {
+            name: {} for name in ("to", "size", "place", "first")
+        }
+        self.kinds: dict[str, str] = {}  # of the columns of the table that is open
+        self.saved_kinds: dict[str, tuple[str, str]] = {}  # of tables: a column and its kind
+        self.presets: dict[str, tuple[str, Any]] = {}
+        for key, form in {ONE: "zpl", OTHER: "escpos"}.items():
+            printers.PRINTERS.keep(key, {"name": key[-1], "to": form})
+        for name, text in self.TABLES.items():
+            (self.folder / name).write_text(text)
+        sheets.SHEETS["Corner shop"] = asdict(sheets.OwnSheet(2, 8, 90.0, 34.0))
+
+    def keys(self) -> dict[str, Any]:
+        """Whose what is shown is: a language, a size, a place on paper, a first label."""
+        chosen = self.window.choices()
+        of_file = "roll" if chosen.roll else "sheets"
+        is_file = chosen.printer == printers.FILE
+        place = chosen.printer, "" if chosen.roll else chosen.stock
+        language = of_file if is_file else chosen.printer
+        return {"to": language, "size": chosen.printer, "place": place, "first": chosen.stock}
+
+    def check(self, step: Any) -> None:
+        """What is shown is that of its owners, and is what would be sent."""
+        chosen, keys = self.window.choices(), self.keys()
+        self.assertEqual(chosen, self.window.table.chosen, step)
+        usual = {"to": self.USUAL[keys["to"]], "size": (60, 40), "place": (0, 0, ""), "first": 1}
+        shown = {
+            "to": (chosen.to, chosen.dpi),
+            "size": (chosen.width, chosen.height),
+            "place": (chosen.right, chosen.down, chosen.edge),
+            "first": chosen.first,
+        }
+        wanted = {name: self.has[name].get(keys[name], usual[name]) for name in shown}
+        self.assertEqual(shown, wanted, step)
+        self.assertEqual(chosen.symbology, self.kinds.get(chosen.code, "auto"), step)
+        self.assertEqual(self.widgets.print_button.get_sensitive(), self.window.has_labels, step)
+        if self.window.has_labels:
+            self.check_sent(chosen, step)
+
+    def check_sent(self, chosen: Any, step: Any) -> None:
+        """The job is that of the controls, and its labels those of the command that is shown."""
+        made = self.window.made
+        options, plan = made.labels.job.options, made.labels.job.plan
+        self.assertEqual(
+            (made.labels.job.form.name, options.dpi), (chosen.to, int(chosen.dpi)), step
+        )
+        self.assertEqual(options.shift, (chosen.right, chosen.down), step)
+        self.assertEqual(options.design, chosen.design, step)
+        if chosen.roll:
+            self.assertEqual(plan.sheet.cell, (chosen.width, chosen.height), step)
+        else:
+            self.assertEqual(len(plan.places), {"L7160": 21, "L7163": 14}.get(chosen.stock[6:], 16))
+            self.assertEqual(options.first, chosen.first, step)
+        command = self.widgets.command.get_text().partition(" > ")[0]
+        table, _, printed = command.partition(" | ")
+        lines = support.run_here(*shlex.split(table)).stdout
+        self.assertEqual(made.lines.output, lines, step)
+        self.assertEqual(options, print_options(shlex.split(printed)[1:]), step)
+
+    def do(self, act: Callable[[], Any]) -> None:
+        """Does something, and waits until labels are made for what is shown, or cannot be."""
+        act()
+        self.rest()
+
+    @support.slow
+    def test_a_walk(self) -> None:
+        self.step_open()
+        names = [name for name in dir(self) if name.startswith("step_")]
+        for number in range(self.STEPS):
+            name = self.chance.choice(names)
+            getattr(self, name)()
+            self.check((number, name))
+
+    def take(self, **values: Any) -> None:
+        """Takes values, as a keeper does."""
+        self.do(lambda: self.window.take_values(**values))
+
+    def step_open(self) -> None:
+        name = self.chance.choice([*self.TABLES])
+        self.kinds = dict([self.saved_kinds[name]] if name in self.saved_kinds else [])
+        self.do(lambda: self.window.open_table(self.folder / name))
+
+    def step_column(self) -> None:
+        self.take(code=self.chance.choice(["1", "2"]))
+
+    def step_kind(self) -> None:
+        kind = self.chance.choice(["auto", "code128", "qr"])
+        self.kinds[self.window.choices().code] = kind
+        self.take(symbology=kind)
+
+    def step_printer(self) -> None:
+        key = self.chance.choice([printers.FILE, ONE, OTHER])
+        self.window.of_printers.fill_list([*sending.known_printers(printers.PRINTERS.all())])
+        self.do(lambda: self.window.of_printers.choose(key))
+
+    def step_sheet(self) -> None:
+        stock = self.chance.choice(self.STOCKS)
+        self.do(lambda: self.window.take_values(stock=stock))
+
+    def step_roll(self) -> None:
+        if self.window.choices().printer == printers.FILE:
+            self.take(**{self.chance.choice(["sheet", "roll"]): True})
+
+    def step_size(self) -> None:
+        size = self.chance.choice([48, 60, 70]), self.chance.choice([40, 50])
+        self.has["size"][self.keys()["size"]] = size
+        self.do(lambda: self.window.take_values(**dict(zip(("width", "height"), size))))
+
+    def step_place(self) -> None:
+        place = self.chance.choice([(0.5, -1, ""), (0, 0, "7"), (0, 1.5, "")])
+        self.has["place"][self.keys()["place"]] = place
+        values = dict(zip(("right", "down", "edge"), place))
+        self.do(lambda: self.window.take_values(**values))
+
+    def step_first(self) -> None:
+        first = self.chance.randint(1, 9)
+        self.has["first"][self.keys()["first"]] = first
+        self.take(first=first)
+
+    def step_dots(self) -> None:
+        dpi = self.chance.choice(["203", "300"])
+        form = self.window.choices().to
+        self.has["to"][self.keys()["to"]] = form, dpi
+        self.take(dpi=dpi)
+
+    def step_look(self) -> None:
+        self.do(self.chance.choice([self.widgets.till, self.widgets.shelf]).clicked)
+
+    def step_save(self) -> None:
+        if self.window.has_labels:
+            path = self.folder / "saved"
+            self.said_after(self.window.ways.save, path)
+            chosen = self.window.choices()
+            self.saved_kinds[self.window.table.path.name] = chosen.code, chosen.symbology
+
+    def step_part(self) -> None:
+        """A dialog in which rows are typed, and which is cancelled."""
+        if self.window.has_labels:
+            self.window.ways.printing.labels = self.window.made.labels
+            self.widgets.print_some.set_active(True)
+            self.widgets.print_rows.set_text("2 × 4")
+            prints = self.window.ways.printing.wanted().labels.prints
+            self.assertEqual({item.record.origin_number for item in prints} - {2}, set())
+            self.widgets.print_all.set_active(True)
+
+    def step_keep_preset(self) -> None:
+        chosen = self.window.choices()
+        self.answer("naming")
+        self.widgets.preset_name.set_text("walked")
+        self.window.lookup_action("keep-preset").activate(None)
+        settle()
+        self.presets["walked"] = chosen.printer, (chosen.width, chosen.height)
+
+    def step_preset(self) -> None:
+        """It has the size of its roll, which that printer has from then on."""
+        if self.presets:
+            printer, size = self.presets["walked"]
+            self.has["size"][printer] = size
+            preset = GLib.Variant("s", "walked")
+            self.do(lambda: self.window.lookup_action("preset").activate(preset))
+
+    def step_reopen(self) -> None:
+        """A new window, which knows what is kept."""
+        self.window.destroy()
+        self.begin()
+        self.window.of_printers.fill_list([*sending.known_printers(printers.PRINTERS.all())])
+        self.step_open()
+
+
+class Pressed(Keeper):
+    """Print that was pressed is kept, whatever makes labels once more before they go out."""
+
+    def held(self, place: Any, name: str) -> Callable[[], Any]:
+        """Holds back a function of a module, until what is returned is called."""
+        go_on = threading.Event()
+        function = getattr(place, name)
+
+        def hold(*values: Any) -> Any:
+            go_on.wait(WAIT)
+            return function(*values)
+
+        patch = mock.patch.object(place, name, hold)
+        patch.start()
+        self.addCleanup(patch.stop)
+        self.addCleanup(go_on.set)
+        return go_on.set
+
+    def test_while_a_printer_says_what_it_has(self) -> None:
+        """Labels are not made before, and then with its dots."""
+        scheduler.add("slow", "coarse")
+        self.open()
+        self.window.of_printers.fill_list([*sending.known_printers({})])
+        go_on = self.held(printers, "queue_of")
+        with self.in_dialog(self.confirm):
+            self.window.of_printers.choose("slow")
+            self.widgets.print_button.clicked()
+            settle()
+            self.assertFalse(self.window.has_labels)
+            said = self.said_after(go_on)
+        self.assertEqual(said, "sent to slow.")
+        self.assertEqual(self.window.made.labels.job.plan.dpi, 203)
+
+    def test_while_a_queue_is_asked_before_the_dialog(self) -> None:
+        """Labels are made once more then, as when a job before has ended."""
+        scheduler.add("again", "pdf")
+        self.open()
+        self.chosen("again")
+        go_on = self.held(ways, "queue_of")
+        with self.in_dialog(self.confirm):
+            self.widgets.print_button.clicked()
+            settle()
+            self.window.take_values(first=4)
+            self.assertEqual(self.said_after(go_on), "sent to again.")
+        page = ("--stock", "Avery L7160", "--dpi", "600", "--first", "4")
+        self.assertEqual(scheduler.printed("again"), self.by_commands(*page))
+
+    def test_while_the_dialog_is_open(self) -> None:
+        """Then it asks once more, since other labels are shown now."""
+        scheduler.add("open", "pdf")
+        self.open()
+        self.chosen("open")
+        asked: list[int] = []
+
+        def press() -> None:
+            asked.append(self.window.ways.printing.labels.job.options.first)
+            if len(asked) == 1:
+                self.window.take_values(first=4)
+            self.confirm()
+
+        with self.in_dialog(press):
+            said = self.said_after(self.widgets.print_button.clicked)
+        self.assertEqual((said, asked), ("sent to open.", [1, 4]))
+        page = ("--stock", "Avery L7160", "--dpi", "600", "--first", "4")
+        self.assertEqual(scheduler.printed("open"), self.by_commands(*page))
+
+    def test_by_a_screen_reader(self) -> None:
+        """It waits until the button has done its work, and then reads the dialog."""
+        scheduler.add("aloud", "pdf")
+        self.open()
+        self.chosen("aloud")
+        self.widgets.print_button.get_accessible().do_action(0)
+        self.assertFalse(self.widgets.printing.get_visible())
+        with self.in_dialog(self.confirm):
+            self.until(lambda: self.said() == "6 labels are printed on aloud.")
+
+    def test_by_a_click_behind_a_number_that_is_just_typed(self) -> None:
+        """The button, which takes the focus of the field, is ready all the time."""
+        self.open()
+        self.widgets.more_of_paper.set_expanded(True)
+        self.widgets.first.grab_focus()
+        self.until(self.widgets.first.has_focus)
+        self.widgets.first.set_text("4")
+        ready: list[Any] = []
+        self.widgets.print_button.connect("notify::sensitive", lambda *_: ready.append(_))
+        self.remade(self.widgets.print_button.grab_focus)
+        self.assertEqual(ready, [])
+        self.assertEqual(self.window.made.labels.job.options.first, 4)
+
+    def test_behind_a_row_of_names_that_is_just_typed(self) -> None:
+        """Then the table is read once more before."""
+        self.open()
+        path = self.folder / "a.pdf"
+        self.answer("saver", get_filename=str(path))
+        self.widgets.header_row.set_text("2")
+        said = self.said_after(self.widgets.print_button.clicked)
+        self.assertEqual(said, "2 labels are saved as a.pdf.")  # of rows 3 and 5, one of each
+
+    def test_labels_that_go_out_are_not_stopped_by_a_job_that_ends(self) -> None:
+        """Those behind its own are made once the others are out."""
+        self.open()
+        go_on = self.held(ways, "save_to")
+        self.window.ways.save(self.folder / "a.pdf")
+        self.window.ways.begin_at("Avery L7160", 7)
+        self.assertEqual(self.said_after(go_on), "saved as a.pdf.")
+        self.rest()
+        self.assertEqual(self.window.choices().first, 7)
+        self.assertEqual(self.window.made.labels.job.options.first, 7)
 
 
 class WindowTest(Keeper):
+    RUNS_APART = True
+
     def test_saves_what_the_commands_print(self) -> None:
         self.open()
         self.assertEqual(self.widgets.of.get_text(), "of 1")
@@ -811,14 +1282,15 @@ class WindowTest(Keeper):
         self.assertEqual(self.saved("labels.zpl"), self.by_commands(*roll))
 
     def test_a_file_of_sheets_behind_a_label_printer_is_pdf(self) -> None:
-        """The language of a printer is for a roll, and the button says it."""
+        """The language of a printer is its own, files of rolls have theirs; the button says it."""
         self.open()
         printers.PRINTERS.keep("tcp://10.0.0.1", {"to": "zpl", "dpi": "300", "name": "Till"})
         self.chosen("tcp://10.0.0.1")
         for act, form, dpi, label in (
-            (lambda: self.window.of_printers.choose(printers.FILE), "zpl", "300", "Sa_ve ZPL…"),
+            (lambda: self.window.of_printers.choose(printers.FILE), "pdf", "600", "Sa_ve PDF…"),
+            (lambda: self.window.take_values(to="zpl"), "zpl", "203", "Sa_ve ZPL…"),
             (lambda: self.window.take_values(sheet=True), "pdf", "600", "Sa_ve PDF…"),
-            (lambda: self.window.take_values(roll=True), "zpl", "300", "Sa_ve ZPL…"),
+            (lambda: self.window.take_values(roll=True), "zpl", "203", "Sa_ve ZPL…"),
             (lambda: self.window.take_values(to="pdf"), "pdf", "600", "Sa_ve PDF…"),
         ):
             self.remade(act)
@@ -864,9 +1336,9 @@ class WindowTest(Keeper):
             self.assertTrue(why.lower().endswith("type it again."), why)
             self.assertEqual([*self.answers()], [])
         self.open(TEA.format("on request"))
-        self.assertIn("Prices may be any text", self.answers())
+        self.assertIn("Take any text as a price", self.answers())
         self.change(price_as="0,00 €")
-        self.assertNotIn("Prices may be any text", self.answers())
+        self.assertNotIn("Take any text as a price", self.answers())
 
     def test_prints_the_file_that_the_command_prints(self) -> None:
         """A printer that takes PDF gets the file as it is."""
@@ -879,7 +1351,7 @@ class WindowTest(Keeper):
         self.assertEqual(len(self.printed()), 3)
 
     def test_the_next_labels_begin_behind_those_that_are_printed(self) -> None:
-        """Once they are printed, and the window says where; a trial moves nothing."""
+        """And the window says where once they are printed; a trial moves nothing."""
         scheduler.add("behind", "pdf")
         self.open()
         self.change(first=9)
@@ -887,11 +1359,37 @@ class WindowTest(Keeper):
         self.until(lambda: self.said() == "6 labels are printed on behind.")
         self.assertEqual(self.window.choices().first, 9)
         self.confirmed()
-        self.until(lambda: self.window.choices().first == 15)
         said = "The next labels begin at label 15 of the last sheet."
-        self.assertTrue(self.widgets.bar_text.get_text().endswith(said))
-        self.until(lambda: self.window.has_labels)
+        self.until(lambda: self.widgets.bar_text.get_text().endswith(said))
+        self.rest()
         self.assertEqual(self.window.made.labels.job.options.first, 15)
+
+    def test_each_job_has_labels_of_a_sheet_of_its_own(self) -> None:
+        """Those of the next one are behind them as soon as it is sent; if nothing of it is printed,
+        and it is the last, they are free again.
+        """
+        scheduler.add("two", "pdf")
+        subprocess.run(["cupsdisable", "two"], check=True)
+        self.addCleanup(lambda: subprocess.run(["cancel", "-a", "two"], check=True))
+        self.open()
+        self.change(first=10)
+        with mock.patch.object(ways, "WATCH", BEAT):
+            for first in (16, 1):  # the sheet has 21
+                self.answered("two")
+                self.rest()
+                self.assertEqual(self.window.made.labels.job.options.first, first)
+            earlier, later = self.window.ways.on_sheets
+            for job, first in ((earlier, 1), (later, 16)):
+                subprocess.run(["cancel", str(job.number)], check=True)
+                self.until(lambda: job not in self.window.ways.waiting)
+                self.assertEqual(self.window.choices().first, first)
+        self.answered("two")
+        (job,) = self.window.ways.on_sheets
+        state = replace(JobState(Text("It is gone."), "", True), begun=1)
+        future: Any = mock.Mock(exception=lambda: None, result=lambda: state)
+        self.window.ways.show_state(job, 6, future)
+        self.rest()
+        self.assertEqual(self.window.choices().first, 1)  # some may be on paper
 
     def test_a_file_that_is_no_table_leaves_the_open_one(self) -> None:
         """With what is chosen; the window says what the file is."""
@@ -933,19 +1431,16 @@ class WindowTest(Keeper):
         self.chosen("trays")
         found: list[Any] = []
 
-        def look() -> bool:
-            shown = self.widgets.printing.get_visible()
-            if shown:
-                found.append([row[0] for row in self.widgets.tray.get_model()])
-                found.append((self.widgets.tray.get_active_id(), self.widgets.media.get_visible()))
-                self.widgets.tray.set_active_id("Manual")
-                found.append(self.widgets.print_put.get_text())
-                self.widgets.printing.response(Gtk.ResponseType.OK)
-            return not shown
+        def look() -> None:
+            tray = [row[0] for row in self.widgets.tray.get_model()]
+            kept = self.widgets.tray.get_active_id(), self.widgets.media.get_visible()
+            self.widgets.tray.set_active_id("Manual")
+            found[:] = tray, kept, self.widgets.print_put.get_text()
+            self.widgets.printing.response(Gtk.ResponseType.OK)
 
         for before in ("", "Manual"):
-            GLib.timeout_add(BEAT, look)
-            self.assertIn("sent to trays", self.said_after(self.widgets.print_button.clicked))
+            with self.in_dialog(look):
+                self.assertIn("sent to trays", self.said_after(self.widgets.print_button.clicked))
             tray, (active, has_media), put = found
             self.assertEqual(tray, ["as the printer is set", "Auto", "Manual"])
             self.assertEqual((active, has_media), (before, False))
@@ -953,7 +1448,6 @@ class WindowTest(Keeper):
             job = self.window.events.event.about
             with sending_cups.refusals("trays") as cups:
                 self.assertEqual(cups.getJobAttributes(job.number)["InputSlot"], "Manual")
-            found.clear()
             self.until(lambda: "printed on trays" in self.said())
         self.answered("trays", "trial")
         with sending_cups.refusals("trays") as cups:
@@ -987,8 +1481,7 @@ class WindowTest(Keeper):
     def again(self) -> None:
         """Closes the window, and opens the table in a new one."""
         self.window.destroy()
-        self.window = window.Window()
-        self.window.present()
+        self.begin()
         self.open()
 
     def waiting(self) -> Any:
@@ -1005,7 +1498,7 @@ class WindowTest(Keeper):
             if printed and not number:
                 self.assertEqual(self.printed(), [])
             self.again()
-            self.until(lambda: "Nobody knows whether job" in self.said())
+            self.until(lambda: "does not know job" in self.said())
             self.pressed("Was it printed?", not number)
             self.assertEqual((len(self.printed()), self.waiting()), (printed, {}))
             self.assertEqual(self.problem(), "")
@@ -1047,7 +1540,8 @@ class WindowTest(Keeper):
             with self.subTest(is_there):
                 self.open("EAN;Name;Price\n" + "".join(f"{code};Pen;1,00 €\n" for code in codes))
                 if is_there:  # these choices are kept
-                    self.change(roll=True, to="zpl", dpi="600")
+                    self.change(roll=True, to="zpl")
+                    self.change(dpi="600")
                 printer = Printer(within=3).start()
                 self.addCleanup(printer.off)
                 self.window.ways.send_to(printer.name, self.window.made.labels)
@@ -1108,7 +1602,7 @@ class WindowTest(Keeper):
 
     def by_columns(self, *words: Any) -> Any:
         """What the commands write for a table of codes, names and prices."""
-        options = ["--header", "--code", "1", "--title", "2", "--price", "3"]
+        options = ["--header-row", "1", "--code", "1", "--title", "2", "--price", "3"]
         lines = support.run("label-table", *options, "--", self.table).stdout
         return support.run("label-print", *words, input=lines).stdout
 
@@ -1149,7 +1643,7 @@ class WindowTest(Keeper):
             self.window.of_printers.fill_list([*sending.known_printers(kept)])
             clear.assert_not_called()  # an open list stays open
         self.window.take_values(to="pdf")  # it understands nothing else
-        self.assertEqual(self.window.choices().to, "escpos")
+        self.until(lambda: self.window.choices().to == "escpos")
         self.window.of_printers.settle("was-here")
         states = {row[3]: row[2] for row in self.widgets.printers}
         self.assertEqual(states["was-here"], "not found")
@@ -1167,7 +1661,7 @@ class WindowTest(Keeper):
 
     def test_says_what_is_left_out_and_what_there_is(self) -> None:
         self.open()
-        self.assertEqual(self.widgets.left_out.get_text(), "1 row is skipped")
+        self.assertEqual(self.widgets.left_out.get_text(), "1 row is skipped: see why")
         row, cell, why = self.rows()[0]
         self.assertEqual((row, cell), ("4", "4006381333932"))
         self.assertIn("a digit is wrong", why)
@@ -1175,11 +1669,12 @@ class WindowTest(Keeper):
         self.assertEqual(said, "6 labels from 3 rows, with prices from 0,80 € to 2,95 €.")
         self.open(NOT_YET.format("36000291452"))
         said = "36000291452 has 11 digits, EAN-8 has 8, UPC-A has 12, EAN-13 has 13."
-        self.assertEqual(self.rows()[0][2], said)
+        self.assertEqual(self.rows()[0][2], f"{said}\nAre leading zeros lost?")
 
     def look(self, kind: Any, number: int = 1) -> Any:
         """Looks at a page, or at a label."""
-        self.widgets.view.set_active_id(kind)
+        large = GLib.Variant("b", kind == "label")
+        self.window.lookup_action("large").change_state(large)
         self.widgets.number.set_value(number)
         return self.shown()
 
@@ -1194,12 +1689,14 @@ class WindowTest(Keeper):
 
     def test_a_click_begins_at_a_cell(self) -> None:
         self.open()
-        settle(0.2)
+        draw(self.window)
         paper = self.widgets.paper
         scale = paper.get_allocated_width() / 210
-        self.remade(lambda: self.window.on_click(paper, mock.Mock(x=100 * scale, y=70 * scale)))
+        self.remade(
+            lambda: self.window.result.on_click(paper, mock.Mock(x=100 * scale, y=70 * scale))
+        )
         self.assertEqual(self.window.choices().first, 5)
-        self.window.on_click(paper, mock.Mock(x=1, y=1))  # beside the cells
+        self.window.result.on_click(paper, mock.Mock(x=1, y=1))  # beside the cells
         self.assertEqual(self.window.choices().first, 5)
 
     def test_a_chosen_row_shows_its_label(self) -> None:
@@ -1283,9 +1780,7 @@ class WindowTest(Keeper):
         self.open("4006381333931;Pencil;0,80 €\n96385074;Gum;1,20 €\n")
         self.assertEqual(self.window.choices().header_row, 0)
         self.assertIn("2 labels from 2 rows", self.counted())
-        self.widgets.header_row.set_value(1)
-        self.until(lambda: not self.window.has_labels)
-        self.until(lambda: self.window.has_labels)
+        self.remade(lambda: self.widgets.header_row.set_value(1))
         self.assertIn("1 label from 1 row", self.counted())
 
     def test_a_printer_of_a_language_of_its_own_gets_the_file_as_it_is(self) -> None:
@@ -1340,7 +1835,7 @@ class WindowTest(Keeper):
             return True
 
         GLib.timeout_add(10 * BEAT, add)
-        self.remade(lambda: self.window.of_printers.on_chosen("add"))
+        self.remade(lambda: self.widgets.printer.set_active_id("add"))
         printer.wait(1)
         self.assertEqual(self.window.of_printers.chosen.name, "Shelf")
         self.assertEqual(printers.PRINTERS.all()[printer.name]["to"], "zpl")
@@ -1368,18 +1863,6 @@ class WindowTest(Keeper):
             found = [*sending.known_printers({"tcp://10.0.0.1": {"to": "zpl"}})]
         in_network = [printer.key for printer in found if printer.way == "network"]
         self.assertEqual(in_network, ["tcp://10.0.0.1"])
-
-    def test_older_choices_keep_their_printer(self) -> None:
-        """They have a language, the dots, and the address of a printer in the network."""
-        old = {"to": "zpl", "dpi": "300", "address": "10.0.0.7", "roll": True, "price": "4"}
-        names = "\n".join(TABLE.splitlines()[0].split(";"))
-        memory = self.folder / "labels/window.json"
-        memory.parent.mkdir()
-        memory.write_text(json.dumps({names: old}))
-        self.open()
-        chosen = self.window.choices()
-        found = (chosen.printer, chosen.to, chosen.dpi, chosen.roll)
-        self.assertEqual(found, ("tcp://10.0.0.7", "zpl", "300", True))
 
     def test_guesses_and_remembers_by_names(self) -> None:
         self.open()
@@ -1433,10 +1916,9 @@ class WindowTest(Keeper):
         self.assertIn("--new-since", self.widgets.command.get_text())
         self.saved("changed.pdf")
         self.open()
-        self.change(new_only=False)
         self.assertEqual(self.window.made.lines.count, everything)
-        self.change(new_only=True)
-        self.assertIn("no label", self.problem())  # all went out
+        self.window.take_values(new_only=True)
+        self.until(lambda: self.said().startswith("Nothing is new since"))
 
     def test_only_labels_that_went_out_are_kept(self) -> None:
         """On a roll of 30x20 an EAN-13 does not fit: next time it is new all the same. So is what
@@ -1463,18 +1945,12 @@ class WindowTest(Keeper):
 
     def test_a_second_text_is_below_the_first(self) -> None:
         self.open()
-        self.assertFalse(self.widgets.text_2.get_visible())
-        self.window.builder.get_object("more").clicked()
-        self.assertTrue(self.widgets.text_2.get_visible())
         self.change(text="3", text_2="5")
         self.saved("labels.pdf")
         texts = [record.body for record in self.records()]
         self.assertEqual(texts[0], "Pencil, red\n5000")
         self.open()  # it is kept
-        self.assertTrue(self.widgets.text_2.get_visible())
-        self.window.builder.get_object("more").clicked()
-        self.until(lambda: self.window.has_labels)
-        self.assertEqual(self.window.choices().text_2, "")
+        self.assertEqual(self.window.choices().text_2, "5")
 
     def test_a_printer_of_a_language_of_its_own_has_its_usual_dots(self) -> None:
         self.open()
@@ -1502,7 +1978,7 @@ class WindowTest(Keeper):
         self.change(roll=True, width=60, height=40)
         built_in, _ = self.shown()
         opener = mock.Mock()
-        with mock.patch.object(self.window, "widgets", replace(self.widgets, design_opener=opener)):
+        with mock.patch.object(self.widgets, "design_opener", opener):
             opener.run.return_value = Gtk.ResponseType.ACCEPT
             opener.get_filename.return_value = str(path)
             self.change(design="file")
@@ -1526,8 +2002,9 @@ class WindowTest(Keeper):
         self.answer("naming")
         self.widgets.preset_name.set_text("shelf roll")
         self.window.lookup_action("keep-preset").activate(None)
+        settle()
         self.change(sheet=True, to="pdf", width=60)
-        self.window.presets.fill_menu()
+        presets.fill_menu(self.widgets.presets_menu)
         self.assertEqual(self.in_menu()[0], "shelf roll")
         preset = GLib.Variant("s", "shelf roll")
         self.remade(lambda: self.window.lookup_action("preset").activate(preset))
@@ -1535,7 +2012,8 @@ class WindowTest(Keeper):
         self.assertEqual((chosen.roll, chosen.width, chosen.to), (True, 50, "zpl"))
         self.assertEqual(self.window.made.labels.job.plan.sheet.page, (50, 25))
         self.window.lookup_action("forget-preset").activate(preset)
-        self.window.presets.fill_menu()
+        settle()
+        presets.fill_menu(self.widgets.presets_menu)
         self.assertNotIn("shelf roll", self.in_menu())
 
     def in_menu(self, model: Any = None) -> Any:
@@ -1612,10 +2090,15 @@ class WindowTest(Keeper):
         future: Any = mock.Mock(exception=lambda: None, result=lambda: state)
         self.window.ways.show_state(SentJob("any", 7), 6, future)
         self.assertEqual(self.said(), "6 labels are not printed: The printer is not responding.")
-        begun = replace(state, is_begun=True)
+        begun = replace(state, begun=1)
         future = mock.Mock(exception=lambda: None, result=lambda: begun)
         self.window.ways.show_state(SentJob("any", 7), 6, future)
         said = "Some of 6 labels may be on paper: The printer is not responding."
+        self.assertEqual(self.said(), said)
+        again = replace(state, begun=2, is_printed=True)  # CUPS was started again meanwhile
+        future = mock.Mock(exception=lambda: None, result=lambda: again)
+        self.window.ways.show_state(SentJob("any", 7), 6, future)
+        said = "any: CUPS has begun it twice: some labels may be there twice, look for them."
         self.assertEqual(self.said(), said)
 
     def test_cups_that_goes_away_is_waited_for(self) -> None:
@@ -1647,17 +2130,17 @@ class WindowTest(Keeper):
         for language, texts, sheet in (
             (
                 "en",
-                "_Print… Prices as Stopped: nothing was printed",
+                "_Print… Prices as Stopped: nothing was printed.",
                 "Avery L7169: 4 labels of 99.1 by 139 mm on 210 by 297 mm",
             ),
             (
                 "de",
-                "_Drucken … Preise als Abgebrochen: es wurde nichts gedruckt",
+                "_Drucken … Preise als Abgebrochen: es wurde nichts gedruckt.",
                 "Avery L7169: 4 Etiketten von 99,1 mal 139 mm auf 210 mal 297 mm",
             ),
             (
                 "fr",
-                "_Imprimer… Format des prix Arrêté : rien n'a été imprimé",
+                "_Imprimer… Format des prix Arrêté : rien n'a été imprimé.",
                 "Avery L7169 : 4 étiquettes de 99,1 sur 139 mm, page de 210 sur 297 mm",
             ),
         ):
@@ -1702,9 +2185,8 @@ class WindowTest(Keeper):
         with mock.patch.object(work.GLib, "timeout_add", wait):
             self.open()
         self.assertEqual({call.args[0] for call in wait.mock_calls}, {work.PATIENCE})
-        self.window.work.begin_work(
-            lambda talk: settle_until(lambda: talk.stops), bool, "reading a.csv…"
-        )
+        talk = work.WindowTalk("reading a.csv…")
+        self.window.work.begin_work(lambda talk: settle_until(lambda: talk.stops), bool, talk)
         self.window.work.talk.go_on(1200, 0)  # how many rows a table has is not known
         self.assertFalse(self.widgets.working.get_visible())
         self.until(self.widgets.working.get_visible)
@@ -1715,7 +2197,8 @@ class WindowTest(Keeper):
         self.assertFalse(self.widgets.working.get_visible())
 
     def test_stop_while_a_table_is_read_says_so(self) -> None:
-        self.window.work.begin_work(lambda talk: settle_until(lambda: talk.stops), bool)
+        talk = work.WindowTalk()
+        self.window.work.begin_work(lambda talk: settle_until(lambda: talk.stops), bool, talk)
         self.widgets.stack.set_visible_child_name("work")
         self.window.on_stop(None)
         self.assertEqual(self.widgets.stack.get_visible_child_name(), "empty")
@@ -1727,12 +2210,12 @@ class WindowTest(Keeper):
         self.widgets.stock.grab_focus()
         self.until(self.widgets.stock.has_focus)
         self.widgets.stock.set_text("Avery L716")
-        settle(0.5)
+        self.rest()
         self.assertIs(self.window.made, before)
         self.remade(lambda: self.widgets.stock.set_text("Avery L7163"))
         self.assertEqual(len(self.window.made.labels.job.plan.places), 14)
         self.widgets.stock.set_text("avery l7160")
-        settle(0.5)
+        self.rest()
         self.remade(self.widgets.first.grab_focus)  # which leaves it
         self.assertEqual(len(self.window.made.labels.job.plan.places), 21)
 
@@ -1754,7 +2237,8 @@ class WindowTest(Keeper):
         self.widgets.stock.set_text("avery l7163")
         self.widgets.first.set_text("3")
         self.assertEqual(self.confirmed(), "sent to typed.")
-        page = ("--stock", "Avery L7163", "--first", "3", "--dpi", "600")
+        self.rest()
+        page = ("--stock", "Avery L7163", "--first", "9", "--dpi", "600")  # behind these six
         self.assertEqual(self.saved("typed.pdf"), self.by_commands(*page))
 
     def test_sheets_that_begin_with_what_is_typed_come_first(self) -> None:
@@ -1794,7 +2278,7 @@ class WindowTest(Keeper):
             [(record.title, record.price) for record in self.records()],
             [("Tea, green", "0.80 EUR"), ("Tea, green", "49.90 EUR"), ("Gum, red", "34.00 EUR")],
         )
-        words = "--variants-of Handle --currency Currency --fill-zeros"
+        words = "--variants-of Handle --currency Currency --digits lost-zeros"
         self.assertEqual(self.window.choices().given_table, words)
         said = ["Rows of the same Handle have one title.", "The currency is in Currency."]
         self.assertEqual(self.given(), [*said, "Lost zeros are put back in front."])
@@ -1807,7 +2291,9 @@ class WindowTest(Keeper):
         self.assertEqual(self.records()[0].price, "0,80 €")
         self.saved("labels.pdf")
         self.open()  # what was chosen is kept
-        self.assertEqual(self.window.choices().given_table, "--currency Currency --fill-zeros")
+        self.assertEqual(
+            self.window.choices().given_table, "--currency Currency --digits lost-zeros"
+        )
         self.assertEqual(self.window.choices().price_as, "0,00 €")
 
     def given(self) -> list[str]:
@@ -1828,8 +2314,8 @@ class WindowTest(Keeper):
         return next(button for button in found if isinstance(button, Gtk.ToggleButton))
 
     def test_what_a_button_chose_is_in_words_and_is_taken_back(self) -> None:
-        """Options have only what is typed; what an older window kept of buttons is no longer
-        there.
+        """Options have only what is typed. What an older window kept without such words is typed,
+        and of what it kept of a printer nothing is left.
         """
         self.open(SHEETS)
         self.pressed("Tea")
@@ -1842,34 +2328,35 @@ class WindowTest(Keeper):
         names = "\n".join(TABLE.splitlines()[0].split(";"))
         old = {
             "for-table": "--currency-name Taler --where Name=Soap",
-            "for-print": "--edge 1 --turn",
+            "for-print": "--edge 1 --turn yes",
         }
         (self.folder / "labels").mkdir(exist_ok=True)
         (self.folder / "labels/window.json").write_text(json.dumps({names: old}))
         self.open(TABLE)
-        said = ["Taler is a currency.", "Labels keep away from the edge."]
-        self.assertEqual(self.given(), said)
+        self.assertEqual(self.given(), [])
         typed = self.widgets.for_table.get_text(), self.widgets.for_print.get_text()
-        self.assertEqual(typed, ("--where Name=Soap", "--turn"))
+        self.assertEqual(typed, ("--currency-name Taler --where Name=Soap", "--turn yes"))
         self.has_typed = True
 
     def test_each_button_and_guess_has_words(self) -> None:
         guessed = {"currency", "title", "variants-of"}
         options = test_german.remedies(True) | guessed
-        options -= {*choices.CHOSEN, *choices.HEADERS, "after"}
+        options -= {*choices.CHOSEN, "after"}
         self.assertEqual(options - {*further.SAID}, set())
-        self.assertGreater(len(options), 15)
+        self.assertGreater(len(options), 10)
 
-    def test_a_delimiter_that_is_right_is_not_asked_for(self) -> None:
-        """The names show it, whatever kind the codes are; of a single name it is asked for."""
+    def test_what_is_between_cells_is_asked_for_if_it_may_be_data(self) -> None:
+        """And the answer is kept; it is not asked for where a title or a price is wanted."""
         self.open("Code;Name\nA-1;Shelf\nA-2;Rack\n")
-        self.change(symbology="qr", title="", price="")
+        self.change(symbology="qr", price="")
         self.assertEqual((self.problem(), self.window.made.lines.count), ("", 2))
-        self.assertIn("--delimiter", self.widgets.command.get_text())
-        self.closed()
-        self.open("Code\nWIFI:S:shop;T:WPA;;\nWIFI:S:office;T:WPA;;\n")
-        self.change(symbology="qr")
+        self.change(title="")
         self.assertIn("It is data", self.answers())
+        self.remade(lambda: self.pressed("It is between cells"))
+        self.assertEqual((self.problem(), self.window.made.lines.count), ("", 2))
+        self.saved("a.pdf")
+        self.open()
+        self.assertEqual(self.problem(), "")
 
     def test_the_designs_that_come_with_it_are_in_the_list(self) -> None:
         """With a picture and the size of their labels, which a roll can take at once."""
@@ -1891,8 +2378,7 @@ class WindowTest(Keeper):
         """In words, and not by an option, since only the keeper knows."""
         self.open("EAN;Name;Price\n96385074;Gum;1,200\n4006381333931;Pen;2,500\n")
         self.change(price_as="€0.00")
-        self.until(lambda: self.problem() == "Which sign is before the cents?")
-        settle(0.5)  # nothing else is under way
+        self.assertEqual(self.problem(), "Which sign is before the cents?")
         self.assertEqual(self.counted(), "")  # not that there are none
         self.assertNotIn("--", "".join(row[2] for row in self.widgets.notes))
         self.pressed("The point, as in 1.50")
@@ -1945,9 +2431,10 @@ class WindowTest(Keeper):
         self.open()
         self.widgets.more_of_table.set_expanded(True)
         self.window.resize(800, 500)
-        settle(0.3)
-        self.window.questions.ask_below("printer", "What?", [("Labels", bool), ("Receipts", bool)])
-        settle(0.3)
+        draw(self.window)
+        answers = [("Labels", bool), ("Receipts", bool)]
+        self.window.questions.below("printer").ask("What?", answers)
+        draw(self.window)
         scroll = self.widgets.panel.get_ancestor(Gtk.ScrolledWindow).get_vadjustment()
         area = self.widgets.ask_printer.get_allocation()
         self.assertGreater(area.y + area.height, scroll.get_page_size())
@@ -1979,23 +2466,24 @@ class WindowTest(Keeper):
         """What is folded is left out; each control has a name."""
         self.open()
         of_label = ["code", "title", "price", "copies", "more_of_table"]
-        of_paper = ["printer", "sheet", "roll", "stock", "first", "more_of_paper"]
+        of_paper = ["printer", "sheet", "roll", "stock", "till", "more_of_paper"]
         self.assertEqual(self.tab(), [*of_label, *of_paper])
-        self.widgets.roll.set_active(True)
-        self.until(lambda: self.window.has_labels)
-        of_roll = ["printer", "sheet", "roll", "width", "height", "more_of_paper"]
+        self.remade(lambda: self.widgets.roll.set_active(True))
+        draw(self.window)
+        of_roll = ["printer", "sheet", "roll", "width", "height", "till", "more_of_paper"]
         self.assertEqual(self.tab(), [*of_label, *of_roll])
         self.widgets.more_of_table.set_expanded(True)
-        settle(0.3)
-        self.assertEqual(self.tab()[4:7], ["more_of_table", "text", "more"])
+        draw(self.window)
+        self.assertEqual(self.tab()[4:7], ["more_of_table", "text", "text_2"])
 
     def test_the_panel_fits_a_low_screen(self) -> None:
         """In each language, with a question; 1024 by 600 pixels leave 554 for it."""
         code = "import test_window as t; t.load(); t.gtk.add_style(); shown = t.window.Window(); "
         code += "shown.widgets.stack.set_visible_child_name('work'); shown.present(); "
-        code += "t.settle(0.3); answers = [('VK – 19,57', bool)] * 2; "
-        code += "shown.questions.ask_below('price', t.questions.which('price'), answers); "
-        code += "t.settle(0.3); print(shown.widgets.panel.get_preferred_height()[1], end=' '); "
+        code += "t.draw(shown); answers = [('VK – 19,57', bool)] * 2; "
+        code += "text = t.translated(t.questions.WHICH['price']); "
+        code += "shown.questions.below('price').ask(text, answers); "
+        code += "t.draw(shown); print(shown.widgets.panel.get_preferred_height()[1], end=' '); "
         code += "print(shown.widgets.panel.get_preferred_width()[1])"
         for language in ("en", "de", "fr"):
             environment = support.speaking(language, self.folder / "locale")
@@ -2006,8 +2494,9 @@ class WindowTest(Keeper):
             self.assertLessEqual(width, 420, language)
 
     def test_large_text_fits_a_low_screen(self) -> None:
-        """In each language, on a roll, with the list of what is skipped and buttons that help;
-        lists of choices are as wide as their texts.
+        """In each language, on a roll, with the list of what is skipped and buttons that help, and
+        with the line that says so beside all settings of a label; lists of choices are as wide as
+        their texts.
         """
         more = "5;36000291452;Salt;2,00 €;1;1\n6;4006350000000;Tea;2,00 €;1;1\n"
         self.table.write_text(f"{TABLE}{more}7;96385074;Gum;soon;1;1\n")
@@ -2015,9 +2504,11 @@ class WindowTest(Keeper):
         code += "t.gtk.add_style(); settings = t.Gtk.Settings.get_default(); "
         code += "settings.set_property('gtk-xft-dpi', 144 * 1024); "
         code += "shown = t.window.Window(); shown.present(); shown.widgets.roll.set_active(True); "
-        code += "shown.open_table(Path(sys.argv[1])); t.settle(3); assert shown.has_labels; "
-        code += "shown.widgets.fold.set_active(True); t.settle(0.3); "
-        code += "print(shown.get_preferred_width()[0], "
+        code += "shown.open_table(Path(sys.argv[1])); t.until(lambda: shown.has_labels); "
+        code += "shown.widgets.fold.set_expanded(False); more = shown.widgets.more_of_paper; "
+        code += "more.set_expanded(True); t.draw(shown); beside = shown.get_preferred_width()[0]; "
+        code += "more.set_expanded(False); shown.widgets.fold.set_expanded(True); t.draw(shown); "
+        code += "print(max(beside, shown.get_preferred_width()[0]), "
         code += "shown.get_preferred_height()[0], len(shown.widgets.helps.get_children()), "
         code += "*(list.get_popup_accessible().get_widget().get_size_request()[0] "
         code += "for list in (shown.widgets.printer, shown.widgets.title)))"
@@ -2072,22 +2563,199 @@ class WindowTest(Keeper):
         self.open(TABLE.replace("Soap", "Soap, blue"))
         self.assertEqual(choose("", self.widgets.rows_new.clicked), "3")
 
+    def test_each_row_has_its_number_of_labels(self) -> None:
+        """In the list, or typed; nothing is kept of it, nor written into the table."""
+        self.open()
+        ways, rows = self.window.ways.printing, self.window.ways.printing.rows
+        labels = self.window.made.labels
+
+        def number() -> bool:
+            if self.widgets.choosing.get_visible():
+                rows.on_many(None, "1", "5")
+                rows.on_many(None, "2", "0")
+                self.widgets.choosing.response(Gtk.ResponseType.OK)
+            return not self.widgets.choosing.get_visible()
+
+        GLib.timeout_add(BEAT, number)
+        self.assertEqual(rows.ask_for_rows(labels, "2,5"), "2,3 × 5")
+        self.assertEqual(self.widgets.rows_count.get_text(), "2 rows are ticked: 8 labels")
+        ways.labels, ways.printer = labels, ""
+        self.widgets.print_rows.set_text("2, 3 x 5")
+        found = [label.record.origin_number for label in ways.wanted().labels.prints]
+        self.assertEqual(found, [2] * 3 + [3] * 5)
+        self.window.made = replace(self.window.made, labels=ways.wanted().labels)
+        self.saved("a.pdf")
+        self.table.write_text(TABLE.replace("12;2", "12;5"))
+        words = "--stock", "Avery L7160", "--only", "2,3"
+        self.assertEqual((self.folder / "a.pdf").read_bytes(), self.by_commands(*words))
+
+    def test_a_sheet_of_the_keepers_own(self) -> None:
+        """By four fields, and a name by which it is kept and found; the labels touch unless a
+        margin is typed.
+        """
+        self.open()
+        self.remade(lambda: self.window.take_values(stock="Corner shop 24"))
+        self.assertIn("My sheet has another name…", self.answers())
+
+        said: list[Any] = []
+
+        def describe() -> bool:
+            if not self.widgets.describing.get_visible():
+                return True
+            for name, value in {"columns": 3, "rows": 7, "width": 63.5, "height": 38.1}.items():
+                getattr(self.widgets, f"sheet_{name}").set_value(value)
+            said.append(
+                self.widgets.sheet_drawing.get_mapped() and self.widgets.sheet_left.get_value()
+            )
+            self.widgets.sheet_left.set_value(7.2)
+            self.widgets.sheet_top.set_value(15.1)
+            said.append(self.widgets.sheet_name.get_text())
+            said.append(self.widgets.sheet_said.get_text())
+            self.widgets.describing.response(Gtk.ResponseType.OK)
+            return False
+
+        GLib.timeout_add(10 * BEAT, describe)
+        self.remade(self.answers()["My sheet has another name…"].clicked)
+        self.until(lambda: self.window.has_labels)
+        self.assertEqual(said, [9.75, "Corner shop 24", "21 labels, 2.55 and 0 mm apart."])
+        grid = "--grid 3x7 --cell 63.5x38.1 --margin 7.2x15.1 --gap 2.55x0".split()
+        self.assertEqual(self.saved("a.pdf"), self.by_commands(*grid))
+        self.change(stock="Avery L7160")
+        with mock.patch.object(self.widgets, "describing", mock.Mock()):
+            self.window.own_sheets.ask_for_sheet()
+        self.assertEqual(self.widgets.sheet_name.get_text(), "")  # the list has a sheet by that
+        self.window.offer_sheets(SimpleNamespace(get_text=lambda: "corner"))
+        self.assertEqual([row[0] for row in self.widgets.sheets], ["Corner shop 24"])
+        self.change(stock="Corner shop 24")
+        self.assertEqual(len(self.window.made.labels.job.plan.places), 21)
+
+    def test_a_shift_and_an_edge_are_of_a_paper(self) -> None:
+        """Typed into fields, kept of the printer and the sheet, and printed as label-print does."""
+        self.open()
+        self.change(right=0.5, down=-1, edge="7")
+        words = "--stock", "Avery L7160", "--shift=0.5,-1", "--edge", "7"
+        self.assertEqual(self.saved("a.pdf"), self.by_commands(*words))
+        self.change(stock="Avery L7651")
+        self.assertEqual(self.window.choices().edge, "")
+        self.open(TWO_CODES)
+        found = self.window.choices()
+        self.assertEqual((found.right, found.down, found.edge), (0.5, -1, "7"))
+
+    def test_the_line_of_a_shop_is_on_the_next_table_too(self) -> None:
+        self.open()
+        self.change(note="Corner shop")
+        words = "--stock", "Avery L7160", "--note", "Corner shop"
+        self.assertEqual(self.saved("a.pdf"), self.by_commands(*words))
+        self.open(TWO_CODES)
+        self.assertEqual(self.window.choices().note, "Corner shop")
+
+    def test_two_designs_are_in_sight(self) -> None:
+        self.open()
+        self.assertTrue(self.widgets.till.get_active())
+        self.remade(lambda: self.widgets.shelf.set_active(True))
+        words = "--stock", "Avery L7160", "--design", "shelf"
+        self.assertEqual(self.saved("a.pdf"), self.by_commands(*words))
+        self.change(design="article")
+        self.assertTrue(self.widgets.till.get_active())
+        self.change(design=str(support.TOP / "designs/shelf-60x40.svg"), roll=True)
+        self.assertTrue(self.widgets.till.get_inconsistent())
+        self.remade(self.widgets.till.clicked)
+        self.assertEqual(self.window.choices().design, "article")
+
+    def test_one_label_is_typed(self) -> None:
+        """Without a table."""
+
+        def type_it() -> bool:
+            if not self.widgets.typing.get_visible():
+                return True
+            if self.widgets.one_code.get_mapped():
+                self.widgets.one_code.set_text("4006381333931")
+            self.widgets.one_title.set_text("Pencil; red")
+            self.widgets.one_price.set_text("0,80 €")
+            self.widgets.one_copies.set_value(3)
+            self.widgets.typing.response(Gtk.ResponseType.OK)
+            return False
+
+        GLib.timeout_add(10 * BEAT, type_it)
+        self.window.lookup_action("type").activate(None)
+        self.until(lambda: self.window.has_labels)
+        self.assertEqual(
+            self.counted().replace("\u00a0", " "), "3 labels from 1 row, with the price 0,80 €."
+        )
+        self.assertEqual(self.records()[0].title, "Pencil; red")
+
+    def test_the_label_below_the_pointer_is_large(self) -> None:
+        self.open()
+        draw(self.window)
+        page, dark = self.drawn_page()
+        self.window.result.on_pointed(self.widgets.paper, SimpleNamespace(x=60, y=60))
+        self.assertNotEqual(self.drawn_page()[0], page)
+        self.assertGreater(self.drawn_page()[1], dark)
+        self.window.result.point_at(0)
+        self.assertEqual(self.drawn_page()[0], page)
+
+    def drawn_page(self) -> Any:
+        """The pixels of the page in the window, and how many of them are dark."""
+        area = self.widgets.paper.get_allocation()
+        surface = cairo.ImageSurface(cairo.FORMAT_RGB24, area.width, area.height)
+        self.window.result.on_draw(self.widgets.paper, cairo.Context(surface))
+        surface.flush()
+        data = bytes(surface.get_data())
+        return data, data.count(bytes(3))
+
+    def test_a_question_with_one_answer_is_none(self) -> None:
+        """The only column that may have the price is taken."""
+        self.open(";EAN;Name;X\n1;96385074;Gum;5.00\n2;4006381333931;Tea;7.20\n")
+        self.assertEqual(self.window.choices().price, "4")
+        self.assertEqual(self.problem(), "")
+
+    def test_amounts_on_no_label_are_said(self) -> None:
+        self.open("EAN;Name;Ex;Qty\n96385074;Gum;5.00;3\n4006381333931;Tea;7.20;8\n")
+        self.change(price="")
+        said = "Not on the labels: Ex 5.00; Qty 3.\nIf one is the price, name its column."
+        self.assertEqual(self.rows()[0], ("", "", said))
+        self.change(price="3")
+        self.assertEqual(self.rows(), [])
+
+    def test_numbers_of_rows_are_no_prices(self) -> None:
+        self.open("Riga;EAN;Nome;Valore\n1;96385074;Gum;5\n2;4006381333931;Tea;7\n")
+        self.assertEqual(self.window.choices().price, "")
+        self.assertIn("Not on the labels: Valore 5.", self.rows()[0][2])
+
+    def test_a_price_with_tax_is_taken_if_the_numbers_show_it(self) -> None:
+        """It is the one that customers pay."""
+        text = "EAN;Název;Prodejní;Prodejní DPH\n"
+        for number, (net, whole) in enumerate(
+            (("10,00", "12,10"), ("20,00", "24,20"), ("35,50", "42,96"))
+        ):
+            text += f"{support.ean13(859400000000 + number)};Zboží {number};{net};{whole}\n"
+        self.open(text)
+        self.assertEqual(self.window.choices().price, "4")
+
+    def test_nothing_new_is_no_error(self) -> None:
+        self.open()
+        self.saved("a.pdf")
+        self.open()
+        GLib.idle_add(lambda: self.window.take_values(new_only=True))
+        self.until(lambda: self.said().startswith("Nothing is new since"))
+        self.assertEqual(self.window.events.event.kind, "info")
+        self.assertFalse(self.widgets.print_button.get_sensitive())
+
     def test_sheets_have_pictures(self) -> None:
         """Of their grid, by which a keeper knows hers."""
-        picture = sheets.picture_of("Avery L7160")
+        picture = sheets.grid_of(sheets.sheet_named("Avery L7160"))
         self.assertEqual((picture.get_width(), picture.get_height()), (28, 40))  # A4
         pixels, row = picture.get_pixels(), picture.get_rowstride()
         size = picture.get_n_channels()
         middle = [pixels[20 * row + x * size : 20 * row + x * size + 3] for x in range(28)]
         white = "".join("x" if dot == b"\xff\xff\xff" else " " for dot in middle).split()
         self.assertEqual(len(white), 3)  # columns of labels
-        self.assertIsNone(sheets.picture_of("no sheet"))
 
     def test_the_wheel_changes_no_choice(self) -> None:
         """It scrolls what the controls are in."""
         self.open()
         self.widgets.more_of_paper.set_expanded(True)
-        settle(0.1)
+        draw(self.window)
         before = self.window.choices()
         for name in ("title", "design", "first"):
             control = self.window.control(name)
@@ -2095,7 +2763,7 @@ class WindowTest(Keeper):
             event.window = control.get_window()
             event.direction = Gdk.ScrollDirection.DOWN
             self.assertFalse(control.event(event))
-            settle(0.1)
+            self.rest()
         self.assertEqual(self.window.choices(), before)
 
     def test_reasons_wrap_at_the_edge_of_the_list(self) -> None:
@@ -2114,6 +2782,7 @@ class WindowTest(Keeper):
             mock.patch.object(type(chooser), "set_current_name") as name_of,
         ):
             self.window.lookup_action("save").activate(None)
+            settle()
         folder_of.assert_called_once_with(str(self.table.parent))
         name_of.assert_called_once_with(f"{self.table.stem}-labels.pdf")
 
@@ -2124,9 +2793,9 @@ class WindowTest(Keeper):
         said = 'The letters are read as Western European (ä é €), in words such as "Füller".'
         said += "\nCheck the letters."
         self.assertIn(said, [row[2] for row in self.rows()])
-        self.pressed("The letters are wrong")
+        self.pressed("Read them in another way")
         self.until(self.problem)
-        self.assertIn("Choose what reads well", self.problem())
+        self.assertIn("choose what reads well", self.problem())
         self.assertEqual([*self.answers()], ["Füller"])
         self.pressed("Füller")
         self.until(lambda: self.window.has_labels)
@@ -2164,12 +2833,12 @@ class WindowTest(Keeper):
 
     def test_wrong_words_are_said_and_the_page_stays(self) -> None:
         self.open()
-        before = self.window.shown
+        before = self.window.result.shown
         for words, said in (("--no-such-option", "--no-such-option"), ("'open", "quotation")):
             self.change(for_print=words)
             self.assertIn(said, self.problem())
             self.assertFalse(self.widgets.print_button.is_sensitive())
-            self.assertIs(self.window.shown, before)
+            self.assertIs(self.window.result.shown, before)
         self.change(for_print="", price="")
         self.assertEqual(self.problem(), "")
         self.change(for_table="--no-such-option")
@@ -2183,21 +2852,27 @@ class WindowTest(Keeper):
         self.assertEqual(self.window.choices().price, "")
         with redirect_stdout(StringIO()):
             self.window.take_values(for_table="--help")
-            settle(0.5)
+            self.rest()
 
-    def test_a_wrong_picture_stops_the_print(self) -> None:
+    def test_a_wrong_picture_is_left_out(self) -> None:
+        """It is said, and does not count as printed; the others do."""
         self.open()
         made = self.window.made.labels
         first = made.labels[0]
         packed = bytearray(first.record.modules.packed)
         packed[len(packed) // 2] ^= 0b00111100
-        modules = replace(first.record.modules, packed=bytes(packed))
-        bad = replace(first, symbols=(first.symbols[0]._replace(modules=modules),))
+        modules = first.record.modules._replace(packed=bytes(packed))
+        symbol = first.symbols[0]._replace(modules=modules)
+        bad = LaidOut(first.record, (symbol,), first.texts)
         prints = [bad if item is first else item for item in made.prints]
         self.window.made = replace(self.window.made, labels=replace(made, prints=prints))
         path = self.folder / "wrong.pdf"
-        self.assertIn("Row 2", self.said_after(self.window.ways.save, path))
-        self.assertFalse(path.exists())
+        count = len({item.record.row for item in prints}) - 1
+        self.assertIn("labels are saved as", self.said_after(self.window.ways.save, path))
+        self.assertRegex(self.problem(), "^Row 2: .* report it.$")
+        self.assertTrue(path.exists())
+        self.assertEqual(len(self.printed()), count)
+        self.assertNotIn(first.record.data, self.printed())
 
     def test_long_work_leaves_the_window_alone_and_stops(self) -> None:
         """It is done in another thread; a file that is stopped is not there."""
@@ -2207,20 +2882,21 @@ class WindowTest(Keeper):
         threads: list[threading.Thread] = []
         save = ways.save_to
 
-        def save_here(*values: Any) -> None:
+        def save_here(*values: Any) -> Any:
             threads.append(threading.current_thread())
-            save(*values)
+            return save(*values)
 
         self.open("Nr;EAN;Name;Price\n" + rows)
         with mock.patch.object(ways, "save_to", save_here):
             self.window.ways.save(self.folder / "long.pdf")
             self.window.on_stop(None)
             self.until(self.said)
-        self.assertEqual(self.said(), "Stopped: nothing was printed")
+        self.assertEqual(self.said(), "Stopped: nothing was printed.")
         self.assertNotIn(threading.main_thread(), threads)
         self.assertEqual(list(self.folder.glob("*.pdf")), [])
         self.assertTrue(self.widgets.print_button.is_sensitive())
         self.window.take_values(price="")
+        self.window.keep_up()
         self.window.on_stop(None)  # the labels that are there are not those that are chosen
         self.assertFalse(self.widgets.print_button.is_sensitive())
 
@@ -2277,12 +2953,9 @@ class WindowTest(Keeper):
             str(value) for value in vars(self.window.choices()).values() if value not in ("", None)
         }
         self.assertEqual([name for name in aloud if name in ids], [])  # nobody should hear these
-        self.window.offer(
-            self.widgets.helps, [("Prices may be any text, however long it is", bool)] * 3
-        )
-        self.widgets.helps.show()
-        self.widgets.fold.set_active(True)
-        settle(0.1)
+        self.window.result.offer([("Prices may be any text, however long it is", bool)] * 3)
+        self.widgets.fold.set_expanded(True)
+        draw(self.window)
         width, _ = self.window.get_preferred_width()
         height, _ = self.window.get_preferred_height()
         self.assertLessEqual((width <= 800, height <= 560), (True, True))

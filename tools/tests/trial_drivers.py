@@ -36,7 +36,8 @@ from rasters import Page, pages_of_pnm, pages_of_raster, SYNCS
 from scheduler import Scheduler
 
 FILTERS = Path("/usr/lib/cups/filter")
-SECONDS = 300  # for a job
+SECONDS = 600  # for a job, on a busy machine
+LATE = -1  # the status of one that was not over by then
 CODES = ("ean13 400638133{:03}", "ean8 735{:04}", "upca 036000{:05}", "code128 LOT-{:04}")
 WAYS = {"sheet": (("--stock", "Avery L7160"), 21), "roll": (("--paper", "60x40"), 5)}
 SIZES = {"sheet": (210.0, 297.0), "roll": (60.0, 40.0)}
@@ -176,7 +177,7 @@ class Trial:
             more = [
                 (option, *value)
                 for option, value in ASKED
-                if f"give {option}" in said and option not in words
+                if f"({option}" in said and option not in words
             ]
             if done.returncode == 0 or not more:
                 break
@@ -186,7 +187,8 @@ class Trial:
         if done.returncode == BAD_ARGUMENTS:
             return Outcome("refused", said)
         if done.returncode:
-            return Outcome("stopped" if "sent to" in said else "FAILED", said)
+            is_stopped = done.returncode == LATE or "sent to" in said
+            return Outcome("stopped" if is_stopped else "FAILED", said)
         outcome = self.judged(name, kind, words, said)
         return Outcome(outcome.kind + asked, outcome.detail)
 
@@ -282,8 +284,8 @@ def printed(queue: str, words: Sequence[str], lines: bytes) -> "support.Finished
     env = support.environment()
     try:
         return subprocess.run(command, input=lines, capture_output=True, env=env, timeout=SECONDS)
-    except subprocess.TimeoutExpired as late:
-        return subprocess.CompletedProcess(command, 1, b"", b"job: " + (late.stderr or b"late"))
+    except subprocess.TimeoutExpired:
+        return subprocess.CompletedProcess(command, LATE, b"", b"it was not over in time")
 
 
 @cache
@@ -327,15 +329,20 @@ def is_found(page: Dots, bits: Dots, left: int, top: int, near: int) -> bool:
 
 
 def check_judge() -> None:
-    """Ends the trial if a code with a wrong dot is taken for the right one."""
-    wanted = bars("roll", 203)[0]
-    page = numpy.zeros((400, 600), dtype=numpy.uint8)
-    high, wide = wanted.dots.shape
-    page[5 : 5 + high, 7 : 7 + wide] = wanted.dots
-    is_right = is_found(page, wanted.dots, 7, 5, 9)
-    page[5 + high // 2, 7 + wide // 2] ^= 1
-    if not is_right or is_found(page, wanted.dots, 7, 5, 9):
-        sys.exit("the judge takes a wrong dot for a right one")
+    """Ends the trial if a code with a wrong dot, or with a bar that has lost a column, is taken for
+    the right one.
+    """
+    wanted = bars("roll", 203)[0].dots
+    high, wide = wanted.shape
+    dot = wanted.copy()
+    dot[high // 2, wide // 2] ^= 1
+    narrow = wanted.copy()
+    narrow[:, wanted.any(axis=0).argmax()] = 0  # of the first bar
+    for code, is_right in ((wanted, True), (dot, False), (narrow, False)):
+        page = numpy.zeros((400, 600), dtype=numpy.uint8)
+        page[5 : 5 + high, 7 : 7 + wide] = code
+        if is_found(page, wanted, 7, 5, 9) != is_right:
+            sys.exit("the judge takes a wrong code for a right one")
 
 
 def drawn_by_ghostscript(document: bytes, dpi: int) -> Sequence[Page]:
@@ -363,7 +370,9 @@ def main() -> int:
     os.environ["LABELS"] = str(support.labels_program())
     check_judge()
     pool.fetch(asked.folder)
-    texts = pool.texts_of(pool.drawn(asked.folder, asked.seed, asked.count, asked.only))
+    texts = pool.texts_of(
+        asked.folder, pool.drawn(asked.folder, asked.seed, asked.count, asked.only)
+    )
     outcomes: Counter[str] = Counter()
     scheduler = Scheduler(has_own_programs=True)
     try:

@@ -43,7 +43,7 @@ NUMBERED = (  # the widgets at the steps of the page, and where beside them the 
     ("printer", 1.0, 0.5),
     ("stock", 1.0, 0.5),
     ("paper", 0.08, -0.04),
-    ("fold", 0.8, 0.35),
+    ("left_out", 1.15, 0.5),
     ("print_button", 0.5, 1.1),
 )
 RED = (0.78, 0.1, 0.1)
@@ -97,6 +97,7 @@ class Camera:
     def until(self, is_done: Callable[[], Any]) -> None:
         """Waits for something."""
         end = time.monotonic() + MOST
+        self.settle(0.05)  # what was done may be followed a little later
         while not is_done():
             if time.monotonic() > end:
                 raise TimeoutError("the window did not get there")
@@ -221,13 +222,16 @@ def show_tables(camera: Camera) -> None:
     camera.open(shop_table())
     camera.shot("ordinary")
     camera.while_popped("menu", window.widgets.menu_button)
-    window.widgets.fold.set_active(True)
+    window.widgets.fold.set_expanded(True)
     camera.shot("errors")
-    window.widgets.fold.set_active(False)
+    window.widgets.fold.set_expanded(False)
     window.widgets.first.set_value(3)
     camera.until(lambda: window.has_labels)
     camera.shot("window")
     camera.numbered("window-steps.png")
+    window.result.point_at(5)
+    camera.shot("large")
+    window.result.point_at(0)
     window.widgets.more_of_table.set_expanded(True)
     window.widgets.more_of_paper.set_expanded(True)
     camera.shot("more")
@@ -253,7 +257,7 @@ def show_questions(camera: Camera) -> None:
     camera.open(xlsx(GOODS, ("Tea", "visible", GOODS)), "Price list.xlsx")
     camera.shot("asking")
     camera.open(shop_table() + WRONG)
-    window.widgets.fold.set_active(True)
+    window.widgets.fold.set_expanded(True)
     camera.shot("many-errors")
     camera.open(shop_table())
     window.table.keep_printed(window.made, window.made.labels)
@@ -268,6 +272,7 @@ def show_questions(camera: Camera) -> None:
 def show_printers(camera: Camera) -> None:
     """Pictures of the list of printers and of the dialogs."""
     from labeltools.sending.printers import MEDIA, TRAY
+    from labeltools.window.presets import ask_for_name
 
     window = camera.window
     window.widgets.printer.popup()
@@ -286,8 +291,10 @@ def show_printers(camera: Camera) -> None:
     camera.while_asked("dialog", lambda: ask(printer, labels, options))
     camera.while_asked("adding", window.of_printers.ask_for_printer)
     rows = window.ways.printing.rows
-    camera.while_asked("rows", lambda: rows.ask_for_rows(labels, "2-4, 9"))
-    camera.while_asked("naming", window.presets.ask_for_name)
+    camera.while_asked("rows", lambda: rows.ask_for_rows(labels, "2-4, 9 × 5"))
+    camera.while_asked("naming", lambda: ask_for_name(window))
+    camera.while_asked("own-sheet", window.own_sheets.ask_for_sheet)
+    camera.while_asked("one-label", lambda: window.lookup_action("type").activate(None))
     window.widgets.stock.grab_focus()
     window.widgets.stock.set_text("")
     camera.type("Avery L71")
@@ -344,7 +351,7 @@ def waiting_for(job: Any, trouble: Any) -> Any:
     from labeltools.sending.job import JobState
 
     what = Text("{}: {}", job.queue, trouble.what)
-    return JobState(what, "", False, is_waiting=True, cure=trouble.cure)
+    return JobState(what, "", False, is_waiting=True, cure=trouble.hint)
 
 
 def show_progress(camera: Camera) -> None:

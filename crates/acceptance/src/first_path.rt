@@ -1,5 +1,5 @@
 //! EAN-8 lines become plain PBM images, other lines messages, and the result of a run a status.
-use crate::support::{EAN8, Row, is_as_it_says};
+use crate::support::{EAN8, Row, Tally, compare_row, options_by};
 use command::End;
 use filter::{RunFault, Status, run};
 use labelcore::{Options, StdSink, StdSource};
@@ -79,10 +79,14 @@ const ROWS: &[Row] = &[
 
 #[test]
 fn rows(rt: HostRuntime) -> Result<(), Fail> {
+    let mut runs = Tally::new();
     for row in ROWS {
         let shows = row.shows;
-        assert!(rt; is_as_it_says(rt.alloc(), row)?, "{shows}");
+        compare_row(&mut runs, rt.alloc(), row)?;
+        assert!(rt; runs.are_right, "{shows}");
     }
+    let compared = runs.compared;
+    println!(rt; "compared {compared} runs")?;
     Ok(())
 }
 
@@ -101,7 +105,7 @@ fn is_the_same_by_std(alloc: Global, options: &Options) -> bool {
 
 #[test]
 fn readers_and_writers_of_std(rt: HostRuntime) -> Result<(), Fail> {
-    let options = crate::support::options_by(rt.alloc(), &["--height", "1"])?;
+    let options = options_by(rt.alloc(), &["--height", "1"])?;
     assert!(rt; is_the_same_by_std(rt.alloc(), &options));
     Ok(())
 }
@@ -128,8 +132,13 @@ const ENDS: &[(End, u8, &str)] = &[
 ];
 
 #[test]
-fn ends(rt: HostRuntime) {
+fn ends(rt: HostRuntime) -> Result<(), Fail> {
+    let mut ends = Tally::new();
     for (end, status, line) in ENDS {
-        assert!(rt; (end.status() == *status) & (end.line() == *line));
+        ends.add((end.status() == *status) & (end.line() == *line));
     }
+    assert!(rt; ends.are_right);
+    let compared = ends.compared;
+    println!(rt; "compared {compared} ends")?;
+    Ok(())
 }

@@ -1,7 +1,7 @@
 //! Escapes, a sink that is full, and a source that fails.
 ghost use Rattle.std.specs.Prelude.{◌<◌};
 
-use crate::support::{EAN8, Row, is_as_it_says, options_by};
+use crate::support::{EAN8, Row, Tally, compare_row, options_by};
 use filter::{RunFault, run};
 use labelcore::{MemSink, MemSource, Options};
 use std::test::Fail;
@@ -39,10 +39,14 @@ const ROWS: &[Row] = &[
 
 #[test]
 fn rows(rt: HostRuntime) -> Result<(), Fail> {
+    let mut runs = Tally::new();
     for row in ROWS {
         let shows = row.shows;
-        assert!(rt; is_as_it_says(rt.alloc(), row)?, "{shows}");
+        compare_row(&mut runs, rt.alloc(), row)?;
+        assert!(rt; runs.are_right, "{shows}");
     }
+    let compared = runs.compared;
+    println!(rt; "compared {compared} runs")?;
     Ok(())
 }
 
@@ -67,9 +71,14 @@ fn fills(options: &Options, piece: usize) -> bool
 #[test]
 fn a_full_sink(rt: HostRuntime) -> Result<(), Fail> {
     let options = options_by(rt.alloc(), &["--height", "1"])?;
-    assert!(rt;
-        fills(&options, 1) & fills(&options, 2) & fills(&options, 7) & fills(&options, 4096)
-    );
+    let mut pieces = Tally::new();
+    pieces.add(fills(&options, 1));
+    pieces.add(fills(&options, 2));
+    pieces.add(fills(&options, 7));
+    pieces.add(fills(&options, 4096));
+    assert!(rt; pieces.are_right);
+    let compared = pieces.compared;
+    println!(rt; "compared {compared} pieces")?;
     Ok(())
 }
 
@@ -87,11 +96,13 @@ fn leaves_the_ended_line(options: &Options, piece: usize) -> bool
 #[test]
 fn a_failing_source(rt: HostRuntime) -> Result<(), Fail> {
     let options = options_by(rt.alloc(), &["--height", "1"])?;
-    assert!(rt;
-        leaves_the_ended_line(&options, 1)
-            & leaves_the_ended_line(&options, 2)
-            & leaves_the_ended_line(&options, 7)
-            & leaves_the_ended_line(&options, 4096)
-    );
+    let mut pieces = Tally::new();
+    pieces.add(leaves_the_ended_line(&options, 1));
+    pieces.add(leaves_the_ended_line(&options, 2));
+    pieces.add(leaves_the_ended_line(&options, 7));
+    pieces.add(leaves_the_ended_line(&options, 4096));
+    assert!(rt; pieces.are_right);
+    let compared = pieces.compared;
+    println!(rt; "compared {compared} pieces")?;
     Ok(())
 }

@@ -1,5 +1,5 @@
 //! Pictures at each scale, the words of the command line that are refused, and help.
-use crate::support::{Row, gives_however_cut, is_as_it_says, options_by, words_of};
+use crate::support::{Row, Tally, compare_however_cut, compare_row, options_by, words_of};
 use command::{End, WordsFault, options_of};
 use std::alloc::{AllocError, Global};
 use std::test::Fail;
@@ -28,10 +28,14 @@ const WIDE_PIXELS: &[u8] =
 
 #[test]
 fn rows(rt: HostRuntime) -> Result<(), Fail> {
+    let mut runs = Tally::new();
     for row in ROWS {
         let shows = row.shows;
-        assert!(rt; is_as_it_says(rt.alloc(), row)?, "{shows}");
+        compare_row(&mut runs, rt.alloc(), row)?;
+        assert!(rt; runs.are_right, "{shows}");
     }
+    let compared = runs.compared;
+    println!(rt; "compared {compared} runs")?;
     Ok(())
 }
 
@@ -57,15 +61,19 @@ fn letters_of(alloc: Global, modules: &[u8], scale: usize) -> Result<Vec<u8>, Al
 #[test]
 fn text_pictures(rt: HostRuntime) -> Result<(), Fail> {
     let line = b"ean8 7351353\n";
+    let mut runs = Tally::new();
     let options = options_by(rt.alloc(), &["--height", "1", "--format", "ascii"])?;
     let want = letters_of(rt.alloc(), MODULES, 1)?;
     assert!(rt; want.len() == 164);
-    assert!(rt; gives_however_cut(&options, line, want.as_slice(), b""));
+    compare_however_cut(&mut runs, &options, line, want.as_slice(), b"");
     let words = ["--height", "1", "--scale", "8", "--format", "ascii"];
     let options = options_by(rt.alloc(), &words)?;
     let want = letters_of(rt.alloc(), MODULES, 8)?;
     assert!(rt; want.len() == 10_377);
-    assert!(rt; gives_however_cut(&options, line, want.as_slice(), b""));
+    compare_however_cut(&mut runs, &options, line, want.as_slice(), b"");
+    assert!(rt; runs.are_right);
+    let compared = runs.compared;
+    println!(rt; "compared {compared} runs")?;
     Ok(())
 }
 
@@ -81,29 +89,35 @@ const BAD: &[&[&str]] = &[
 
 #[test]
 fn bad_words(rt: HostRuntime) -> Result<(), Fail> {
+    let mut lists = Tally::new();
     for texts in BAD {
         let words = words_of(rt.alloc(), texts)?;
-        assert!(rt;
-            matches!(
-                &options_of(rt.alloc(), words.as_slice()),
-                Err(WordsFault::Bad)
-            )
-        );
+        lists.add(matches!(
+            &options_of(rt.alloc(), words.as_slice()),
+            Err(WordsFault::Bad)
+        ));
     }
+    assert!(rt; lists.are_right);
     assert!(rt; (End::BadWords.status() == 2) & (End::BadWords.line() == "labels: bad words\n"));
+    let compared = lists.compared;
+    println!(rt; "compared {compared} lists of words")?;
     Ok(())
 }
 
 #[test]
 fn help(rt: HostRuntime) -> Result<(), Fail> {
+    let mut texts = Tally::new();
     for word in ["--help", "-h"] {
         let words = words_of(rt.alloc(), &[word])?;
         match options_of(rt.alloc(), words.as_slice()) {
-            Err(WordsFault::Help(text)) => assert!(rt; text.as_str().contains("--min-version")),
+            Err(WordsFault::Help(text)) => texts.add(text.as_str().contains("--min-version")),
             _ => panic!(rt; "no help"),
         }
     }
+    assert!(rt; texts.are_right);
     assert!(rt; (End::Helped.status() == 0) & End::Helped.line().is_empty());
+    let compared = texts.compared;
+    println!(rt; "compared {compared} texts")?;
     Ok(())
 }
 

@@ -1,6 +1,6 @@
 //! A filter that is fed piece by piece: a line is finished by its end, and nothing is written before.
 use crate::example::{EXAMPLE, PBM, picture_of};
-use crate::support::{EAN8, options_by};
+use crate::support::{EAN8, Tally, options_by};
 use filter::{Filter, RunFault, Status, run};
 use labelcore::{FailAt, MemSink, MemSource, Options};
 use std::test::Fail;
@@ -42,27 +42,29 @@ const FED: &[Fed] = &[
     ),
 ];
 
-/// Whether the pieces give the images after each of them, and at the end the messages and the status.
-fn gives((pieces, messages, status): &Fed, options: &Options) -> bool {
+/// Compares the images after each piece, and after the end the messages and the status too.
+fn compare_fed(calls: &mut Tally, (pieces, messages, status): &Fed, options: &Options) {
     let mut filter = Filter::new(*options);
     let mut out: MemSink<91> = MemSink::new(91, 91);
     let mut err: MemSink<91> = MemSink::new(91, 91);
     for (piece, images) in *pieces {
         let result = filter.feed(piece, &mut out, &mut err);
-        if result.is_err() | (out.bytes() != *images) | !err.bytes().is_empty() {
-            return false;
-        }
+        calls.add(result.is_ok() & (out.bytes() == *images) & err.bytes().is_empty());
     }
     let result = filter.finish(&mut out, &mut err);
-    (result == Ok(*status)) & (out.bytes() == EAN8) & (err.bytes() == *messages)
+    calls.add((result == Ok(*status)) & (out.bytes() == EAN8) & (err.bytes() == *messages));
 }
 
 #[test]
 fn an_image_comes_with_the_end_of_its_line(rt: HostRuntime) -> Result<(), Fail> {
     let options = options_by(rt.alloc(), &["--height", "1"])?;
+    let mut calls = Tally::new();
     for fed in FED {
-        assert!(rt; gives(fed, &options));
+        compare_fed(&mut calls, fed, &options);
     }
+    assert!(rt; calls.are_right);
+    let compared = calls.compared;
+    println!(rt; "compared {compared} calls")?;
     Ok(())
 }
 
@@ -88,20 +90,18 @@ fn run_stops(options: &Options, image: &[u8]) -> bool {
     (result == Err(RunFault::WriteOut)) & is_cut_off(out.bytes(), image) & (out.failures() == 1)
 }
 
-/// Whether a filter stops in the second image, and then answers that it is spent: it calls no sink.
-fn filter_is_spent(options: &Options, image: &[u8]) -> bool {
+/// Whether a filter stops in the second image, and calls no sink then. What it answers is compared.
+fn filter_is_spent(answers: &mut Tally, options: &Options, image: &[u8]) -> bool {
     let mut filter = Filter::new(*options);
     let mut out: FailAt<MemSink<1000>> = FailAt::new(MemSink::new(1000, 1000), 0);
     let mut err: FailAt<MemSink<1>> = FailAt::new(MemSink::new(1, 1), 0);
-    let stops = filter.feed(TWO_SYMBOLS, &mut out, &mut err) == Err(RunFault::WriteOut);
+    answers.add(filter.feed(TWO_SYMBOLS, &mut out, &mut err) == Err(RunFault::WriteOut));
     let calls = (out.calls(), err.calls());
-    let mut are_spent = true;
     for piece in [b"".as_slice(), b"#\n", b"ean8 7351353\n"] {
-        are_spent &= filter.feed(piece, &mut out, &mut err) == Err(RunFault::Spent);
+        answers.add(filter.feed(piece, &mut out, &mut err) == Err(RunFault::Spent));
     }
-    are_spent &= filter.finish(&mut out, &mut err) == Err(RunFault::Spent);
-    stops
-        & are_spent
+    answers.add(filter.finish(&mut out, &mut err) == Err(RunFault::Spent));
+    answers.are_right
         & ((out.calls(), err.calls()) == calls)
         & is_cut_off(out.device().bytes(), image)
         & (out.device().failures() == 1)
@@ -113,6 +113,9 @@ fn a_filter_is_spent_after_a_failed_write(rt: HostRuntime) -> Result<(), Fail> {
     let options = options_by(rt.alloc(), &["--mask", "2"])?;
     let image = picture_of(rt.alloc(), EXAMPLE, PBM)?;
     assert!(rt; run_stops(&options, image.as_slice()));
-    assert!(rt; filter_is_spent(&options, image.as_slice()));
+    let mut answers = Tally::new();
+    assert!(rt; filter_is_spent(&mut answers, &options, image.as_slice()));
+    let compared = answers.compared;
+    println!(rt; "compared {compared} answers")?;
     Ok(())
 }

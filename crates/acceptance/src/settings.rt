@@ -1,6 +1,6 @@
 //! Settings in the head of a line: they hold for that line alone.
 use crate::example::{EXAMPLE, PBM, picture_of};
-use crate::support::{EAN8, EAN8_PIXELS, Row, gives_however_cut, is_as_it_says, options_by};
+use crate::support::{EAN8, EAN8_PIXELS, Row, Tally, compare_however_cut, compare_row, options_by};
 use std::test::Fail;
 
 const ROWS: &[Row] = &[
@@ -78,10 +78,14 @@ const ROWS: &[Row] = &[
 
 #[test]
 fn rows(rt: HostRuntime) -> Result<(), Fail> {
+    let mut runs = Tally::new();
     for row in ROWS {
         let shows = row.shows;
-        assert!(rt; is_as_it_says(rt.alloc(), row)?, "{shows}");
+        compare_row(&mut runs, rt.alloc(), row)?;
+        assert!(rt; runs.are_right, "{shows}");
     }
+    let compared = runs.compared;
+    println!(rt; "compared {compared} runs")?;
     Ok(())
 }
 
@@ -90,10 +94,14 @@ fn rows(rt: HostRuntime) -> Result<(), Fail> {
 fn a_line_sets_level_and_mask(rt: HostRuntime) -> Result<(), Fail> {
     let want = picture_of(rt.alloc(), EXAMPLE, PBM)?;
     assert!(rt; want.len() == 879);
+    let mut runs = Tally::new();
     for level in ["M", "H"] {
         let options = options_by(rt.alloc(), &["--height", "1", "--level", level])?;
         let line = b"qr,level=M,mask=2 01234567\n";
-        assert!(rt; gives_however_cut(&options, line, want.as_slice(), b""));
+        compare_however_cut(&mut runs, &options, line, want.as_slice(), b"");
     }
+    assert!(rt; runs.are_right);
+    let compared = runs.compared;
+    println!(rt; "compared {compared} runs")?;
     Ok(())
 }

@@ -88,23 +88,46 @@ fn fed_to(
     filter.finish(images, messages)
 }
 
-/// Whether runs by these options give these images and messages, however the input comes: in pieces of 1, 2, 7 and
-/// 4,096 bytes, and cut in two at each place.
-pub fn gives_however_cut(options: &Options, input: &[u8], images: &[u8], messages: &[u8]) -> bool {
-    let by_pieces = ran_by(options, input, 1).gives(images, messages)
-        & ran_by(options, input, 2).gives(images, messages)
-        & ran_by(options, input, 7).gives(images, messages)
-        & ran_by(options, input, 4096).gives(images, messages);
-    if !by_pieces {
-        return false;
-    }
-    for place in 0..=input.len() {
-        let (first, second) = input.split_at(place);
-        if !fed(options, first, second).gives(images, messages) {
-            return false;
+/// How many comparisons of a test were as they have to be, and whether all were.
+#[derive(Clone, Copy)]
+pub struct Tally {
+    pub compared: u64,
+    pub are_right: bool,
+}
+
+impl Tally {
+    /// No comparison yet.
+    pub fn new() -> Tally {
+        Tally {
+            compared: 0,
+            are_right: true,
         }
     }
-    true
+
+    /// Adds a comparison.
+    pub fn add(&mut self, is_right: bool) {
+        self.compared = self.compared.saturating_add(u64::from(is_right));
+        self.are_right &= is_right;
+    }
+}
+
+/// Compares the images and messages of runs by these options, however the input comes: in pieces of 1, 2, 7 and 4,096
+/// bytes, and cut in two at each place.
+pub fn compare_however_cut(
+    runs: &mut Tally,
+    options: &Options,
+    input: &[u8],
+    images: &[u8],
+    messages: &[u8],
+) {
+    runs.add(ran_by(options, input, 1).gives(images, messages));
+    runs.add(ran_by(options, input, 2).gives(images, messages));
+    runs.add(ran_by(options, input, 7).gives(images, messages));
+    runs.add(ran_by(options, input, 4096).gives(images, messages));
+    for place in 0..=input.len() {
+        let (first, second) = input.split_at(place);
+        runs.add(fed(options, first, second).gives(images, messages));
+    }
 }
 
 /// Words that were to be accepted.
@@ -140,12 +163,19 @@ pub fn text_of(alloc: Global, parts: &[Part]) -> Result<Vec<u8>, AllocError> {
     Ok(text)
 }
 
-/// Whether a row is as it says.
-pub fn is_as_it_says(alloc: Global, row: &Row) -> Result<bool, Fail> {
+/// Compares the runs of a row with what it says.
+pub fn compare_row(runs: &mut Tally, alloc: Global, row: &Row) -> Result<(), Fail> {
     let options = options_by(alloc, row.words)?;
     let input = text_of(alloc, row.input)?;
     let images = text_of(alloc, row.images)?;
-    Ok(gives_however_cut(&options, input.as_slice(), images.as_slice(), row.messages))
+    compare_however_cut(
+        runs,
+        &options,
+        input.as_slice(),
+        images.as_slice(),
+        row.messages,
+    );
+    Ok(())
 }
 
 /// The image of `ean8 7351353`, one module high.

@@ -13,7 +13,7 @@ use Rattle.picture.specs.Reading.{raster}
 use Rattle.picture.specs.Text.{pixel_row}
 use Rattle.reading.specs.Found.{ReadingIsAlone}
 use Rattle.reading.specs.Labels.{read_dots}
-use Rattle.picture.proofs.GridLaws.{pixel_row-equal}
+use Rattle.picture.proofs.Laws.GridLaws.{pixel_row-equal}
 use Rattle.capi.specs.Bitmap.{AnswersBitmapOutcome, PutsBitmap, ReadsBitmapOutcome, bytes_of, put_bit_rows, row_size}
 use Rattle.capi.specs.Private.BitRows.{put_equal}
 use Rattle.capi.specs.Calls.{Rooms}

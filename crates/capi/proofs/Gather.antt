@@ -1,8 +1,8 @@
 -- Eight dots are gathered into a byte by one product.
-use Rattle.std.proofs.Common.{◌≡◌, ℕ, zero, suc, ◌*◌, ◌%◌, ◌/◌, ◌==◌, List, [], ◌∷◌, length, bit_or, arith, refl}
-use Rattle.std.proofs.lemmas.Bool.{and_parts}
-use Rattle.std.specs.Prelude.{Bool, true, false, ◌&&◌}
+use Rattle.std.proofs.Common.{◌≡◌, ℕ, ◌*◌, ◌%◌, ◌/◌, ◌==◌, List, [], ◌∷◌, bit_or, refl}
+use Rattle.std.specs.Prelude.{Bool, true}
 use Rattle.std.specs.Int.{from_bool}
+use Rattle.labelcore.proofs.Laws.ComputedLaws.{all_rows, passes_row}
 use Rattle.capi.specs.Private.BitRows.{byte_of_dots}
 
 -- the highest byte of the product, of eight numbers that are 0 or 1
@@ -21,26 +21,10 @@ is_gathered (a ∷ b ∷ c ∷ d ∷ e ∷ f ∷ g ∷ h ∷ []) =
     (from_bool h) == byte_of_dots a b c d e f g h
 is_gathered other = true
 
--- whether a test is true of all lists of so many truth values
-unfoldable for_all : ℕ → (List Bool → Bool) → Bool
-for_all zero test = test []
-for_all (suc n) test = for_all n (λ bits. test (false ∷ bits)) && for_all n (λ bits. test (true ∷ bits))
-
-for_all_at : (n : ℕ) (test : List Bool → Bool) → for_all n test ≡ true → (bits : List Bool) → length bits ≡ n
-    → test bits ≡ true
-unfolding for_all
-for_all_at zero test all [] size = all
-for_all_at zero test all (bit ∷ bits) size = absurd (omega (arith, size))
-for_all_at (suc n) test all [] size = absurd (omega (arith, size))
-for_all_at (suc n) test all (false ∷ bits) size =
-    for_all_at n (λ rest. test (false ∷ rest)) (and_parts _ _ all).0 bits (omega (arith, size))
-for_all_at (suc n) test all (true ∷ bits) size =
-    for_all_at n (λ rest. test (true ∷ rest)) (and_parts _ _ all).1 bits (omega (arith, size))
-
 -- all 256 cases
-each : for_all 8 is_gathered ≡ true
-unfolding for_all
+each : all_rows 8 is_gathered ≡ true
+unfolding all_rows
 each = refl
 
 pub gathers : (a b c d e f g h : Bool) → is_gathered (a ∷ b ∷ c ∷ d ∷ e ∷ f ∷ g ∷ h ∷ []) ≡ true
-gathers a b c d e f g h = for_all_at 8 is_gathered each (a ∷ b ∷ c ∷ d ∷ e ∷ f ∷ g ∷ h ∷ []) refl
+gathers a b c d e f g h = passes_row 8 is_gathered (a ∷ b ∷ c ∷ d ∷ e ∷ f ∷ g ∷ h ∷ []) each refl

@@ -11,10 +11,10 @@ use Rattle.linear.specs.Ean.{pattern, patterns, normal_guard, centre_guard, left
 use Rattle.linear.specs.Tables.{left_half_sets}
 use Rattle.linear.specs.declared.ean.NumberSet.TheVariants.{A}
 use Rattle.linear.specs.Private.Data.{AreDigits, IsFull}
-use Rattle.linear.proofs.DigitLaws.{of_full_digits}
-use Rattle.linear.proofs.EanLaws.{front_digits, back_digits, left_groups_of, right_groups_of}
-use Rattle.linear.proofs.GroupLaws.{drop-append_more}
-use Rattle.linear.proofs.PatternLaws.{length-left_sets, length-pattern, left_sets_a_or_b, four_a}
+use Rattle.linear.proofs.Laws.DigitLaws.{of_full_digits}
+use Rattle.linear.proofs.Laws.EanLaws.{front_digits, back_digits, left_groups_of, right_groups_of}
+use Rattle.linear.proofs.Laws.GroupLaws.{drop-append_more}
+use Rattle.linear.proofs.Laws.PatternLaws.{length-left_sets, length-pattern, left_sets_a_or_b, four_a}
 use Rattle.capi.specs.Layout.{layout_of, right_digits, IsLaidOut, IsLayoutOf}
 
 -- equations of elements as one of lists

@@ -1,9 +1,9 @@
-pub mod BitLaws
-pub mod FullLaws
-pub mod SliceLaws
-pub mod LayoutLaws
-pub mod ModuleLaws
-pub mod Gather
-pub mod RowLaws
+mod BitLaws
+mod FullLaws
+mod SliceLaws
+mod LayoutLaws
+mod ModuleLaws
+mod Gather
+mod RowLaws
 mod Examples
-pub mod WordingTheorems
+mod WordingTheorems

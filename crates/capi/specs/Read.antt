@@ -6,11 +6,10 @@ use Rattle.std.specs.Bool.{then_some}
 use Rattle.labelcore.specs.declared.symbology.Symbology.{Symbology}
 use Rattle.picture.specs.Picture.{Picture}
 use Rattle.picture.specs.Reading.{Raster, raster}
-use Rattle.filter.specs.Reading.{read_modules}
-use Rattle.qrdata.specs.Steps.{◌>>=◌}
+use Rattle.labelcore.specs.Steps.{◌>>=◌}
 use Rattle.reading.specs.Dots.{bits_picture, bytes_read, is_inside}
 use Rattle.reading.specs.Found.{Found, any_reading}
-use Rattle.reading.specs.Labels.{read_dots, read_short}
+use Rattle.reading.specs.Labels.{read_dots, read_label}
 use Rattle.reading.specs.declared.bits.BitRegion.{BitRegion}
 use Rattle.capi.specs.Calls.{Declines, PutsWhole, Rooms}
 use Rattle.capi.specs.Numbers.{are_unused, flag_numbered, symbology_numbered}
@@ -32,7 +31,7 @@ read_asked symbology scale width height dots =
 -- what the numbers and the modules of a call are read as, bytes 0 and 1
 unfoldable pub modules_asked : (symbology width rows : ℕ) → List ℕ → Result (Option (List ℕ)) ℕ
 modules_asked symbology width rows modules =
-    reading_of (symbology_numbered symbology) (λ symbology r. read_short (read_modules symbology) r.rows)
+    reading_of (symbology_numbered symbology) (λ symbology r. read_label symbology r.rows)
     (bytes_read 0 1 width rows modules)
 
 -- the region that the numbers of a call mean

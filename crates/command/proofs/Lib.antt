@@ -1,6 +1,6 @@
-pub mod Examples
-pub mod NamedLaws
-pub mod OneKindLaws
-pub mod ParsedLaws
-pub mod ProgramLaws
-pub mod RuleLaws
+mod Examples
+mod NamedLaws
+mod OneKindLaws
+mod ParsedLaws
+mod ProgramLaws
+mod RuleLaws

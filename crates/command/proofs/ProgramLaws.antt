@@ -15,7 +15,7 @@ use Rattle.filter.specs.Shown.{Shows}
 use Rattle.filter.specs.declared.status.RunFault.{RunFault}
 use Rattle.filter.specs.declared.status.RunFault.TheVariants.{WriteOut}
 use Rattle.filter.specs.declared.status.Status.{Status}
-use Rattle.filter.proofs.ShownLaws.{Shows-from}
+use Rattle.filter.proofs.Laws.ShownLaws.{Shows-from}
 use Rattle.command.specs.CommandLine.{Invocation, bad, help, run}
 use Rattle.command.specs.Program.{Devices, Given, EndsShown, EndsSo, Helps, RunsOver, RunsShown, RunsSo, World, Wrote}
 use Rattle.command.specs.declared.end.End.{End}

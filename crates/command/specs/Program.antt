@@ -29,7 +29,7 @@ use Rattle.command.specs.End.{exit_status, line_of}
 use Rattle.command.specs.declared.end.End.{End}
 use Rattle.command.specs.declared.end.End.TheVariants.{Ran, Helped, BadWords, NoFile as NotOpened, NoMemory}
 use Rattle.command.specs.declared.file.NamedFiles.{Ghosts as FilesGhosts}
-use Rattle.command.specs.declared.file.OpenFault.TheVariants.{NoFile}
+use Rattle.command.specs.declared.file.OpenFault.TheVariants.{Memory, NoFile}
 
 -- a sink took a text and is flushed, or it failed and took a beginning of the text
 pub record Helps {O : Type 0} (out : SinkGhosts O) (o o' : O) (r : Result (Unit {0}) IoFault) : Type 0 where
@@ -90,10 +90,12 @@ module _ {F R T W E : Type 0} {below : SinkGhosts (StdSink W)} (world : World F 
 
   -- The program ends so, and did just what its arguments ask for. `ran` says it of a run. Any call of a device may change
   -- it, so one that is as it was before was not called: the input is read only in a run over it, only a file that is named
-  -- is opened, once, and help goes to the output alone. A file is refused only as files may be.
+  -- is opened, once, and help goes to the output alone. A file is refused only as files may be: with `NoMemory` for a lack
+  -- of memory, or before it is opened, where memory ran out for the arguments.
   abbrev pub Ends : (Option Text → Options → Result Status RunFault → Type 0) → End → Invocation → Type 0
   Ends ran NoMemory (run options (Some name)) =
-      (a ≡ b) ⊎ (world.files.opens b.files name a.files × (a ≡ record b { files = a.files }))
+      (a ≡ b) ⊎ (world.files.opens b.files name a.files × (a ≡ record b { files = a.files })
+      × world.files.refuses b.files name Memory)
   Ends ran NoMemory asked = a ≡ b
   Ends ran (Ran r) (run options (Some name)) =
       world.files.opens b.files name a.files × (a.input ≡ b.input) × ran (Some name) options r

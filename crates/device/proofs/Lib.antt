@@ -1,2 +1,2 @@
-pub mod PassingLaws
-pub mod WritingLaws
+pub mod Laws
+mod PassingLaws

@@ -26,7 +26,7 @@ use Rattle.qrmatrix.specs.Masks.{is_flipped}
 use Rattle.qrmatrix.specs.Reading.{AgreeBut, is_among, read_bits, read_format, read_matrix, shows_functions}
 use Rattle.qrmatrix.specs.Reading.{shows_version, walk}
 use Rattle.qrmatrix.specs.Square.{value_at}
-use Rattle.qrmatrix.proofs.PlaceLaws.{agree_but, apart_by_key, differs, few_differ, row_same, rows_same}
+use Rattle.qrmatrix.proofs.Laws.PlaceLaws.{agree_but, apart_by_key, differs, few_differ, row_same, rows_same}
 use Rattle.filter.specs.Damage.{AreClose, AreNear, pixel_limit, turned_limit}
 use Rattle.filter.specs.OneReading.{HoldsNoBars, IsAlone}
 use Rattle.filter.specs.Reading.{read_modules}
@@ -344,12 +344,12 @@ not_alone_8 alone = (alone.1 (modules (codes "1000001")) refl).1 (true ∷ []) (
 -- Code 128 of one character, of 66.
 line_8 : HoldsNoBars (replicate 7 false ++ (modules first_8 ++ replicate 7 false)) → ⊥
 unfolding first_8 number_set_a
-line_8 holds = none-some (codes "02000008") (sym (holds Ean8 [] (modules first_8) [] refl))
+line_8 holds = omega (arith, (holds Ean8 [] (modules first_8) [] refl).1)
 
 line_128 : (length (replicate 10 false ++ (code128_row (codes "A") ++ replicate 10 false)) ≡ 66)
     × (HoldsNoBars (replicate 10 false ++ (code128_row (codes "A") ++ replicate 10 false)) → ⊥)
 unfolding character_widths
-line_128 = (refl, λ holds. none-some (codes "A") (sym (holds Code128 [] (code128_row (codes "A")) [] refl)))
+line_128 = (refl, λ holds. omega (arith, (holds Code128 [] (code128_row (codes "A")) [] refl).1))
 
 -- a line of a square of 57 modules has 65
 line_57 : IsAlone Qr (replicate 57 []) → HoldsNoBars (replicate 65 false)

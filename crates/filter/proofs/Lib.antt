@@ -1,14 +1,4 @@
-pub mod AloneLaws
-pub mod DamageExamples
-pub mod DamageLaws
-pub mod Examples
-pub mod FilterLaws
-pub mod FoundLaws
-pub mod PixelLaws
-pub mod ReadLaws
-pub mod ResumeLaws
-pub mod RunLaws
-pub mod ScriptLaws
-pub mod ShownLaws
+mod DamageExamples
+mod Examples
+pub mod Laws
 pub mod Theorems
-pub mod Words

@@ -7,7 +7,7 @@ ghost use Rattle.filter.specs.Filter.{CountsFault, FilterState, FlushesImagesFir
 ghost use Rattle.filter.specs.Filter.{Feeds, PassesOnFirst, Sends, Stops, Took, taken};
 ghost use Rattle.filter.specs.Output.{ended_script, flushes, script, status_of};
 
-use crate::line_end::finish_line;
+use crate::line_end::{Room, finish_line};
 use crate::status::{RunFault, Status};
 use device::Sink;
 use labelcore::{LineBuf, Options, split_line};
@@ -63,7 +63,12 @@ impl Filter {
     }
 
     /// Takes the LF that ends the open line.
-    fn end_line<O: Sink, E: Sink>(&mut self, out: &mut O, err: &mut E) -> Result<(), RunFault>
+    fn end_line<O: Sink, E: Sink>(
+        &mut self,
+        room: &mut Room,
+        out: &mut O,
+        err: &mut E,
+    ) -> Result<(), RunFault>
         ensures feeds { (options : Options) (text : List ℕ) → IsAfter options self.old text
             → Feeds options (taken (O.took out.old out.new) (E.took err.old err.new)) self.new
             text (text ++ LF ∷ []) result }
@@ -71,7 +76,7 @@ impl Filter {
         ensures sinks { FlushesNeither O.Sink E.Sink out.old out.new err.old err.new result }
     {
         self.line_count = self.line_count.saturating_add(1);
-        match finish_line(&self.options, &self.line, self.line_count, out, err) {
+        match finish_line(&self.options, &self.line, self.line_count, room, out, err) {
             Ok(status) => {
                 self.status = self.status.worst(status);
                 self.line.clear();
@@ -111,10 +116,11 @@ impl Filter {
         if self.is_spent {
             return Err(RunFault::Spent);
         }
+        let mut room = Room::new();
         let mut rest = piece;
         while let Some((line, later)) = split_line(rest) {
             self.hold(line);
-            self.end_line(out, err)?;
+            self.end_line(&mut room, out, err)?;
             rest = later;
         }
         self.hold(rest);
@@ -160,7 +166,7 @@ impl Filter {
         if self.line.is_empty() {
             return Ok(());
         }
-        self.end_line(out, err)
+        self.end_line(&mut Room::new(), out, err)
     }
 }
 

@@ -40,10 +40,29 @@ pub fn draw<O: Sink>(
     ensures read { IfOk (symbol_of label.now symbology bytes.now) (λ symbol.
         IsRead run.now.format run.now.scale (image_of run.now (drawn symbol)) symbol) }
 {
+    let mut row = Row::new();
+    draw_in(run, label, symbology, bytes, &mut row, out)
+}
+
+/// Draws one symbol, as [`draw`] does, with `row` as room for the modules of a linear one.
+pub fn draw_in<O: Sink>(
+    run: &RunOptions,
+    label: &LabelOptions,
+    symbology: Symbology,
+    bytes: &[u8],
+    row: &mut Row,
+    out: &mut O,
+) -> Result<Result<(), Fault>, IoFault>
+    requires { bytes.now ≢ [] }
+    ensures drawn { DrawsOutcome O.Sink out.old out.new run.now
+        (outcome_of (symbol_of label.now symbology bytes.now)) result }
+    ensures read { IfOk (symbol_of label.now symbology bytes.now) (λ symbol.
+        IsRead run.now.format run.now.scale (image_of run.now (drawn symbol)) symbol) }
+{
     Options::prove_ranges(run, label);
     match symbology {
         Symbology::Qr => draw_square(run, label, bytes, out),
-        _ => draw_row(run, label, symbology, bytes, out),
+        _ => draw_row(run, label, symbology, bytes, row, out),
     }
 }
 
@@ -53,6 +72,7 @@ fn draw_row<O: Sink>(
     label: &LabelOptions,
     symbology: Symbology,
     bytes: &[u8],
+    row: &mut Row,
     out: &mut O,
 ) -> Result<Result<(), Fault>, IoFault>
     requires some { bytes.now ≢ [] }
@@ -61,8 +81,7 @@ fn draw_row<O: Sink>(
         (outcome_of (symbol_of label.now symbology bytes.now)) result }
 {
     Options::prove_ranges(run, label);
-    let mut row = Row::new();
-    match row_of(symbology, bytes, &mut row) {
+    match row_of(symbology, bytes, row) {
         Ok(()) => {
             let bars = Bars::new(row.as_slice(), usize::from(label.height()));
             write_picture(run, bars, zone_of(symbology), out)?;

@@ -7,8 +7,8 @@ use Rattle.gf256.specs.Field.{field_product, field_power}
 use Rattle.gf256.specs.Polynomial.{polynomial_sum, polynomial_product, scalar_multiple}
 use Rattle.gf256.specs.ErrorCorrection.{generator}
 use Rattle.gf256.specs.declared.tables.TheConstants.{GENERATORS}
-use Rattle.gf256.proofs.AllBelowLaws.{all_below, all_below-at}
-use Rattle.gf256.proofs.LogarithmLaws.{exp, field_power-table}
+use Rattle.gf256.proofs.Laws.AllBelowLaws.{all_below, all_below-at}
+use Rattle.gf256.proofs.Laws.LogarithmLaws.{exp, field_power-table}
 
 -- the logarithms of the generator of k error correction codewords in the table
 unfoldable pub logarithms_at : ℕ → List ℕ

@@ -14,14 +14,14 @@ use Rattle.gf256.specs.Field.{field_product, IsElement}
 use Rattle.gf256.specs.ErrorCorrection.{IsEcCodewordCount, generator}
 use Rattle.gf256.specs.Polynomial.{polynomial_sum, scalar_multiple}
 use Rattle.gf256.specs.Private.{next_register, padded_generator, register_after, zeros}
-use Rattle.gf256.proofs.AllBelowLaws.{all_below, all_below-at}
-use Rattle.gf256.proofs.DistributivityLaws.{field_product-xor_left, field_product-zero_left, field_product-zero_right}
-use Rattle.gf256.proofs.FieldLaws.{field_product-assoc, field_product-two_small}
-use Rattle.gf256.proofs.EvaluationLaws.{field_product-one_left}
-use Rattle.gf256.proofs.PolynomialSumLaws.{length-append_zeros, length-polynomial_sum, length-zeros}
-use Rattle.gf256.proofs.PolynomialSumLaws.{polynomial_sum-assoc, length-scalar_multiple, polynomial_sum-comm}
-use Rattle.gf256.proofs.DivisionLaws.{length-next_register, next_register-append_zeros}
-use Rattle.gf256.proofs.GeneratorLaws.{length-low_of, low_of}
+use Rattle.gf256.proofs.Laws.AllBelowLaws.{all_below, all_below-at}
+use Rattle.gf256.proofs.Laws.DistributivityLaws.{field_product-xor_left, field_product-zero_left, field_product-zero_right}
+use Rattle.gf256.proofs.Laws.FieldLaws.{field_product-assoc, field_product-two_small}
+use Rattle.gf256.proofs.Laws.EvaluationLaws.{field_product-one_left}
+use Rattle.gf256.proofs.Laws.PolynomialSumLaws.{length-append_zeros, length-polynomial_sum, length-zeros}
+use Rattle.gf256.proofs.Laws.PolynomialSumLaws.{polynomial_sum-assoc, length-scalar_multiple, polynomial_sum-comm}
+use Rattle.gf256.proofs.Laws.DivisionLaws.{length-next_register, next_register-append_zeros}
+use Rattle.gf256.proofs.Laws.GeneratorLaws.{length-low_of, low_of}
 
 pub scalar_multiple-zero : (p : List ℕ) → scalar_multiple 0 p ≡ zeros (length p)
 unfolding scalar_multiple

@@ -15,7 +15,7 @@ pub fn mul(a: u8, b: u8) -> u8
 }
 
 /// Returns the power alpha^i, for any `i`. The element alpha is 2, the polynomial x.
-#[tactic(auto, using(crate::proofs::LogarithmLaws::of_powers), unfolding(crate::proofs::LogarithmLaws::exp))]
+#[tactic(auto, using(crate::proofs::Laws::LogarithmLaws::of_powers), unfolding(crate::proofs::Laws::LogarithmLaws::exp))]
 pub fn pow_alpha(i: usize) -> u8
     ensures { result ≡ field_power alpha i }
 {
@@ -23,7 +23,7 @@ pub fn pow_alpha(i: usize) -> u8
 }
 
 /// Returns alpha^logarithm.
-#[tactic(auto, using(crate::proofs::LogarithmLaws::of_powers), unfolding(crate::proofs::LogarithmLaws::exp))]
+#[tactic(auto, using(crate::proofs::Laws::LogarithmLaws::of_powers), unfolding(crate::proofs::Laws::LogarithmLaws::exp))]
 pub(crate) fn power_of(logarithm: u8) -> u8
     ensures { result ≡ field_power alpha logarithm }
 {
@@ -31,7 +31,7 @@ pub(crate) fn power_of(logarithm: u8) -> u8
 }
 
 /// Returns alpha times an element: the product by the polynomial x.
-#[tactic(auto, using(crate::proofs::FieldLaws::of_two))]
+#[tactic(auto, using(crate::proofs::Laws::FieldLaws::of_two))]
 pub(crate) fn twice(element: u8) -> u8
     ensures { result ≡ field_product alpha element }
 {

@@ -51,8 +51,10 @@ impl Generator {
         requires { IsEcCodewordCount k }
         ensures { result ≡ k }
     {
-        let low = multiples_of(&coefficients_of(k));
-        let high = multiples_of(&doubled(&low[8]));
+        let mut low = [[0; PLACES]; 16];
+        write_multiples(&coefficients_of(k), &mut low);
+        let mut high = [[0; PLACES]; 16];
+        write_multiples(&doubled(&low[8]), &mut high);
         Generator {
             count: k,
             low,
@@ -94,18 +96,17 @@ fn moved_up(register: u8x32) -> u8x32
     register.shuffle(u8x32::splat(0), NEXT_PLACES)
 }
 
-/// Returns the multiples of a polynomial by the elements 0 to 15.
-fn multiples_of(polynomial: &Multiple) -> [Multiple; 16]
-    ensures { AreMultiples polynomial.now result }
+/// Writes the multiples of a polynomial by the elements 0 to 15.
+fn write_multiples(polynomial: &Multiple, multiples: &mut [Multiple; 16])
+    ensures { AreMultiples polynomial.now multiples.new }
 {
-    let mut multiples = [[0; PLACES]; 16];
+    multiples[0] = [0; PLACES];
     multiples[1] = *polynomial;
     for i in 1..8 {
         let even = doubled(&multiples[i]);
         multiples[2 * i + 1] = sum_of(&even, polynomial);
         multiples[2 * i] = even;
     }
-    multiples
 }
 
 /// Returns a polynomial times alpha.

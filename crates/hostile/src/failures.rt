@@ -2,7 +2,7 @@
 ghost use Rattle.std.specs.Prelude.{◌≤◌};
 
 use crate::texts::{TOO_LONG, long_lines};
-use acceptance::support::{EAN8, options_by};
+use acceptance::support::{EAN8, Tally, options_by};
 use filter::{RunFault, Status, run};
 use labelcore::{FailAt, MemSink, MemSource, Options};
 use std::test::Fail;
@@ -38,12 +38,16 @@ fn every_limit_of_the_images(rt: HostRuntime) -> Result<(), Fail> {
     let options = options_by(rt.alloc(), &["--height", "1"])?;
     let input = b"ean8 7351353\nean8 7351353\n";
     let fault = Err(RunFault::WriteOut);
+    let mut limits = Tally::new();
     for limit in 0..182 {
         let held = (&TWO_EAN8[..limit], b"".as_slice());
-        assert!(rt; ends_at_limits(&options, input, (limit, 0), fault, held));
+        limits.add(ends_at_limits(&options, input, (limit, 0), fault, held));
     }
     let held = (TWO_EAN8.as_slice(), b"".as_slice());
-    assert!(rt; ends_at_limits(&options, input, (182, 0), Ok(Status::Clean), held));
+    limits.add(ends_at_limits(&options, input, (182, 0), Ok(Status::Clean), held));
+    assert!(rt; limits.are_right);
+    let compared = limits.compared;
+    println!(rt; "compared {compared} limits")?;
     Ok(())
 }
 
@@ -52,12 +56,16 @@ fn every_limit_of_the_messages(rt: HostRuntime) -> Result<(), Fail> {
     let options = options_by(rt.alloc(), &["--height", "1"])?;
     let input = b"pdf x\npdf x\n";
     let fault = Err(RunFault::WriteMessages);
+    let mut limits = Tally::new();
     for limit in 0..52 {
         let held = (b"".as_slice(), &TWO_MESSAGES[..limit]);
-        assert!(rt; ends_at_limits(&options, input, (0, limit), fault, held));
+        limits.add(ends_at_limits(&options, input, (0, limit), fault, held));
     }
     let held = (b"".as_slice(), TWO_MESSAGES.as_slice());
-    assert!(rt; ends_at_limits(&options, input, (0, 52), Ok(Status::Refused), held));
+    limits.add(ends_at_limits(&options, input, (0, 52), Ok(Status::Refused), held));
+    assert!(rt; limits.are_right);
+    let compared = limits.compared;
+    println!(rt; "compared {compared} limits")?;
     Ok(())
 }
 
@@ -94,6 +102,7 @@ const READS_BEFORE_THE_MESSAGE: u64 = 1102;
 fn each_read_fails(rt: HostRuntime) -> Result<(), Fail> {
     let options = options_by(rt.alloc(), &["--height", "1"])?;
     let lines = long_lines(rt.alloc(), 1101, 2000)?;
+    let mut calls = Tally::new();
     for call in 1..=READS {
         let written = if call <= READS_BEFORE_THE_MESSAGE {
             0u8
@@ -106,8 +115,11 @@ fn each_read_fails(rt: HostRuntime) -> Result<(), Fail> {
             calls: (call, 0, u64::from(written)),
             held: (0, usize::from(written)),
         };
-        assert!(rt; fails_so(&options, lines.as_slice(), failure));
+        calls.add(fails_so(&options, lines.as_slice(), failure));
     }
+    assert!(rt; calls.are_right);
+    let compared = calls.compared;
+    println!(rt; "compared {compared} calls")?;
     Ok(())
 }
 
@@ -116,6 +128,7 @@ fn each_read_fails(rt: HostRuntime) -> Result<(), Fail> {
 fn each_call_of_the_images_fails(rt: HostRuntime) -> Result<(), Fail> {
     let options = options_by(rt.alloc(), &["--height", "1"])?;
     let lines = long_lines(rt.alloc(), 1101, 2000)?;
+    let mut calls = Tally::new();
     for written in 0..=91u8 {
         let call = u64::from(written) + 1;
         let failure = Failure {
@@ -124,8 +137,11 @@ fn each_call_of_the_images_fails(rt: HostRuntime) -> Result<(), Fail> {
             calls: (READS, call, 39),
             held: (usize::from(written), 39),
         };
-        assert!(rt; fails_so(&options, lines.as_slice(), failure));
+        calls.add(fails_so(&options, lines.as_slice(), failure));
     }
+    assert!(rt; calls.are_right);
+    let compared = calls.compared;
+    println!(rt; "compared {compared} calls")?;
     Ok(())
 }
 
@@ -134,6 +150,7 @@ fn each_call_of_the_images_fails(rt: HostRuntime) -> Result<(), Fail> {
 fn each_call_of_the_messages_fails(rt: HostRuntime) -> Result<(), Fail> {
     let options = options_by(rt.alloc(), &["--height", "1"])?;
     let lines = long_lines(rt.alloc(), 1101, 2000)?;
+    let mut calls = Tally::new();
     for written in 0..39u8 {
         let call = u64::from(written) + 1;
         let failure = Failure {
@@ -142,7 +159,7 @@ fn each_call_of_the_messages_fails(rt: HostRuntime) -> Result<(), Fail> {
             calls: (READS_BEFORE_THE_MESSAGE, 0, call),
             held: (0, usize::from(written)),
         };
-        assert!(rt; fails_so(&options, lines.as_slice(), failure));
+        calls.add(fails_so(&options, lines.as_slice(), failure));
     }
     let flush = Failure {
         fails: (0, 0, 40),
@@ -150,6 +167,9 @@ fn each_call_of_the_messages_fails(rt: HostRuntime) -> Result<(), Fail> {
         calls: (READS, 92, 40),
         held: (91, 39),
     };
-    assert!(rt; fails_so(&options, lines.as_slice(), flush));
+    calls.add(fails_so(&options, lines.as_slice(), flush));
+    assert!(rt; calls.are_right);
+    let compared = calls.compared;
+    println!(rt; "compared {compared} calls")?;
     Ok(())
 }

@@ -1,6 +1,6 @@
 //! Lines of ten million letters, lines of every byte, and input that breaks off after each byte.
 use crate::texts::{REFUSALS, REFUSED, TOO_LONG, long_lines};
-use acceptance::support::{EAN8, options_by, ran_by, text_of};
+use acceptance::support::{EAN8, Tally, options_by, ran_by, text_of};
 use labelcore::Options;
 use std::alloc::{AllocError, Global};
 use std::test::Fail;
@@ -9,8 +9,10 @@ use std::test::Fail;
 fn lines_of_ten_million_letters(rt: HostRuntime) -> Result<(), Fail> {
     let options = options_by(rt.alloc(), &["--height", "1"])?;
     let lines = long_lines(rt.alloc(), 10_000_000, 10_000_000)?;
-    assert!(rt; lines.len() == 20_000_015);
+    let bytes = lines.len();
+    assert!(rt; bytes == 20_000_015);
     assert!(rt; ran_by(&options, lines.as_slice(), 4096).gives(EAN8, TOO_LONG));
+    println!(rt; "compared the run over {bytes} bytes")?;
     Ok(())
 }
 
@@ -42,10 +44,13 @@ fn every_byte(rt: HostRuntime) -> Result<(), Fail> {
     let ran = ran_by(&options, lines.as_slice(), 4096);
     let images = ran.images.bytes();
     assert!(rt; images.len() == 9525);
+    let mut drawn = Tally::new();
     for image in images.chunks(75) {
-        assert!(rt; image.starts_with(b"P1\n66 1\n"));
+        drawn.add(image.starts_with(b"P1\n66 1\n"));
     }
-    assert!(rt; ran.gives(images, messages.as_slice()));
+    assert!(rt; drawn.are_right & ran.gives(images, messages.as_slice()));
+    let (compared, refused) = (drawn.compared, line_ends(messages.as_slice()));
+    println!(rt; "compared {compared} images, {refused} messages")?;
     Ok(())
 }
 
@@ -93,9 +98,14 @@ fn input_that_breaks_off(rt: HostRuntime) -> Result<(), Fail> {
     // One module high, so that the open line, which may be a label of 80 letters, has room.
     let options = options_by(rt.alloc(), &["--escapes", "--height", "1"])?;
     assert!(rt; first_lines(REFUSALS, 8) == REFUSALS);
+    let mut ends = Tally::new();
     for end in 0..REFUSED.len() {
-        assert!(rt; breaks_off(&options, &REFUSED[..end]), "after byte {end}");
+        ends.add(breaks_off(&options, &REFUSED[..end]));
+        assert!(rt; ends.are_right, "after byte {end}");
     }
-    assert!(rt; breaks_off(&options, REFUSED));
+    ends.add(breaks_off(&options, REFUSED));
+    assert!(rt; ends.are_right);
+    let compared = ends.compared;
+    println!(rt; "compared {compared} ends")?;
     Ok(())
 }

@@ -1,6 +1,6 @@
 //! Readers and writers of std that are odd, and files.
 use crate::texts::{REFUSALS, REFUSED};
-use acceptance::support::{EAN8, options_by, text_of, words_of};
+use acceptance::support::{EAN8, Tally, options_by, text_of, words_of};
 use command::{End, OpenFault, WordsFault, open_file, options_of};
 use filter::{RunFault, Status, run};
 use labelcore::{MemSink, Options, StdSink, StdSource};
@@ -115,8 +115,9 @@ const EVEN: (ThirdCall, ThirdCall) = (ThirdCall::TakesOne, ThirdCall::TakesOne);
 fn readers_and_writers_of_one_byte_a_call(rt: HostRuntime) -> Result<(), Fail> {
     let alloc = rt.alloc();
     let low = options_by(alloc, &["--height", "1"])?;
+    let mut runs = Tally::new();
     let want = (Ok(Status::Clean), EAN8, b"".as_slice());
-    assert!(rt; ends_by_bytes(alloc, &low, reader_of(b"ean8 7351353\n"), EVEN, want));
+    runs.add(ends_by_bytes(alloc, &low, reader_of(b"ean8 7351353\n"), EVEN, want));
     let parts = [
         (b"P1\n113 50\n".as_slice(), 1),
         (
@@ -128,10 +129,13 @@ fn readers_and_writers_of_one_byte_a_call(rt: HostRuntime) -> Result<(), Fail> {
     let tall = text_of(alloc, &parts)?;
     let want = (Ok(Status::Clean), tall.as_slice(), b"".as_slice());
     let reader = reader_of(b"ean13 4006381333931\n");
-    assert!(rt; ends_by_bytes(alloc, &Options::default(), reader, EVEN, want));
+    runs.add(ends_by_bytes(alloc, &Options::default(), reader, EVEN, want));
     let escapes = options_by(alloc, &["--escapes"])?;
     let want = (Ok(Status::Refused), b"".as_slice(), REFUSALS);
-    assert!(rt; ends_by_bytes(alloc, &escapes, reader_of(REFUSED), EVEN, want));
+    runs.add(ends_by_bytes(alloc, &escapes, reader_of(REFUSED), EVEN, want));
+    assert!(rt; runs.are_right);
+    let compared = runs.compared;
+    println!(rt; "compared {compared} runs")?;
     Ok(())
 }
 
@@ -148,13 +152,14 @@ fn an_interrupted_read_is_a_failure(rt: HostRuntime) {
 
 /// A writer that is interrupted, or takes nothing, has failed.
 #[test]
-fn odd_writes_are_failures(rt: HostRuntime) {
+fn odd_writes_are_failures(rt: HostRuntime) -> Result<(), Fail> {
     let options = Options::default();
+    let mut runs = Tally::new();
     for third in [ThirdCall::IsInterrupted, ThirdCall::TakesNothing] {
         let image = (third, ThirdCall::TakesOne);
         let want = (Err(RunFault::WriteOut), b"P1".as_slice(), b"".as_slice());
         let reader = reader_of(b"ean8 7351353\n");
-        assert!(rt; ends_by_bytes(rt.alloc(), &options, reader, image, want));
+        runs.add(ends_by_bytes(rt.alloc(), &options, reader, image, want));
         let message = (ThirdCall::TakesOne, third);
         let want = (
             Err(RunFault::WriteMessages),
@@ -162,8 +167,12 @@ fn odd_writes_are_failures(rt: HostRuntime) {
             b"li".as_slice(),
         );
         let reader = reader_of(b"pdf x\n");
-        assert!(rt; ends_by_bytes(rt.alloc(), &options, reader, message, want));
+        runs.add(ends_by_bytes(rt.alloc(), &options, reader, message, want));
     }
+    assert!(rt; runs.are_right);
+    let compared = runs.compared;
+    println!(rt; "compared {compared} runs")?;
+    Ok(())
 }
 
 /// The run over a file that words name, or `None` if memory runs out before it.
@@ -189,26 +198,34 @@ fn run_of_file<R: Abort + Files>(
 }
 
 /// Writes a file of one label and runs over it. Returns whether memory sufficed; if not, there is no image.
-fn draws_file<R: Abort + Files>(rt: &R, alloc: Global, name: &str) -> Result<bool, Fail> {
-    fs::write(rt, name, "ean8 7351353\n")?;
-    let words = words_of(alloc, &["--height", "1", name])?;
+fn draws_file<R: Abort + Files>(rt: &R, alloc: Global, name: &str) -> bool {
+    let Ok(()) = fs::write(rt, name, "ean8 7351353\n") else {
+        return false;
+    };
+    let Ok(words) = words_of(alloc, &["--height", "1", name]) else {
+        return false;
+    };
     let mut out: MemSink<91> = MemSink::new(91, 91);
     let result = run_of_file(rt, alloc, words.as_slice(), &mut out);
     let images = if result.is_some() { EAN8 } else { b"" };
     assert!(rt; (out.bytes() == images) & matches!(result, None | Some(Ok(Status::Clean))));
-    Ok(result.is_some())
+    result.is_some()
 }
 
 #[test]
-fn a_file(rt: HostRuntime) -> Result<(), Fail> {
-    assert!(rt; draws_file(&rt, rt.alloc(), "one-label.txt")?);
-    Ok(())
+fn a_file(rt: HostRuntime) {
+    assert!(rt; draws_file(&rt, rt.alloc(), "one-label.txt"));
 }
 
-/// With `rt try --test --fail-alloc N` one growth is refused: then there is the label, or no memory before the run.
+/// `scripts/refuse_each_growth.py` refuses one growth a run: then there is the label, or no memory before the run. The
+/// growths of the test itself are refused too.
 #[test]
 fn a_file_or_no_memory(rt: HostRuntime) -> Result<(), Fail> {
-    let _ = draws_file(&rt, rt.alloc(), "label-or-no-memory.txt")?;
+    if draws_file(&rt, rt.alloc(), "label-or-no-memory.txt") {
+        println!(rt; "compared the image of a file")?;
+    } else {
+        println!(rt; "no memory before the run")?;
+    }
     Ok(())
 }
 

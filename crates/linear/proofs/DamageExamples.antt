@@ -12,7 +12,7 @@ use Rattle.linear.specs.EanReading.{read_ean8, read_ean13, read_upca}
 use Rattle.linear.specs.Code128.{code128_row}
 use Rattle.linear.specs.Code128Reading.{read_code128}
 use Rattle.linear.specs.Scanning.{HasNoGap, HasNoPart, readings}
-use Rattle.linear.proofs.GapLaws.{HasNoGap-clear, clear}
+use Rattle.linear.proofs.Laws.GapLaws.{HasNoGap-clear, clear}
 
 -- two of four modules; what one row alone has is not counted
 turned : (turned_modules (modules (codes "1100")) (modules (codes "1010")) ≡ 2)

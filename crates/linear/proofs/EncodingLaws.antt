@@ -5,9 +5,9 @@ use Rattle.labelcore.specs.declared.fault.Fault.{Fault}
 use Rattle.linear.specs.Drawing.{IsDrawn}
 use Rattle.linear.specs.Private.Lists.{Appends}
 use Rattle.linear.specs.Scanning.{HasNoGap}
-use Rattle.linear.proofs.DamageLaws.{AreFarApart, IsGuarded-apart}
-use Rattle.linear.proofs.EanLaws.{ReadsBack}
-use Rattle.linear.proofs.OneReadingLaws.{has_one_reading}
+use Rattle.linear.proofs.Laws.DamageLaws.{AreFarApart, IsGuarded-apart}
+use Rattle.linear.proofs.Laws.EanLaws.{ReadsBack}
+use Rattle.linear.proofs.Laws.OneReadingLaws.{has_one_reading}
 
 -- a row that was empty, and to which that of the full data is appended
 -- each `encode`, of four symbologies, has its own answer, row and reading, and a fact by each of its calls

@@ -196,10 +196,10 @@ row_of : List ℕ → List Bool
 row_of values = flat_map character_modules values
 
 -- `1` in set B: start 104, value 17, check 18 and stop 106 (ISO/IEC 15417, symbol structure); another check value, no
--- start character, another stop character, and no character for data: 104 is 1 modulo 103
+-- start character, another stop character, and no character for data, which is read as none: 104 is 1 modulo 103
 wrong_characters : map (λ values. read_code128 (row_of values)) ((104 ∷ 17 ∷ 18 ∷ 106 ∷ [])
     ∷ (104 ∷ 17 ∷ 19 ∷ 106 ∷ []) ∷ (17 ∷ 17 ∷ 34 ∷ 106 ∷ []) ∷ (104 ∷ 17 ∷ 18 ∷ 18 ∷ []) ∷ (104 ∷ 1 ∷ 106 ∷ []) ∷ [])
-    ≡ Some (codes "1") ∷ None ∷ None ∷ None ∷ None ∷ []
+    ≡ Some (codes "1") ∷ None ∷ None ∷ None ∷ Some [] ∷ []
 unfolding row_of character_widths
 wrong_characters = refl
 

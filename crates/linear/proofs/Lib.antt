@@ -1,26 +1,5 @@
-pub mod CharacterLaws
-pub mod CharacterRowLaws
-pub mod Code128Laws
-pub mod CodeSetLaws
-pub mod CheckDigitLaws
-pub mod CheckValueLaws
-pub mod DigitLaws
-pub mod DamageLaws
-pub mod EanLaws
-pub mod Examples
-pub mod DamageExamples
-pub mod GroupLaws
-pub mod ReadRowLaws
-pub mod PatternLaws
-pub mod RowLengthLaws
-pub mod PatternTableLaws
-pub mod SwitchingLaws
-pub mod TableLaws
-pub mod ValueRangeLaws
-pub mod ValueReadingLaws
+mod DamageExamples
+mod EncodingLaws
+mod Examples
+pub mod Laws
 pub mod Theorems
-pub mod GapLaws
-pub mod OneReadingLaws
-pub mod PartLaws
-pub mod ReadLengthLaws
-pub mod EncodingLaws

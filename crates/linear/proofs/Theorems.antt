@@ -1,12 +1,12 @@
 -- What the standards promise of their tables, and the switching rule of Code 128, step by step (ISO/IEC 15420 and
 -- 15417, symbol characters and code sets). No function rests on it.
 use Rattle.linear.specs.CodingLaws.{CodingLaws}
-use Rattle.linear.proofs.CharacterLaws.{character_modules-differs, length-character_modules, length-stop}
-use Rattle.linear.proofs.CheckValueLaws.{wrong_values_are_seen, neighbours_are_seen}
-use Rattle.linear.proofs.CheckDigitLaws.{wrong_digits_are_seen, exchanges_are_seen}
-use Rattle.linear.proofs.CharacterLaws.{count_by-character_modules}
-use Rattle.linear.proofs.PatternTableLaws.{pattern-differs}
-use Rattle.linear.proofs.SwitchingLaws.{values_are_written_by_steps}
+use Rattle.linear.proofs.Laws.CharacterLaws.{character_modules-differs, length-character_modules, length-stop}
+use Rattle.linear.proofs.Laws.CheckValueLaws.{wrong_values_are_seen, neighbours_are_seen}
+use Rattle.linear.proofs.Laws.CheckDigitLaws.{wrong_digits_are_seen, exchanges_are_seen}
+use Rattle.linear.proofs.Laws.CharacterLaws.{count_by-character_modules}
+use Rattle.linear.proofs.Laws.PatternTableLaws.{pattern-differs}
+use Rattle.linear.proofs.Laws.SwitchingLaws.{values_are_written_by_steps}
 
 pub coding_laws : CodingLaws
 coding_laws = record {

@@ -1,7 +1,6 @@
 -- Reading of Code 128 symbols (ISO/IEC 15417, symbol characters, code sets and check character).
--- Why: `meaning`, `read_values`, `read_code128`: 15417; a symbol with a value that means nothing, or without a character
--- for data, is not read.
-use Rattle.std.specs.Prelude.{ℕ, ◌+◌, ◌-◌, ◌*◌, ◌/◌, ◌%◌, ◌==◌, nat_le, nat_lt, if◌then◌else◌, Bool, true, false, ◌&&◌, Option}
+-- Why: `meaning`, `read_values`, `read_code128`: 15417; a symbol with a value that means nothing is not read.
+use Rattle.std.specs.Prelude.{ℕ, ◌+◌, ◌-◌, ◌*◌, ◌/◌, ◌%◌, ◌==◌, nat_lt, if◌then◌else◌, Bool, true, false, ◌&&◌, Option}
 use Rattle.std.specs.Prelude.{Some, None, List, [], ◌∷◌, ◌++◌, length, drop, position, find, option_map}
 use Rattle.std.specs.Prelude.{option_and_then, slice_range}
 use Rattle.std.specs.Option.{option_map_or}
@@ -62,11 +61,10 @@ symbol_data values =
     (find (λ set. bytes_eq (with_check set inner) values) (A ∷ B ∷ C ∷ []))
 
 -- the data of a row of modules: groups of eleven, each the character of a value, before the thirteen of the stop
--- character; three groups or more, since one character at least stands between the start and the check character
+-- character; where only the start and the check character stand before it, the data is empty
 abbrev pub read_code128 : List Bool → Option (List ℕ)
 read_code128 row =
     let count = (length row - 13) / 11 in
-    if (nat_le 3 count && length row == 11 * count + 13)
-    && same_modules (drop (11 * count) row) (character_modules 106)
+    if length row == 11 * count + 13 && same_modules (drop (11 * count) row) (character_modules 106)
     then option_and_then symbol_data (each_group (λ group. position (same_modules group) characters) 11 count row)
     else None

@@ -58,7 +58,7 @@ fn push_characters(row: &mut Row, values: &[u8])
 }
 
 /// Appends the stop character.
-#[tactic(auto, using(crate::proofs::TableLaws::stop_character))]
+#[tactic(auto, using(crate::proofs::Laws::TableLaws::stop_character))]
 fn push_stop(row: &mut Row)
     requires { array_vec_len row.old + 13 ≤ MAX_MODULES }
     ensures { Appends row.old.items row.new.items (character_modules 106) 13 }
@@ -87,7 +87,7 @@ fn push_code128(row: &mut Row, data: &[u8])
 /// # Errors
 ///
 /// `DataTooLong`, or else `NotAscii` with the place of the first byte from 128 on.
-#[tactic(auto, using(crate::proofs::Code128Laws::all_ascii_from_None))]
+#[tactic(auto, using(crate::proofs::Laws::Code128Laws::all_ascii_from_None))]
 fn check_data(data: &[u8]) -> Result<(), Fault>
     ensures answer { MatchResult result (λ _. full_code128 «data».now ≡ Ok «data».now)
         (λ refusal. full_code128 «data».now ≡ Err refusal) }

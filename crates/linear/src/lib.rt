@@ -16,7 +16,7 @@ mod tables;
 pub use code128::{Code128, check_value};
 pub use digits::{Digits, full_digits, with_check_digit};
 pub use ean::{Ean8, Ean13, NumberSet, UpcA};
-pub use limits::{MAX_MODULES, MAX_VALUES};
+pub use limits::{MAX_MODULES, MAX_VALUES, MIN_MODULES};
 pub use linear::Linear;
 pub use row::Row;
 pub use switching::{CodeSet, start_value};

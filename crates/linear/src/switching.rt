@@ -28,7 +28,7 @@ pub type Values = ArrayVec<u8, MAX_VALUES>;
 const SHIFT: u8 = 98;
 
 /// Returns the number of digits that the bytes begin with.
-#[tactic(auto, using(crate::proofs::DigitLaws::of_leading_digits))]
+#[tactic(auto, using(crate::proofs::Laws::DigitLaws::of_leading_digits))]
 fn leading_digits(bytes: &[u8]) -> usize
     ensures { result ≡ leading_digits bytes.now }
 {

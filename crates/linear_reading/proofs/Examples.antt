@@ -2,8 +2,8 @@
 use Rattle.std.specs.Prelude.{◌≡◌, refl, false, Some, None, [], ◌∷◌, length, map, replicate}
 use Rattle.linear_reading.specs.Reading.{read_row}
 
--- eleven modules for each of 160 values, the start value and the check value, and thirteen for the stop character: a row
--- of as many is read, and no longer one
-longest_row : map (λ modules. read_row (λ row. Some (length row ∷ [])) (replicate modules false)) (1795 ∷ 1796 ∷ [])
-    ≡ Some (1795 ∷ []) ∷ None ∷ []
-longest_row = refl
+-- eleven modules for each of one or 160 values, the start value and the check value, and thirteen for the stop character: a
+-- row of as many is read, and no shorter or longer one
+rows_in_limits : map (λ modules. read_row (λ row. Some (length row ∷ [])) (replicate modules false))
+    (45 ∷ 46 ∷ 1795 ∷ 1796 ∷ []) ≡ None ∷ Some (46 ∷ []) ∷ Some (1795 ∷ []) ∷ None ∷ []
+rows_in_limits = refl

@@ -1,7 +1,7 @@
 -- The tables by which groups are looked up have what the rules find in them (ISO/IEC 15420 and 15417, symbol characters).
-use Rattle.std.proofs.Common.{◌≡◌, ◌<◌, ◌+◌, ◌/◌, ◌%◌, ◌==◌, if◌then◌else◌, ℕ, zero, suc, Bool, true, false, ◌&&◌, Option, Some, None}
-use Rattle.std.proofs.Common.{List, [], ◌∷◌, length, refl, sym, ap, ◌∙◌, eqb, get_or, arith}
-use Rattle.std.proofs.lemmas.Bool.{and_parts, false≢true}
+use Rattle.std.proofs.Common.{◌≡◌, ◌<◌, ◌+◌, ◌/◌, ◌%◌, ◌==◌, if◌then◌else◌, ℕ, Bool, true, false, Option, Some, None}
+use Rattle.std.proofs.Common.{List, [], length, refl, sym, ap, ◌∙◌, eqb, get_or, arith}
+use Rattle.std.proofs.lemmas.Bool.{false≢true}
 use Rattle.std.proofs.lemmas.Bool.Decides.{Decides-eqb}
 use Rattle.std.proofs.lemmas.Bool.{ltb-true}
 use Rattle.std.proofs.lemmas.List.{take_all}
@@ -16,28 +16,12 @@ use Rattle.linear.specs.EanReading.{digit_in}
 use Rattle.linear.specs.declared.tables.TheConstants.{CHARACTERS}
 use Rattle.linear.specs.Code128.{character_modules}
 use Rattle.linear.specs.Modules.{same_modules}
-use Rattle.linear.proofs.CharacterLaws.{group_value, group_value-character_modules}
-use Rattle.linear.proofs.PatternLaws.{passes}
-use Rattle.linear.proofs.ReadRowLaws.{character_drawn, same_modules-same}
-use Rattle.linear.proofs.TableLaws.{all_characters, characters-all_characters, CHARACTERS-character_modules}
+use Rattle.linear.proofs.Laws.CharacterLaws.{group_value, group_value-character_modules}
+use Rattle.labelcore.proofs.Laws.ComputedLaws.{all_rows, found_is, passes, passes_row, same_found}
+use Rattle.linear.proofs.Laws.ReadRowLaws.{character_drawn, same_modules-same}
+use Rattle.linear.proofs.Laws.TableLaws.{all_characters, characters-all_characters, CHARACTERS-character_modules}
 use Rattle.linear_reading.specs.declared.tables.TheConstants.{DIGITS, VALUES}
 use Rattle.linear_reading.specs.Private.Groups.{number_of}
-
--- whether all rows of this many modules pass a test
-unfoldable pub all_rows : ℕ → (List Bool → Bool) → Bool
-all_rows zero test = test []
-all_rows (suc n) test = all_rows n (λ row. test (true ∷ row)) && all_rows n (λ row. test (false ∷ row))
-
-pub passes_row : (n : ℕ) (test : List Bool → Bool) (row : List Bool) → all_rows n test ≡ true → length row ≡ n
-    → test row ≡ true
-unfolding all_rows
-passes_row zero test [] all long = all
-passes_row zero test (dark ∷ row) all long = absurd (omega (arith, long))
-passes_row (suc n) test [] all long = absurd (omega (arith, long))
-passes_row (suc n) test (true ∷ row) all long =
-    passes_row n (λ rest. test (true ∷ rest)) row (and_parts _ _ all).0 (omega (arith, long))
-passes_row (suc n) test (false ∷ row) all long =
-    passes_row n (λ rest. test (false ∷ rest)) row (and_parts _ _ all).1 (omega (arith, long))
 
 -- ---- EAN and UPC
 
@@ -51,25 +35,13 @@ kind_of C = 3
 abbrev digit_listed : NumberSet → ℕ → Option ℕ
 digit_listed set listed = if listed / 16 == kind_of set then Some (48 + listed % 16) else None
 
-same_found : Option ℕ → Option ℕ → Bool
-same_found None None = true
-same_found (Some n) (Some m) = eqb n m
-same_found _ _ = false
-
-found_is : (found other : Option ℕ) → same_found found other ≡ true → found ≡ other
-unfolding same_found
-found_is None None h = refl
-found_is (Some n) (Some m) h = ap Some ((Decides-eqb n m).0 h)
-found_is None (Some m) h = absurd (false≢true h)
-found_is (Some n) None h = absurd (false≢true h)
-
 -- what the table has at a group
 abbrev pub listed : List Bool → ℕ
 listed group = get_or DIGITS (number_of group % 128) 0
 
 pub digits_listed : (set : NumberSet) (group : List Bool) → length group ≡ 7
     → digit_listed set (listed group) ≡ digit_in set group
-unfolding same_found all_rows number_set_a
+unfolding all_rows number_set_a
 digits_listed A group long =
     found_is _ _ (passes_row 7 (λ g. same_found (digit_listed A (listed g)) (digit_in A g)) group refl long)
 digits_listed B group long =

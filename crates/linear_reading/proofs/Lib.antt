@@ -1,5 +1,5 @@
-pub mod Examples
-pub mod GroupReadingLaws
-pub mod SymbolDataLaws
-pub mod FoundLaws
-pub mod ValueStepLaws
+mod Examples
+mod GroupReadingLaws
+mod SymbolDataLaws
+mod FoundLaws
+mod ValueStepLaws

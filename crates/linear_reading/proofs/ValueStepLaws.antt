@@ -6,7 +6,7 @@ use Rattle.std.specs.Bool.{then_some}
 use Rattle.std.specs.Prelude.{option_and_then, option_map, if◌then◌else◌, not}
 use Rattle.linear.specs.declared.switching.CodeSet.{CodeSet}
 use Rattle.linear.specs.Code128Reading.{Meaning, meaning, other_set, read_values, text, change, shift, none}
-use Rattle.linear.proofs.ValueReadingLaws.{read_next}
+use Rattle.linear.proofs.Laws.ValueReadingLaws.{read_next}
 use Rattle.linear_reading.specs.Private.Meanings.{step}
 
 -- what was read before, and the bytes of values that are still to be read

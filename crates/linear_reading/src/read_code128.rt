@@ -1,5 +1,5 @@
 //! Reading of Code 128 symbols (ISO/IEC 15417).
-ghost use Rattle.std.specs.Prelude.{◌≡◌, ◌∷◌, ◌+◌, ◌*◌, ◌≤◌, ◌&&◌, ◌==◌, length, option_map, ◌++◌, [], nat_le, false};
+ghost use Rattle.std.specs.Prelude.{◌≡◌, ◌∷◌, ◌+◌, ◌*◌, ◌≤◌, ◌&&◌, ◌==◌, length, option_map, ◌++◌, [], false};
 ghost use Rattle.std.specs.Prelude.{drop, if◌then◌else◌};
 ghost use Rattle.std.specs.Str.{bytes_eq};
 ghost use Rattle.linear.specs.declared.limits.TheConstants.{MAX_VALUES};
@@ -139,21 +139,20 @@ fn value_of(group: &[bool]) -> Option<u8>
 }
 
 /// Returns whether modules are the stop character.
-#[tactic(auto, using(linear::proofs::TableLaws::stop_character))]
+#[tactic(auto, using(linear::proofs::Laws::TableLaws::stop_character))]
 fn is_stop(modules: &[bool]) -> bool
     ensures { result ≡ same_modules modules.now (character_modules 106) }
 {
     same_modules(modules, &STOP)
 }
 
-/// Returns whether a row has this many characters of eleven modules, and the stop character after them. Three are the
-/// fewest: the start character, one or more for the data, and the check character.
+/// Returns whether a row has this many characters of eleven modules, and the stop character after them.
 fn is_stopped(count: usize, row: &[bool]) -> bool
     requires { 11 * count ≤ length row.now }
-    ensures { result ≡ ((nat_le 3 count && length row.now == 11 * count + 13)
+    ensures { result ≡ (length row.now == 11 * count + 13
         && same_modules (drop (11 * count) row.now) (character_modules 106)) }
 {
-    count >= 3 && row.len() == 11 * count + 13 && is_stop(&row[11 * count..])
+    row.len() == 11 * count + 13 && is_stop(&row[11 * count..])
 }
 
 impl LinearReading for Code128 {

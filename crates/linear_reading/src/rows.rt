@@ -4,7 +4,7 @@ ghost use Rattle.linear.specs.declared.limits.TheConstants.{MAX_MODULES};
 ghost use Rattle.linear_reading.specs.Reading.{read_row};
 
 use arrayvec::ArrayVec;
-use linear::{Linear, MAX_MODULES, MAX_VALUES};
+use linear::{Linear, MAX_MODULES, MAX_VALUES, MIN_MODULES};
 
 /// The most bytes that a row is read as: two digits for each value of a Code 128 symbol.
 pub const MAX_FULL_DATA: usize = 2 * MAX_VALUES;
@@ -20,11 +20,11 @@ pub trait LinearReading: Linear {
         ensures { option_map (λ full. full.items) result ≡ Self.reading row.now };
 
     /// Reads a row of modules: its full data where it is a symbol of this symbology, with no correction. A row that is
-    /// longer than [`MAX_MODULES`] is not read.
+    /// shorter than [`MIN_MODULES`] or longer than [`MAX_MODULES`] is not read.
     fn read(row: &[bool]) -> Option<FullData>
         ensures { option_map (λ full. full.items) result ≡ read_row Self.reading row.now }
     {
-        if row.len() > MAX_MODULES {
+        if row.len() < MIN_MODULES || row.len() > MAX_MODULES {
             return None;
         }
         Self::read_short(row)

@@ -6,7 +6,7 @@ use Rattle.std.proofs.lemmas.List.{append-nil, length-map}
 use Rattle.picture.specs.Private.Rows.{piece, row_text}
 use Rattle.picture.specs.Text.{below, pbm_piece, ascii_pixel}
 use Rattle.picture.proofs.LetterLaws.{length-letters}
-use Rattle.picture.proofs.WritingLaws.{all_pieces, flat_map-below_suc, letters_of_pieces, take_piece}
+use Rattle.picture.proofs.Laws.WritingLaws.{all_pieces, flat_map-below_suc, letters_of_pieces, take_piece}
 
 length-pbm_pieces : (row : List Bool) (k : ℕ) → length (flat_map (λ k. pbm_piece (piece row k)) (below k))
     ≡ length (take (70 * k) row) + k

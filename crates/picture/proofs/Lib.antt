@@ -1,19 +1,7 @@
-pub mod AsciiLaws
-pub mod CutLaws
-pub mod EndedLaws
-pub mod Examples
-pub mod GridLaws
-pub mod HeaderLaws
-pub mod LengthLaws
-pub mod LetterLaws
-pub mod LineLaws
-pub mod PbmLaws
-pub mod PbmLineLaws
-pub mod RasterLaws
-pub mod RepeatedLaws
-pub mod OffsetLaws
-pub mod PixelLaws
-pub mod SampleLaws
-pub mod WritingLaws
-pub mod WritingLoopLaws
+mod Examples
+pub mod Laws
+mod LengthLaws
+mod LetterLaws
+mod RepeatedLaws
 pub mod Theorems
+mod WritingLoopLaws

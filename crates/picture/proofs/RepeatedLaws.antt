@@ -8,7 +8,7 @@ use Rattle.device.specs.Sink.{RepeatsBytes}
 use Rattle.device.specs.Writing.{WritesText}
 use Rattle.device.specs.declared.sink.Sink.{Ghosts}
 use Rattle.picture.specs.Private.Rows.{EndsWith, repeated}
-use Rattle.picture.proofs.WritingLaws.{flat_map-below_add, flat_map-below_suc}
+use Rattle.picture.proofs.Laws.WritingLaws.{flat_map-below_add, flat_map-below_suc}
 
 -- one text for each of n numbers, from a or from y on
 pub same_texts : (f : ℕ → List ℕ) (text : List ℕ) (a y n : ℕ) → ((k : ℕ) → y ≤ k → k < y + n → text ≡ f k)

@@ -1,10 +1,10 @@
 -- Texts of pictures, their streams, their pixels and the rows of bars are read back as what was written (pbm(5), the
 -- plain format). No function rests on it.
 use Rattle.picture.specs.ReadingLaws.{ReadingLaws}
-use Rattle.picture.proofs.AsciiLaws.{ascii_files-flat_map, ascii_pixels-ascii_text}
-use Rattle.picture.proofs.CutLaws.{pbm_files-flat_map}
-use Rattle.picture.proofs.PbmLaws.{pbm_pixels-pbm_text}
-use Rattle.picture.proofs.SampleLaws.{value_at-raster, sample-raster, common_row-bars}
+use Rattle.picture.proofs.Laws.AsciiLaws.{ascii_files-flat_map, ascii_pixels-ascii_text}
+use Rattle.picture.proofs.Laws.CutLaws.{pbm_files-flat_map}
+use Rattle.picture.proofs.Laws.PbmLaws.{pbm_pixels-pbm_text}
+use Rattle.picture.proofs.Laws.SampleLaws.{value_at-raster, sample-raster, common_row-bars}
 
 pub reading_laws : ReadingLaws
 reading_laws = record {

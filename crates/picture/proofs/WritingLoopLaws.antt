@@ -3,9 +3,9 @@ use Rattle.std.proofs.Common.{◌≡◌, ℕ, ◌+◌, ◌≤◌, List, ◌++◌
 use Rattle.std.specs.Result.{IsErr}
 use Rattle.device.specs.Writing.{WritesText}
 use Rattle.device.specs.declared.sink.Sink.{Ghosts}
-use Rattle.device.proofs.WritingLaws.{HasWritten, HasWritten-more, WritesText-fails}
+use Rattle.device.proofs.Laws.WritingLaws.{HasWritten, HasWritten-more, WritesText-fails}
 use Rattle.picture.specs.Text.{below}
-use Rattle.picture.proofs.WritingLaws.{flat_map-below_more, flat_map-below_front}
+use Rattle.picture.proofs.Laws.WritingLaws.{flat_map-below_more, flat_map-below_front}
 
 -- the text of one turn more
 pub below_more : (f : ℕ → List ℕ) (k : ℕ) (next : List ℕ) → next ≡ f k

@@ -9,7 +9,7 @@ use Rattle.std.specs.Cmp.Lexicographic.{pointwise}
 use Rattle.std.specs.Str.{bytes_eq}
 use Rattle.std.specs.Str.Parse.{digits_value}
 use Rattle.std.specs.Char.{is_digit}
-use Rattle.qrdata.specs.Steps.{◌>>=◌}
+use Rattle.labelcore.specs.Steps.{◌>>=◌}
 use Rattle.qrmatrix.specs.Square.{value_at}
 use Rattle.picture.specs.declared.quiet_zone.QuietZone.{QuietZone}
 use Rattle.picture.specs.Picture.{Picture}

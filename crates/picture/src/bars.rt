@@ -40,7 +40,7 @@ impl<'a> Grid for Bars<'a> {
         self.height - y
     }
 
-    #[tactic(auto, using(crate::proofs::SampleLaws::pixel_row_of_bars))]
+    #[tactic(auto, using(crate::proofs::Laws::SampleLaws::pixel_row_of_bars))]
     fn read_row(&self, y: usize, pixels: &mut [bool]) {
         pixels.copy_from_slice(self.row);
     }

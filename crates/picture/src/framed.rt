@@ -60,7 +60,7 @@ impl<G: Grid> Grid for Framed<G> {
         }
     }
 
-    #[tactic(auto, using(crate::proofs::GridLaws::row_bits_in_zone))]
+    #[tactic(auto, using(crate::proofs::Laws::GridLaws::row_bits_in_zone))]
     fn row_bits(&self, y: usize) -> Option<u64> {
         if y < self.zone.top || self.zone.top + self.grid.height() <= y {
             return Some(0);

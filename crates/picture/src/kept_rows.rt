@@ -134,9 +134,11 @@ fn write_row<T: PixelText, S: Sink>(
     ensures { WritesText S.Sink sink.old sink.new
         (row_text T.text T.row_end (take width kept.now)) result }
 {
-    for k in 0..width.div_ceil(PIECE) {
+    let mut k = 0;
+    while PIECE * k < width {
         let x = PIECE * k;
         T::write_piece(&kept[x..x + PIECE_ROOM], PIECE.min(width - x), sink)?;
+        k += 1;
     }
     write_whole(T::row_end(), sink)
 }

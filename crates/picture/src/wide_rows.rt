@@ -64,7 +64,7 @@ fn write_wide_piece<T: PixelText, G: Grid, S: Sink>(
 }
 
 /// Fills `pixels` with those of row `y` from column `x` on.
-#[tactic(auto, using(crate::proofs::GridLaws::filled_from))]
+#[tactic(auto, using(crate::proofs::Laws::GridLaws::filled_from))]
 fn read_piece<G: Grid>(grid: &G, y: usize, x: usize, pixels: &mut [bool])
     requires in_height { y < (G.picture grid.now).height }
     requires in_width { x + length pixels.old ≤ (G.picture grid.now).width }

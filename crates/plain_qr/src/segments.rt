@@ -1,6 +1,7 @@
 //! Lists of segments: none costs less than the one that is chosen.
 use labelcore::Options;
 use qrdata::{Mode, choose};
+use std::test::Fail;
 
 /// The modes, by the digits of a number to the base 3.
 const MODES: [Mode; 3] = [Mode::Numeric, Mode::Alphanumeric, Mode::Byte];
@@ -55,12 +56,14 @@ fn bits_of_list(data: &[u8], cuts: u32, modes: u32) -> Option<u32> {
 }
 
 /// The fewest bits of all lists of segments of up to six bytes: every way to cut them, with every mode of each piece.
-fn fewest_bits(data: &[u8]) -> u32 {
+/// Adds how many of these lists there are.
+fn fewest_bits(data: &[u8], lists: &mut u32) -> u32 {
     let mut fewest = u32::MAX;
     for cuts in 0..32 {
         for modes in 0..729 {
             if let Some(bits) = bits_of_list(data, cuts, modes) {
                 fewest = fewest.min(bits);
+                *lists = lists.saturating_add(1);
             }
         }
     }
@@ -80,16 +83,21 @@ fn text_of_number(number: u32) -> [u8; 6] {
 }
 
 #[test]
-fn no_list_costs_less(rt: HostRuntime) {
+fn no_list_costs_less(rt: HostRuntime) -> Result<(), Fail> {
     let options = Options::default();
+    let mut compared: u32 = 0;
+    let mut lists: u32 = 0;
     for (shorter, texts) in [3u32, 9, 27, 81, 243, 729].iter().enumerate() {
         for number in 0..*texts {
             let text = text_of_number(number);
             let data = &text[..shorter + 1];
             match choose(&options, data) {
-                Ok(plan) => assert!(rt; plan.bits() == fewest_bits(data)),
+                Ok(plan) => assert!(rt; plan.bits() == fewest_bits(data, &mut lists)),
                 Err(_) => panic!(rt; "it does not fit"),
             }
+            compared = compared.saturating_add(1);
         }
     }
+    println!(rt; "compared {compared} texts, {lists} lists")?;
+    Ok(())
 }

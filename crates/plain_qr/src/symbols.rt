@@ -8,15 +8,20 @@ use gf256::{Generator, mul, pow_alpha};
 use labelcore::Level;
 use qrdata::{Version, Words};
 use qrmatrix::Matrix;
+use std::test::Fail;
 
 #[test]
-fn products_and_powers(rt: HostRuntime) {
+fn products_and_powers(rt: HostRuntime) -> Result<(), Fail> {
+    let mut compared: u32 = 0;
     for x in 0u8..=255 {
         assert!(rt; mul(0, x) == 0);
+        compared = compared.saturating_add(1);
     }
     assert!(rt;
         (mul(2, 128) == 29) & (pow_alpha(8) == 29) & (pow_alpha(255) == 1) & (pow_alpha(256) == 2)
     );
+    println!(rt; "compared {compared} products with 0")?;
+    Ok(())
 }
 
 /// Words, and their parity: one word with 7 and with 10, and the data words of two symbols.
@@ -48,14 +53,20 @@ fn has_parity(words: &[u8], want: &[u8]) -> bool {
 }
 
 #[test]
-fn parities(rt: HostRuntime) {
+fn parities(rt: HostRuntime) -> Result<(), Fail> {
+    let mut compared: u32 = 0;
     for (words, want) in PARITIES {
         assert!(rt; has_parity(words, want));
+        compared = compared.saturating_add(1);
     }
     let zeros = [0; 40];
     for count in 1..31 {
-        assert!(rt; has_parity(&[], &zeros[..count]) & has_parity(&zeros, &zeros[..count]));
+        assert!(rt; has_parity(&[], &zeros[..count]));
+        assert!(rt; has_parity(&zeros, &zeros[..count]));
+        compared = compared.saturating_add(2);
     }
+    println!(rt; "compared {compared} parities")?;
+    Ok(())
 }
 
 /// Format words of some levels and masks, and the version words.
@@ -102,54 +113,77 @@ impl Filling {
     }
 }
 
-/// Whether the symbol has the modules of the plain form.
-fn has_modules(matrix: &Matrix, plain: &Square) -> bool {
-    let mut are_same = true;
-    for y in 0..matrix.side() {
-        for x in 0..matrix.side() {
-            are_same &= matrix.dark(x, y) == plain.get(x, y);
-        }
-    }
-    are_same
+/// How many symbols were compared with those of the plain form, how many modules are the same, and whether all are.
+#[derive(Clone, Copy)]
+struct Compared {
+    symbols: u32,
+    modules: u32,
+    are_same: bool,
 }
 
-/// Whether the symbols of these words are those of the plain form: under each mask, and under the first mask of the
+impl Compared {
+    /// Compares a symbol with its mask, its penalty and its modules in the plain form.
+    fn add(&mut self, matrix: &Matrix, mask: u8, points: u64, plain: &Square) {
+        self.symbols = self.symbols.saturating_add(1);
+        self.are_same &= (matrix.mask() == mask) & (u64::from(matrix.penalty()) == points);
+        for y in 0..matrix.side() {
+            for x in 0..matrix.side() {
+                let is_same = matrix.dark(x, y) == plain.get(x, y);
+                self.modules = self.modules.saturating_add(u32::from(is_same));
+                self.are_same &= is_same;
+            }
+        }
+    }
+}
+
+/// Compares the symbols of these words with those of the plain form: under each mask, and under the first mask of the
 /// lowest penalty where none is given.
-fn are_plain(version: Version, level: Level, words: &Words) -> bool
+fn compare(compared: &mut Compared, version: Version, level: Level, words: &Words)
     requires { length words.now.items ≡ total_codewords version }
 {
     let chosen = Matrix::draw(version, level, None, words);
     let mut best = 0;
     let mut lowest = u64::MAX;
-    let mut are_same = chosen.side() == version.side();
+    compared.are_same &= chosen.side() == version.side();
     for mask in 0..8u8 {
         let plain = modules_under(version, level, mask, words);
         let points = penalty(&plain, version.side());
         let matrix = Matrix::draw(version, level, Some(mask), words);
-        are_same &= has_modules(&matrix, &plain)
-            & (matrix.mask() == mask)
-            & (u64::from(matrix.penalty()) == points);
+        compared.add(&matrix, mask, points, &plain);
         if points < lowest {
             lowest = points;
             best = mask;
         }
         if chosen.mask() == mask {
-            are_same &= has_modules(&chosen, &plain) & (u64::from(chosen.penalty()) == points);
+            compared.add(&chosen, mask, points, &plain);
         }
     }
-    are_same & (chosen.mask() == best)
+    compared.are_same &= chosen.mask() == best;
 }
 
 #[test]
-fn every_symbol_is_that_of_the_plain_form(rt: HostRuntime) {
+fn every_symbol_is_that_of_the_plain_form(rt: HostRuntime) -> Result<(), Fail> {
+    let mut compared = Compared {
+        symbols: 0,
+        modules: 0,
+        are_same: true,
+    };
     for number in 1..11u8 {
         let version = Version::of(number);
         for level in [Level::L, Level::M, Level::Q, Level::H] {
             for filling in [Filling::Zeros, Filling::Ones, Filling::Places] {
                 let words = filling.words(version.total_words());
                 assert!(rt; words.len() == version.total_words());
-                assert!(rt; are_plain(version, level, &words), "version {number}");
+                compare(&mut compared, version, level, &words);
+                assert!(rt; compared.are_same, "version {number}");
             }
         }
     }
+    let Compared {
+        symbols,
+        modules,
+        ..
+    } = compared;
+    println!(rt; "compared {symbols} symbols, {modules} modules")?;
+    Ok(())
 }

@@ -1,6 +1,6 @@
 //! Mixed segments: the lists that are chosen, and their symbols.
 use crate::symbols::{has_words, planned};
-use acceptance::support::{Ran, gives_however_cut, options_by, ran_by, text_of};
+use acceptance::support::{Tally, compare_however_cut, options_by, ran_by, text_of};
 use labelcore::{Fault, Level, Options};
 use qrdata::{Mode, Segment, choose};
 use std::alloc::Global;
@@ -105,25 +105,23 @@ const CHOSEN: &[Chosen] = &[
     ),
 ];
 
-/// Whether data gets this list.
-fn is_chosen(options: &Options, data: &[u8], row: &Chosen) -> bool {
+/// Compares what data gets with a row: the list, its bits, the version and the first words.
+fn compare_chosen(parts: &mut Tally, options: &Options, data: &[u8], row: &Chosen) {
     let (_, _, segments, bits, version, words) = row;
-    let is_listed = match choose(options, data) {
-        Ok(plan) => (plan.segments() == *segments) & (plan.bits() == *bits),
-        Err(_) => false,
-    };
-    let has_symbol = match planned(options, data) {
-        Some((number, _, all)) => (number == *version) & has_words(&all, 0, words),
-        None => false,
-    };
-    is_listed & has_symbol
-}
-
-/// Whether this is a run over the line that drew an image with this header, and each other way to cut the line gives
-/// the same.
-fn draws(ran: &Ran, options: &Options, line: &[u8], header: &[u8]) -> bool {
-    let images = ran.images.bytes();
-    images.starts_with(header) & gives_however_cut(options, line, images, b"")
+    match choose(options, data) {
+        Ok(plan) => {
+            parts.add(plan.segments() == *segments);
+            parts.add(plan.bits() == *bits);
+        }
+        Err(_) => parts.add(false),
+    }
+    match planned(options, data) {
+        Some((number, _, all)) => {
+            parts.add(number == *version);
+            parts.add(has_words(&all, 0, words));
+        }
+        None => parts.add(false),
+    }
 }
 
 /// The header of an image of this version, 1 or 10.
@@ -135,22 +133,35 @@ fn header_of(version: u8) -> &'static [u8] {
     }
 }
 
-/// Whether the line of this data has an image of this version.
-fn is_drawn(alloc: Global, options: &Options, data: &[u8], version: u8) -> Result<bool, Fail> {
+/// Compares the image of the line of this data with this version, and with itself where the line is cut otherwise.
+fn compare_drawn(
+    runs: &mut Tally,
+    alloc: Global,
+    options: &Options,
+    data: &[u8],
+    version: u8,
+) -> Result<(), Fail> {
     let mut line = text_of(alloc, &[(b"qr ", 1)])?;
     line.extend_from_slice(data)?;
     let ran = ran_by(options, line.as_slice(), 4096);
-    Ok(draws(&ran, options, line.as_slice(), header_of(version)))
+    let images = ran.images.bytes();
+    runs.add(images.starts_with(header_of(version)));
+    compare_however_cut(runs, options, line.as_slice(), images, b"");
+    Ok(())
 }
 
 #[test]
 fn lists_of_segments(rt: HostRuntime) -> Result<(), Fail> {
+    let (mut parts, mut runs) = (Tally::new(), Tally::new());
     for row in CHOSEN {
         let options = options_by(rt.alloc(), row.0)?;
         let data = text_of(rt.alloc(), &[(row.1.0, 1), (b"1", row.1.1)])?;
-        assert!(rt; is_chosen(&options, data.as_slice(), row));
-        assert!(rt; is_drawn(rt.alloc(), &options, data.as_slice(), row.4)?);
+        compare_chosen(&mut parts, &options, data.as_slice(), row);
+        compare_drawn(&mut runs, rt.alloc(), &options, data.as_slice(), row.4)?;
     }
+    assert!(rt; parts.are_right & runs.are_right);
+    let (parts, runs) = (parts.compared, runs.compared);
+    println!(rt; "compared {parts} parts of lists, {runs} runs")?;
     Ok(())
 }
 
@@ -166,6 +177,10 @@ fn one_digit_too_many(rt: HostRuntime) -> Result<(), Fail> {
     );
     let line = text_of(rt.alloc(), &[(b"qr a", 1), (b"1", 645)])?;
     let message = b"line 1: data does not fit version 10-L\n";
-    assert!(rt; gives_however_cut(&options, line.as_slice(), b"", message));
+    let mut runs = Tally::new();
+    compare_however_cut(&mut runs, &options, line.as_slice(), b"", message);
+    assert!(rt; runs.are_right);
+    let compared = runs.compared;
+    println!(rt; "compared {compared} runs")?;
     Ok(())
 }

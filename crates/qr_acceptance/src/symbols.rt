@@ -1,6 +1,6 @@
 //! Codewords, penalties, and whole symbols.
 use acceptance::example::{EXAMPLE, PBM, picture_of};
-use acceptance::support::{gives_however_cut, options_by, ran_by, text_of};
+use acceptance::support::{Tally, compare_however_cut, options_by, ran_by, text_of};
 use labelcore::{Fault, Level, Options};
 use qrdata::{Version, Words, choose, codewords};
 use qrmatrix::Matrix;
@@ -149,14 +149,20 @@ pub fn has_words(words: &Words, from: usize, want: &[u8]) -> bool {
 
 #[test]
 fn codewords_of_data(rt: HostRuntime) -> Result<(), Fail> {
+    let mut parts = Tally::new();
     for (words, data, version, bits, from, want) in CODEWORDS {
         let options = options_by(rt.alloc(), words)?;
         let data = bytes_of(rt.alloc(), *data)?;
         let Some((number, sum, all)) = planned(&options, data.as_slice()) else {
             panic!(rt; "it does not fit");
         };
-        assert!(rt; (number == *version) & (sum == *bits) & has_words(&all, *from, want));
+        parts.add(number == *version);
+        parts.add(sum == *bits);
+        parts.add(has_words(&all, *from, want));
     }
+    assert!(rt; parts.are_right);
+    let compared = parts.compared;
+    println!(rt; "compared {compared} parts of rows")?;
     Ok(())
 }
 
@@ -164,15 +170,17 @@ fn codewords_of_data(rt: HostRuntime) -> Result<(), Fail> {
 #[test]
 fn data_that_does_not_fit(rt: HostRuntime) -> Result<(), Fail> {
     let options = options_by(rt.alloc(), &["--level", "L"])?;
+    let mut texts = Tally::new();
     for data in [(b"".as_slice(), b"a".as_slice(), 272), (b"", b"1", 653)] {
         let data = bytes_of(rt.alloc(), data)?;
-        assert!(rt;
-            matches!(
-                &choose(&options, data.as_slice()),
-                Err(Fault::DoesNotFit(Level::L))
-            )
-        );
+        texts.add(matches!(
+            &choose(&options, data.as_slice()),
+            Err(Fault::DoesNotFit(Level::L))
+        ));
     }
+    assert!(rt; texts.are_right);
+    let compared = texts.compared;
+    println!(rt; "compared {compared} texts")?;
     Ok(())
 }
 
@@ -186,11 +194,14 @@ fn penalties_choose_the_mask(rt: HostRuntime) -> Result<(), Fail> {
         panic!(rt; "it does not fit");
     };
     assert!(rt; words.len() == Version::of(1).total_words());
+    let mut masks = Tally::new();
     for (mask, want) in PENALTIES.iter().enumerate() {
         assert!(rt; mask < 8);
         let matrix = Matrix::draw(Version::of(1), Level::M, Some(mask as u8), &words);
-        assert!(rt; (matrix.penalty() == *want) & (usize::from(matrix.mask()) == mask));
+        masks.add(matrix.penalty() == *want);
+        masks.add(usize::from(matrix.mask()) == mask);
     }
+    assert!(rt; masks.are_right);
     let matrix = Matrix::draw(Version::of(1), Level::M, None, &words);
     assert!(rt; (matrix.mask() == 0) & (matrix.penalty() == 297));
     let rows = Matrix::draw(Version::of(1), Level::M, Some(2), &words);
@@ -198,6 +209,8 @@ fn penalties_choose_the_mask(rt: HostRuntime) -> Result<(), Fail> {
     assert!(rt;
         (rows[0] == 0x1FDA7F) & (rows[6] == 0x1FD57F) & (rows[20] == 0x052F7F) & (rows[21] == 0)
     );
+    let compared = masks.compared;
+    println!(rt; "compared {compared} penalties and masks")?;
     Ok(())
 }
 
@@ -260,12 +273,16 @@ const DRAWN: &[Drawn] = &[
 
 #[test]
 fn symbols_module_by_module(rt: HostRuntime) -> Result<(), Fail> {
+    let mut runs = Tally::new();
     for (words, line, pixels, texts, len) in DRAWN {
         let options = options_by(rt.alloc(), words)?;
         let want = picture_of(rt.alloc(), pixels, *texts)?;
         assert!(rt; want.len() == *len);
-        assert!(rt; gives_however_cut(&options, line, want.as_slice(), b""));
+        compare_however_cut(&mut runs, &options, line, want.as_slice(), b"");
     }
+    assert!(rt; runs.are_right);
+    let compared = runs.compared;
+    println!(rt; "compared {compared} runs")?;
     Ok(())
 }
 
@@ -327,6 +344,7 @@ const SIZES: &[(&[&str], Data, &[u8], usize, &[u8])] = &[
 
 #[test]
 fn symbols_of_each_size(rt: HostRuntime) -> Result<(), Fail> {
+    let (mut sizes, mut runs) = (Tally::new(), Tally::new());
     for (words, (front, byte, times), header, len, messages) in SIZES {
         let options = options_by(rt.alloc(), words)?;
         let line = text_of(
@@ -335,8 +353,12 @@ fn symbols_of_each_size(rt: HostRuntime) -> Result<(), Fail> {
         )?;
         let ran = ran_by(&options, line.as_slice(), 4096);
         let images = ran.images.bytes();
-        assert!(rt; images.starts_with(header) & (images.len() == *len));
-        assert!(rt; gives_however_cut(&options, line.as_slice(), images, messages));
+        sizes.add(images.starts_with(header));
+        sizes.add(images.len() == *len);
+        compare_however_cut(&mut runs, &options, line.as_slice(), images, messages);
     }
+    assert!(rt; sizes.are_right & runs.are_right);
+    let (sizes, runs) = (sizes.compared, runs.compared);
+    println!(rt; "compared {sizes} headers and lengths, {runs} runs")?;
     Ok(())
 }

@@ -12,15 +12,15 @@ use Rattle.std.proofs.lemmas.Slice.Eq.{bytes_eq-Decides}
 use Rattle.std.proofs.lemmas.List.{drop_at}
 use Rattle.gf256.specs.Field.{IsElement}
 use Rattle.gf256.specs.ErrorCorrection.{AreEcCodewords, wrong_codewords}
-use Rattle.gf256.proofs.DistanceLaws.{close_codewords}
+use Rattle.gf256.proofs.Laws.DistanceLaws.{close_codewords}
 use Rattle.qr_reading.specs.Private.Blocks.{block_at, sound_blocks}
 use Rattle.labelcore.specs.declared.level.Level.{Level}
 use Rattle.qrdata.specs.Reading.{data_in, deinterleaving, has_roots, segments_at}
 use Rattle.qrdata.specs.Segments.{byte_bits}
-use Rattle.qrdata.specs.Steps.{◌>>=◌}
+use Rattle.labelcore.specs.Steps.{◌>>=◌}
 use Rattle.qrdata.specs.Versions.{block_lengths, data_codewords, ec_codewords_per_block, total_codewords}
-use Rattle.qrdata.proofs.DamageLaws.{HasRoots-has_roots}
-use Rattle.qrdata.proofs.DataReadingLaws.{roots_pass}
+use Rattle.qrdata.proofs.Laws.DamageLaws.{HasRoots-has_roots}
+use Rattle.qrdata.proofs.Laws.DataReadingLaws.{roots_pass}
 
 -- at most as many codewords as the places, for each block
 pub few_below : (place : ℕ) (lengths : List ℕ) → place ≤ 255 → length lengths ≤ 8 → sum_by (min place) lengths ≤ 2040

@@ -1,7 +1,5 @@
 mod BitListLaws
 mod DeinterleavingLaws
-mod PatternReadingLaws
+pub mod Laws
 mod PayloadStepLaws
 mod SegmentStepLaws
-pub mod SymbolReadingLaws
-mod WalkedBitLaws

@@ -4,14 +4,14 @@ use Rattle.std.proofs.lemmas.List.{append-nil}
 use Rattle.std.specs.Prelude.{None, Option, Some}
 use Rattle.std.proofs.lemmas.Bool.{eqb-true}
 use Rattle.std.specs.Prelude.{◌==◌}
-use Rattle.qrmatrix.proofs.ComputedLaws.{passes}
+use Rattle.labelcore.proofs.Laws.ComputedLaws.{passes}
 use Rattle.qrdata.specs.Segments.{alphanumeric_characters}
 use Rattle.qrdata.specs.declared.mode.Mode.{Mode}
 use Rattle.qrdata.specs.declared.mode.Mode.TheVariants.{Numeric, Alphanumeric, Byte}
 use Rattle.qr_reading.specs.Private.Groups.{group_bytes, next_group}
 use Rattle.qr_reading.specs.Private.ReadSoFar.{after}
 use Rattle.qrdata.specs.Reading.{alphanumeric_character, bytes_at, characters_at, digits_at, number_at, payload_at}
-use Rattle.qrdata.specs.Steps.{◌>>=◌}
+use Rattle.labelcore.specs.Steps.{◌>>=◌}
 
 -- the first ten characters are the digits
 pub digit_character : (value : ℕ) → value < 10 → alphanumeric_character value ≡ 48 + value

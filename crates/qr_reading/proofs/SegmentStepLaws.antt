@@ -8,7 +8,7 @@ use Rattle.std.proofs.lemmas.Option.{none-some, same_Some}
 use Rattle.std.specs.Prelude.{None, Option, Some}
 use Rattle.qr_reading.specs.Private.ReadSoFar.{after, with_rest}
 use Rattle.qrdata.specs.Reading.{is_end, segment_at, segments_at}
-use Rattle.qrdata.specs.Steps.{◌>>=◌}
+use Rattle.labelcore.specs.Steps.{◌>>=◌}
 
 none_after : (before : List ℕ) (found : Option (List ℕ × List Bool)) → None ≡ after before found → found ≡ None
 unfolding after

@@ -54,7 +54,7 @@ fn format_in(rows: &[u64]) -> (Level, Mask)
 
 /// Draws the patterns of a symbol with its format information on two blank squares: the modules that the codewords choose,
 /// and those of the others that are dark.
-#[tactic(auto, using(crate::proofs::PatternReadingLaws::role_drawn), unfolding(qrmatrix::specs::Functions::fixed_module, qrmatrix::specs::Functions::is_free))]
+#[tactic(auto, using(crate::proofs::Laws::PatternReadingLaws::role_drawn), unfolding(qrmatrix::specs::Functions::fixed_module, qrmatrix::specs::Functions::is_free))]
 fn draw_patterns(version: Version, level: Level, mask: Mask, free: &mut Square, dark: &mut Square)
     requires { IsBlank free.old × IsBlank dark.old }
     ensures { DrawsPatterns version level mask free.new dark.new }
@@ -88,7 +88,7 @@ fn are_shown(free: &Square, dark: &Square, rows: &[u64]) -> bool
 /// of the format and version information and every module of the other patterns have to be right. There are as many
 /// rows as modules on a side, and bit x of number y is the module at column x and row y, dark where set; the bits from
 /// the side on are not read.
-#[tactic(auto, using(crate::proofs::SymbolReadingLaws::unknown_side))]
+#[tactic(auto, using(crate::proofs::Laws::SymbolReadingLaws::unknown_side))]
 pub fn read(rows: &[u64]) -> Option<SymbolData>
     ensures { option_map (λ bytes. bytes.items) result
         ≡ read_square (length rows.now) (λ x y. bit (slice_index rows.now y) x) }

@@ -54,7 +54,7 @@ fn pair_at(row: u64, x: usize) -> u32
 
 /// Appends a module, if it is free.
 #[inline(always)]
-#[tactic(auto, using(crate::proofs::WalkedBitLaws::one_bit))]
+#[tactic(auto, using(crate::proofs::Laws::WalkedBitLaws::one_bit))]
 fn push_if(is_free: bool, dark: bool, bits: &mut Bits)
     requires { length (bits_in bits.old) + length (bit_if is_free dark) ≤ MAX_BITS }
     ensures { bits_in bits.new ≡ bits_in bits.old ++ bit_if is_free dark }

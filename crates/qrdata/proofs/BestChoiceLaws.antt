@@ -14,7 +14,7 @@ use Rattle.qrdata.specs.Segments.{IsSegmentation, alphanumeric_value, cost, segm
 use Rattle.qrdata.specs.Private.Table.{Each, absent_characters, absent_digits, best_choice, better_choice, byte_choices}
 use Rattle.qrdata.specs.Private.Table.{choices_of, fewest_bits, longer_choice, next_characters, next_choices}
 use Rattle.qrdata.specs.Private.Table.{next_digits, short_choice}
-use Rattle.qrdata.proofs.CharacterLaws.{no_digit}
+use Rattle.qrdata.proofs.Laws.CharacterLaws.{no_digit}
 use Rattle.qrdata.proofs.ChoiceOrderLaws.{Beats, better-left, better-one, better-right}
 use Rattle.qrdata.proofs.ChoiceClassLaws.{IsClass, IsClass-kept, IsRun, each_choice, total}
 

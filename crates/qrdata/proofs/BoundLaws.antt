@@ -9,7 +9,7 @@ use Rattle.qrdata.specs.declared.mode.Mode.TheVariants.{Numeric, Alphanumeric, B
 use Rattle.qrdata.specs.declared.mode.Segment.{Segment}
 use Rattle.qrdata.specs.Segments.{IsSegmentation, cost, segment_length, segment_of}
 use Rattle.qrdata.specs.Versions.{IsVersion, capacity}
-use Rattle.qrdata.proofs.VersionLaws.{IsSound-of}
+use Rattle.qrdata.proofs.Laws.VersionLaws.{IsSound-of}
 
 -- Up to version 9 a segment has 18 bits at least, and in version 10 it has 20. It has a third of ten bits for each of
 -- its bytes.

@@ -12,9 +12,9 @@ use Rattle.qrdata.specs.Fewest.{chosen_segments}
 use Rattle.qrdata.specs.Segments.{IsFirstSegment, cost, count_width, segment_length, segment_of}
 use Rattle.qrdata.specs.Private.Table.{choices_of, fewest_bits}
 use Rattle.qrdata.proofs.BestChoiceLaws.{best-front, best-le, fewest_bits-le_cost, fewest_nil}
-use Rattle.qrdata.proofs.FewestBitsLaws.{chosen_segments-best, chosen_segments-is, chosen_segments-nil}
-use Rattle.qrdata.proofs.FewestBitsLaws.{continued, cost-continued}
-use Rattle.qrdata.proofs.VersionLaws.{widest}
+use Rattle.qrdata.proofs.Laws.FewestBitsLaws.{chosen_segments-best, chosen_segments-is, chosen_segments-nil}
+use Rattle.qrdata.proofs.Laws.FewestBitsLaws.{continued, cost-continued}
+use Rattle.qrdata.proofs.Laws.VersionLaws.{widest}
 
 -- a segment that fits is below the limit of its character count
 short_enough : (version : ℕ) (mode : Mode) (n : ℕ) → segment_length version (segment_of mode n) ≤ widest version

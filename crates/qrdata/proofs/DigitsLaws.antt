@@ -16,8 +16,8 @@ use Rattle.qrdata.specs.Private.SmallestPlan.{AreDigits, SameWidths}
 use Rattle.qrdata.specs.Segments.{IsSegmentation, cost, count_width, payload_length}
 use Rattle.qrdata.specs.Segments.{segment_length, segment_of}
 use Rattle.qrdata.proofs.ChoiceLimitLaws.{rising, same_mode}
-use Rattle.qrdata.proofs.FewestBitsLaws.{chosen_segments-best, chosen_segments-is, chosen_segments-nil}
-use Rattle.qrdata.proofs.FewestBitsLaws.{continued, cost-continued}
+use Rattle.qrdata.proofs.Laws.FewestBitsLaws.{chosen_segments-best, chosen_segments-is, chosen_segments-nil}
+use Rattle.qrdata.proofs.Laws.FewestBitsLaws.{continued, cost-continued}
 
 -- no segment has fewer bits than one in numeric mode of its length
 numeric_least : (version : ℕ) (mode : Mode) (n : ℕ) → 0 < n

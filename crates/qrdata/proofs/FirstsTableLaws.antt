@@ -18,9 +18,9 @@ use Rattle.qrdata.specs.Versions.{IsVersion, capacity}
 use Rattle.qrdata.proofs.BoundLaws.{few_segments}
 use Rattle.qrdata.proofs.BestChoiceLaws.{fewest_bits-le_cost}
 use Rattle.qrdata.proofs.ChoiceLimitLaws.{Agrees-if_fits}
-use Rattle.qrdata.proofs.FewestBitsLaws.{chosen_segments-is}
+use Rattle.qrdata.proofs.Laws.FewestBitsLaws.{chosen_segments-is}
 use Rattle.qrdata.proofs.SameWidthLaws.{chosen_segments-same, cost-chosen_same}
-use Rattle.qrdata.proofs.VersionLaws.{IsSound-of, widest}
+use Rattle.qrdata.proofs.Laws.VersionLaws.{IsSound-of, widest}
 
 -- the capacities of the versions whose character counts are as wide
 pub capacity_as_wide : (v w : ℕ) (level : Level) → SameWidths v w → 1 ≤ v → v ≤ 10 → capacity v level ≤ widest w

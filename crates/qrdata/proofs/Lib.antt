@@ -1,27 +1,12 @@
-pub mod BeginningLaws
-pub mod BestChoiceLaws
-pub mod BitStringLaws
-pub mod BlockLaws
-pub mod BoundLaws
-pub mod CharacterLaws
-pub mod ChoiceClassLaws
-pub mod ChoiceOrderLaws
-pub mod ChoiceLimitLaws
-pub mod InterleavingLaws
-pub mod Examples
-pub mod FewestBitsLaws
-pub mod LengthLaws
-pub mod PaddingLaws
-pub mod PayloadLaws
-pub mod DataReadingLaws
-pub mod DamageLaws
-pub mod DigitsLaws
-pub mod CodewordByteLaws
-pub mod ReadFitLaws
-pub mod RunLaws
-pub mod SameWidthLaws
-pub mod SegmentReadingLaws
-pub mod SmallChoiceLaws
-pub mod FirstsTableLaws
-pub mod VersionSearchLaws
-pub mod VersionLaws
+mod BestChoiceLaws
+mod BoundLaws
+mod ChoiceClassLaws
+mod ChoiceLimitLaws
+mod ChoiceOrderLaws
+mod DigitsLaws
+mod Examples
+mod FirstsTableLaws
+pub mod Laws
+mod RunLaws
+mod SameWidthLaws
+mod SmallChoiceLaws

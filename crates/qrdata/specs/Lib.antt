@@ -5,5 +5,4 @@ pub mod PlanView
 pub mod Private
 pub mod Reading
 pub mod Segments
-pub mod Steps
 pub mod Versions

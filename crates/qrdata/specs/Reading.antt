@@ -10,7 +10,7 @@ use Rattle.gf256.specs.Field.{alpha, field_power}
 use Rattle.gf256.specs.Polynomial.{evaluate}
 use Rattle.gf256.specs.ErrorCorrection.{wrong_codewords}
 use Rattle.labelcore.specs.declared.level.Level.{Level}
-use Rattle.qrdata.specs.Steps.{◌>>=◌}
+use Rattle.labelcore.specs.Steps.{◌>>=◌}
 use Rattle.qrdata.specs.declared.mode.Mode.{Mode}
 use Rattle.qrdata.specs.declared.mode.Mode.TheVariants.{Numeric, Alphanumeric, Byte}
 use Rattle.qrdata.specs.Bits.{number_of}

@@ -54,7 +54,7 @@ fn digit_at(digits: &[u8], place: usize) -> u32
     ensures value { result ≡ digit_value (slice_index digits.now place) }
     ensures small { result ≤ 9 }
 {
-    u32::from(digits[place] - b'0')
+    u32::from(digits[place]) - u32::from(b'0')
 }
 
 impl Bits {
@@ -82,16 +82,15 @@ impl Bits {
         ensures { bits_in self.new ≡ bits_in self.old ++ bits_of width number }
     {
         let unit = power_of_two(width);
-        let mut value = self.rest.number * unit + number % unit;
+        let value = self.rest.number * unit + number % unit;
         let mut count = self.rest.count + width;
         while count >= 8 {
             count -= 8;
-            let unit = power_of_two(count);
-            self.codewords.push((value / unit) as u8);
-            value %= unit;
+            self.codewords
+                .push((value / power_of_two(count) % 256) as u8);
         }
         self.rest = Rest {
-            number: value,
+            number: value % power_of_two(count),
             count,
         };
     }
@@ -142,29 +141,20 @@ impl Bits {
         }
     }
 
-    /// Writes a byte in eight bits. As many bits as before are left over.
-    #[inline(always)]
-    fn push_byte(&mut self, byte: u8)
-        requires room { length (bits_in self.old) + 8 ≤ MAX_BITS }
-        ensures { bits_in self.new ≡ bits_in self.old ++ bits_of 8 byte }
-    {
-        let unit = power_of_two(self.rest.count);
-        let value = self.rest.number * 256 + u32::from(byte);
-        self.codewords.push((value / unit) as u8);
-        self.rest = Rest {
-            number: value % unit,
-            count: self.rest.count,
-        };
-    }
-
-    /// Writes each byte in eight bits.
+    /// Writes each byte in eight bits. As many bits as before are left over.
     fn push_bytes(&mut self, bytes: &[u8])
         requires room { length (bits_in self.old) + 8 * length bytes.now ≤ MAX_BITS }
         ensures { bits_in self.new ≡ bits_in self.old ++ byte_bits bytes.now }
     {
+        let count = self.rest.count;
+        let unit = power_of_two(count);
+        let mut number = self.rest.number;
         for byte in bytes {
-            self.push_byte(*byte);
+            let value = number * 256 + u32::from(*byte);
+            self.codewords.push((value / unit % 256) as u8);
+            number = value % unit;
         }
+        self.rest = Rest { number, count };
     }
 
     /// Writes a payload in its mode.

@@ -139,11 +139,15 @@ fn plan_between(lowest: Version, highest: Version, level: Level, bytes: &[u8]) -
     }
 }
 
-/// Returns whether all bytes are digits.
+/// Returns whether all bytes are digits. It looks at each byte, so that the compiler can look at many at once.
 fn are_digits(bytes: &[u8]) -> bool
     ensures { result ≡ list_all is_ascii_digit bytes.now }
 {
-    bytes.iter().all(|byte| byte.is_ascii_digit())
+    let mut all = true;
+    for byte in bytes {
+        all = all & byte.is_ascii_digit();
+    }
+    all
 }
 
 /// Makes the plan of `len` digits for the smallest version from `lowest` to `highest`: one segment in numeric mode.

@@ -114,7 +114,7 @@ impl Version {
     }
 
     /// Returns the number of data bits of a symbol at a level.
-    #[tactic(auto, using(crate::proofs::VersionLaws::most_bits))]
+    #[tactic(auto, using(crate::proofs::Laws::VersionLaws::most_bits))]
     pub(crate) fn capacity(self, level: Level) -> usize
         ensures value { result ≡ capacity self level }
         ensures few { result ≤ 2192 }

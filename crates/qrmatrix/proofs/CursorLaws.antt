@@ -1,7 +1,7 @@
 -- One step of the placement.
-use Rattle.std.proofs.Common.{◌≡◌, ◌≢◌, ℕ, ◌+◌, ◌-◌, ◌*◌, ◌/◌, ◌%◌, ◌^◌, ◌<◌, ◌≤◌, refl, sym, ap, ◌∙◌, arith}
+use Rattle.std.proofs.Common.{◌≡◌, ◌≢◌, ℕ, zero, suc, ◌+◌, ◌-◌, ◌*◌, ◌/◌, ◌%◌, ◌^◌, ◌<◌, ◌≤◌, refl, sym, ap, ◌∙◌, arith}
 use Rattle.std.proofs.Common.{Bool, true, false, List, inl, inr, add-one, add-zero}
-use Rattle.std.specs.Prelude.{◌==◌, ◌&&◌, nat_lt, if◌then◌else◌}
+use Rattle.std.specs.Prelude.{◌==◌, ◌&&◌, nat_lt, if◌then◌else◌, bit_and}
 use Rattle.std.proofs.lemmas.Bool.{cases_Bool}
 use Rattle.std.proofs.lemmas.Bool.Decides.{nat_tests}
 use Rattle.qrdata.specs.Versions.{side_of}
@@ -15,8 +15,10 @@ use Rattle.qrmatrix.specs.Private.Drawing.{MarksFree}
 use Rattle.qrmatrix.specs.Private.Placing.{HasBits, IsStrip, MovesOn, Placed, ShowsFree, free_below, is_before}
 use Rattle.qrmatrix.specs.Private.Placing.{right_column, row_of}
 use Rattle.qrmatrix.specs.declared.placement.Strip.{Strip}
-use Rattle.qrmatrix.proofs.RankLaws.{free_below_more, free_below_none, rank-free_below, unique}
-use Rattle.qrmatrix.proofs.RowBitsLaws.{two_bits}
+use Rattle.qrmatrix.proofs.Laws.FunctionRowLaws.{free_turned}
+use Rattle.qrmatrix.proofs.Laws.RankLaws.{free_below_more, free_below_none, rank-free_below, unique}
+use Rattle.qrmatrix.proofs.Laws.RowBitsLaws.{and_bit, not_bit, two_bits}
+use Rattle.std.specs.Int.{bit_not, w64}
 
 -- a module is in the square but not in column 6, and has this key
 record HasKey (v x y k : ℕ) : Type 0 where
@@ -149,13 +151,93 @@ row_placed strip marked m o codewords i t free two word lt lx lf l2 shows has ri
     (2 * side_of v * strip.number + 2 * (t + 1))
     (omega arith) (omega arith) on_left
 
--- both modules of a row are free where the row's bits are ones
-pub both_free : (free : List (List Bool)) (w x y row : ℕ) → ((x : ℕ) → bit w x ≡ value_at free x y) → y ≡ row
-    → bit w x ≡ true → bit w (x + 1) ≡ true → (value_at free x row ≡ true) × (value_at free (x + 1) row ≡ true)
-both_free free w x y row bits e low high = (
-  ap (value_at free x) (sym e) ∙ sym (bits x) ∙ low,
-  ap (value_at free (x + 1)) (sym e) ∙ sym (bits (x + 1)) ∙ high,
-)
+-- the module of a row of a strip in column x is free where the row of number x has a one for it
+column_free : (v : ℕ) (strip : Strip) (marked : List (List Bool)) (word x t : ℕ) → IsStrip v strip
+    → MarksFree v marked → ((y : ℕ) → bit word y ≡ value_at marked y x) → x ≤ strip.x + 1 → t < strip.side
+    → value_at marked x (row_of strip.side strip.number t) ≡ bit word (row_of strip.side strip.number t)
+column_free v strip marked word x t is marks bits lx lt =
+    let y = row_of strip.side strip.number t in
+    let same = is.side in
+    let column = is.column in
+    let inside : x < side_of v = grind (arith, nat_tests) in
+    let row_inside : y < side_of v = grind (arith, nat_tests) in
+    marks.inside x y inside row_inside ∙ free_turned v is.least is.most x y inside row_inside
+    ∙ sym (marks.inside y x row_inside inside) ∙ sym (bits y)
+
+module _ (v : ℕ) (strip : Strip) (marked : List (List Bool)) (left right t : ℕ) (is : IsStrip v strip)
+    (marks : MarksFree v marked) (lefts : (y : ℕ) → bit left y ≡ value_at marked y strip.x)
+    (rights : (y : ℕ) → bit right y ≡ value_at marked y (strip.x + 1)) (lt : t < strip.side) where
+  -- both modules of a row are free where both words have a one
+  pub both_free : bit (bit_and left right) (row_of strip.side strip.number t) ≡ true
+      → (value_at marked strip.x (row_of strip.side strip.number t) ≡ true)
+      × (value_at marked (strip.x + 1) (row_of strip.side strip.number t) ≡ true)
+  both_free h =
+      let parts = and_bit left right (row_of strip.side strip.number t) in (
+        column_free v strip marked left strip.x t is marks lefts (omega arith) lt ∙ grind (arith, parts, h),
+        column_free v strip marked right (strip.x + 1) t is marks rights (omega arith) lt ∙ grind (arith, parts, h),
+      )
+
+  -- neither is where neither has a one
+  pub none_free : left < 2 ^ 64 → right < 2 ^ 64 → row_of strip.side strip.number t < 64
+      → bit (bit_and (bit_not w64 left) (bit_not w64 right)) (row_of strip.side strip.number t) ≡ true
+      → (value_at marked strip.x (row_of strip.side strip.number t) ≡ false)
+      × (value_at marked (strip.x + 1) (row_of strip.side strip.number t) ≡ false)
+  none_free l r few h =
+      let y = row_of strip.side strip.number t in
+      let parts = and_bit (bit_not w64 left) (bit_not w64 right) y in
+      let no_left = not_bit left y l few in
+      let no_right = not_bit right y r few in (
+        column_free v strip marked left strip.x t is marks lefts (omega arith) lt
+            ∙ grind (arith, parts, h, no_left, no_right),
+        column_free v strip marked right (strip.x + 1) t is marks rights (omega arith) lt
+            ∙ grind (arith, parts, h, no_left, no_right),
+      )
+
+-- no bit is laid over a module
+unlaid : (here b : Bool) → b ≡ flip_if (here && false) b
+unlaid true b = refl
+unlaid false b = refl
+
+-- a row of a strip that has no free module is passed
+row_passed : (strip : Strip) (marked m : List (List Bool)) (codewords : List ℕ) (i t : ℕ) → t < strip.side
+    → value_at marked (strip.x + 1) (row_of strip.side strip.number t) ≡ false
+    → value_at marked strip.x (row_of strip.side strip.number t) ≡ false
+    → MovesOn strip marked codewords m m i t i (t + 1)
+row_passed strip marked m codewords i t lt right left v start is marks p =
+    let x = strip.x in
+    let y = row_of strip.side strip.number t in
+    let k = 2 * side_of v * strip.number + 2 * t in
+    let inside : t < side_of v = let same = is.side in omega arith in
+    let row = ap (λ n. row_of n strip.number t) is.side in
+    let column = is.column in
+    let r : HasKey v (x + 1) y k =
+    has_key v (x + 1) y k strip.number t 0 is.number inside (omega arith) (omega arith) row (omega arith) in
+    let l : HasKey v x y (k + 1) =
+    has_key v x y (k + 1) strip.number t 1 is.number inside (omega arith) column row (omega arith) in
+    let no_right : is_free v (x + 1) y ≡ false = sym (marks.inside (x + 1) y r.inside r.row_inside) ∙ right in
+    let no_left : is_free v x y ≡ false = sym (marks.inside x y l.inside l.row_inside) ∙ left in
+    let i' = i + one_if (is_free v (x + 1) y) in
+    let on_right = step v is.least is.most codewords start (value_at m) i k (x + 1) y p r (value_at m) false
+    (rw no_right refl) (λ a b. unlaid ((a == x + 1) && (b == y)) (value_at m a b)) in
+    let on_left = step v is.least is.most codewords start (value_at m) i' (k + 1) x y on_right l (value_at m) false
+    (rw no_left refl) (λ a b. unlaid ((a == x) && (b == y)) (value_at m a b)) in
+    let none : i' + one_if (is_free v x y) ≡ i = rw (no_right, no_left) (omega arith) in
+    placed_as (i' + one_if (is_free v x y)) i (k + 1 + 1) (2 * side_of v * strip.number + 2 * (t + 1)) none
+    (omega arith) on_left
+
+-- rows of a strip that have no free module are passed
+pub rows_passed : (strip : Strip) (marked m : List (List Bool)) (codewords : List ℕ) (i t count : ℕ)
+    → t + count ≤ strip.side
+    → ((j : ℕ) → j < count → (value_at marked strip.x (row_of strip.side strip.number (t + j)) ≡ false)
+    × (value_at marked (strip.x + 1) (row_of strip.side strip.number (t + j)) ≡ false))
+    → MovesOn strip marked codewords m m i t i (t + count)
+rows_passed strip marked m codewords i t zero inside none v start is marks p =
+    renumbered strip.number i i t (t + 0) refl (omega arith) p
+rows_passed strip marked m codewords i t (suc count) inside none v start is marks p =
+    let row = none count (omega arith) in
+    renumbered strip.number i i (t + count + 1) (t + suc count) refl (omega arith)
+    (row_passed strip marked m codewords i (t + count) (omega arith) row.1 row.0 v start is marks
+    (rows_passed strip marked m codewords i t count (omega arith) (λ j l. none j (omega arith)) v start is marks p))
 
 -- a whole strip is placed
 pub strip_placed : (v k i j : ℕ) (strip : Strip) (codewords : List ℕ) (start : ℕ → ℕ → Bool)

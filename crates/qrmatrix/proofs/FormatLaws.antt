@@ -13,8 +13,8 @@ use Rattle.qrmatrix.specs.Private.Drawing.{format_module}
 use Rattle.qrmatrix.specs.Private.FunctionRows.{column_of_bit, row_of_bit}
 use Rattle.qrmatrix.specs.Private.Squares.{flip_if}
 use Rattle.qrmatrix.specs.Square.{value_at}
-use Rattle.qrmatrix.proofs.FunctionRowLaws.{index_of}
-use Rattle.qrmatrix.proofs.RowBitsLaws.{two_bits}
+use Rattle.qrmatrix.proofs.Laws.FunctionRowLaws.{index_of}
+use Rattle.qrmatrix.proofs.Laws.RowBitsLaws.{two_bits}
 
 -- a module shows a bit below i that is one
 abbrev pub shows_below : ℕ → ℕ → Option ℕ → Bool

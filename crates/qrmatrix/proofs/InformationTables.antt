@@ -7,7 +7,7 @@ use Rattle.labelcore.specs.declared.level.Level.{Level}
 use Rattle.labelcore.specs.declared.level.Level.TheVariants.{L, M, Q, H}
 use Rattle.qrmatrix.specs.Information.{format_information, level_indicator}
 use Rattle.qrmatrix.specs.declared.information.TheConstants.{FORMATS}
-use Rattle.qrmatrix.proofs.ComputedLaws.{same_at}
+use Rattle.labelcore.proofs.Laws.ComputedLaws.{same_at}
 
 abbrev pub format_entry : ℕ → ℕ → ℕ
 format_entry indicator mask = slice_index_or (slice_index_or {A = List ℕ} FORMATS indicator []) mask 0

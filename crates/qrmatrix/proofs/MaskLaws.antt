@@ -8,8 +8,8 @@ use Rattle.qrmatrix.specs.Bits.{bit}
 use Rattle.qrmatrix.specs.Masks.{is_flipped}
 use Rattle.qrmatrix.specs.Square.{value_at}
 use Rattle.qrmatrix.specs.Private.Drawing.{IsMaskedTo, module_under_mask}
-use Rattle.qrmatrix.proofs.SumLaws.{all_below, all_below_at}
-use Rattle.qrmatrix.proofs.RowBitsLaws.{above_bit, and_bit, same_beq, xor_bit}
+use Rattle.qrmatrix.proofs.Laws.SumLaws.{all_below, all_below_at}
+use Rattle.qrmatrix.proofs.Laws.RowBitsLaws.{above_bit, and_bit, same_beq, xor_bit}
 use Rattle.std.proofs.lemmas.Bool.Decides.{nat_tests}
 use Rattle.std.proofs.lemmas.Bool.{cases_eq, cases_lt}
 use Rattle.std.proofs.lemmas.Nat.{mul-mod}

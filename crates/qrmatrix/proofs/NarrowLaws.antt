@@ -1,12 +1,11 @@
--- The penalty without that of finder patterns reads the modules of the symbol alone.
+-- The penalty reads the modules of the symbol alone.
 use Rattle.std.proofs.Common.{◌≡◌, ℕ, ◌+◌, ◌-◌, ◌*◌, ◌<◌, refl, sym, ap, ◌∙◌, arith, Bool}
 use Rattle.qrmatrix.specs.Private.Counting.{count_below, sum_below}
-use Rattle.qrmatrix.specs.Private.PenaltyParts.{penalty_without_finders}
 use Rattle.qrmatrix.specs.Penalty.{balance_penalty, dark_count, is_one_colour, run_penalty, square_penalty, window_points}
-use Rattle.qrmatrix.specs.Penalty.{shows_finder}
+use Rattle.qrmatrix.specs.Penalty.{penalty, shows_finder}
 use Rattle.qrmatrix.proofs.FinderLaws.{shows_finder-parts}
-use Rattle.qrmatrix.proofs.PenaltySumLaws.{dark_count-sum, run_penalty-sum, square_penalty-sum}
-use Rattle.qrmatrix.proofs.SumLaws.{sum_below_same}
+use Rattle.qrmatrix.proofs.PenaltySumLaws.{dark_count-sum, penalty_parts, run_penalty-sum, square_penalty-sum}
+use Rattle.qrmatrix.proofs.Laws.SumLaws.{sum_below_same}
 use Rattle.qrmatrix.proofs.WindowLaws.{count_same, five_equal}
 
 -- the points of a window
@@ -71,19 +70,43 @@ module _ (n : ℕ) (m k : ℕ → ℕ → Bool) (same : (x y : ℕ) → x < n �
       (λ y ly. count_same n (λ x. m x y) (λ x. k x y) (λ x lx. same x y lx ly))
       ∙ sym (dark_count-sum n k)
 
-  pub without_finders-same : penalty_without_finders n m ≡ penalty_without_finders n k
-  without_finders-same =
-      let rows = sum_below_same n (λ y. run_penalty n (λ x. m x y)) (λ y. run_penalty n (λ x. k x y))
-      (λ y ly. runs-same n (λ x. m x y) (λ x. k x y) (λ x lx. same x y lx ly)) in
-      let columns = sum_below_same n (λ x. run_penalty n (λ y. m x y)) (λ x. run_penalty n (λ y. k x y))
-      (λ x lx. runs-same n (λ y. m x y) (λ y. k x y) (λ y ly. same x y lx ly)) in
-      let balance = ap (balance_penalty n) dark-same in
-      omega (arith, squares-same)
+  runs_of_rows-same : sum_below n (λ y. run_penalty n (λ x. m x y)) ≡ sum_below n (λ y. run_penalty n (λ x. k x y))
+  runs_of_rows-same =
+      sum_below_same n (λ y. run_penalty n (λ x. m x y)) (λ y. run_penalty n (λ x. k x y))
+      (λ y ly. runs-same n (λ x. m x y) (λ x. k x y) (λ x lx. same x y lx ly))
 
-  pub finders-same : sum_below n (λ y. count_below (n - 10) (shows_finder (λ x. m x y)))
+  runs_of_columns-same : sum_below n (λ x. run_penalty n (λ y. m x y)) ≡ sum_below n (λ x. run_penalty n (λ y. k x y))
+  runs_of_columns-same =
+      sum_below_same n (λ x. run_penalty n (λ y. m x y)) (λ x. run_penalty n (λ y. k x y))
+      (λ x lx. runs-same n (λ y. m x y) (λ y. k x y) (λ y ly. same x y lx ly))
+
+  finders_of_rows-same : sum_below n (λ y. count_below (n - 10) (shows_finder (λ x. m x y)))
       ≡ sum_below n (λ y. count_below (n - 10) (shows_finder (λ x. k x y)))
-  finders-same =
+  finders_of_rows-same =
       sum_below_same n (λ y. count_below (n - 10) (shows_finder (λ x. m x y)))
       (λ y. count_below (n - 10) (shows_finder (λ x. k x y))) (λ y ly.
       count_same (n - 10) (shows_finder (λ x. m x y)) (shows_finder (λ x. k x y)) (λ x lx.
       finder-same n x (λ x. m x y) (λ x. k x y) lx (λ j lj. same j y lj ly)))
+
+  finders_of_columns-same : sum_below (n - 10) (λ y. count_below n (λ x. shows_finder (m x) y))
+      ≡ sum_below (n - 10) (λ y. count_below n (λ x. shows_finder (k x) y))
+  finders_of_columns-same =
+      sum_below_same (n - 10) (λ y. count_below n (λ x. shows_finder (m x) y))
+      (λ y. count_below n (λ x. shows_finder (k x) y)) (λ y ly.
+      count_same n (λ x. shows_finder (m x) y) (λ x. shows_finder (k x) y) (λ x lx.
+      finder-same n y (m x) (k x) ly (λ j lj. same x j lx lj)))
+
+  pub penalty-same : penalty n m ≡ penalty n k
+  penalty-same =
+      let balance = ap (balance_penalty n) dark-same in
+      omega (
+        arith,
+        penalty_parts n m,
+        penalty_parts n k,
+        runs_of_rows-same,
+        runs_of_columns-same,
+        squares-same,
+        finders_of_rows-same,
+        finders_of_columns-same,
+        balance,
+      )

@@ -7,8 +7,8 @@ use Rattle.std.proofs.lemmas.Bool.Decides.{nat_tests}
 use Rattle.std.proofs.Math.Nat.{pow-suc, div-lt_iff_lt-mul}
 use Rattle.qrmatrix.specs.Private.Counting.{count_below, one_if}
 use Rattle.qrmatrix.specs.Bits.{bit}
-use Rattle.qrmatrix.proofs.RowBitsLaws.{mod_bit}
-use Rattle.qrmatrix.proofs.SumLaws.{sum_below_same}
+use Rattle.qrmatrix.proofs.Laws.RowBitsLaws.{mod_bit}
+use Rattle.qrmatrix.proofs.Laws.SumLaws.{sum_below_same}
 
 one_if_bit : (n i : ℕ) → one_if (bit n i) ≡ n / 2 ^ i % 2
 one_if_bit n i = grind (arith, nat_tests)

@@ -3,9 +3,9 @@ use Rattle.std.proofs.Common.{◌≡◌, ℕ, ◌+◌, ◌-◌, ◌*◌, ap, ari
 use Rattle.qrmatrix.specs.Private.Counting.{sum_below, count_below, one_if}
 use Rattle.qrmatrix.specs.Penalty.{balance_penalty, dark_count, finder_penalty, is_one_colour, line_penalty, penalty}
 use Rattle.qrmatrix.specs.Penalty.{run_penalty, shows_finder, square_penalty, window_points}
-use Rattle.qrmatrix.specs.Private.PenaltyParts.{finder_windows, penalty_without_finders}
+use Rattle.qrmatrix.specs.Private.PenaltyParts.{finder_windows, row_penalty}
 use Rattle.qrmatrix.proofs.RowSumLaws.{sum_added, sum_exchanged, sum_scaled}
-use Rattle.qrmatrix.proofs.SumLaws.{count_by-range, sum_below_same, sum_by-count_by, sum_by-range}
+use Rattle.qrmatrix.proofs.Laws.SumLaws.{count_by-range, sum_below_same, sum_by-count_by, sum_by-range}
 
 pub run_penalty-sum : (n : ℕ) (line : ℕ → Bool) → run_penalty n line ≡ sum_below (n - 4) (window_points line)
 unfolding run_penalty
@@ -43,9 +43,9 @@ lines_summed n lines =
     let scaled = sum_scaled n 40 (λ y. count_below (n - 10) (shows_finder (lines y))) in
     omega arith
 
--- the windows that look like a finder pattern, and the rest
+-- what is counted row by row, the runs in columns, and the windows that look like a finder pattern
 pub penalty_parts : (n : ℕ) (m : ℕ → ℕ → Bool)
-    → penalty n m ≡ penalty_without_finders n m + 40 * finder_windows n m
+    → penalty n m ≡ row_penalty n m + sum_below n (λ x. run_penalty n (λ y. m x y)) + 40 * finder_windows n m
 penalty_parts n m =
     let whole = penalty-sum n m in
     let rows = lines_summed n (λ y x. m x y) in

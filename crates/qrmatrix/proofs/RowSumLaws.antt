@@ -1,16 +1,16 @@
 -- Sums and counts of the bits of rows.
 use Rattle.std.proofs.Common.{◌≡◌, ℕ, zero, suc, ◌+◌, ◌-◌, ◌*◌, ◌%◌, ◌<◌, ◌≤◌, refl, sym, ap, ◌∙◌, arith, Bool, true, false}
 use Rattle.std.proofs.Common.{inl, inr}
-use Rattle.std.specs.Prelude.{count_ones, bit_and, ◌^◌, if◌then◌else◌, ◌&&◌}
+use Rattle.std.specs.Prelude.{count_ones, bit_and, ◌^◌, if◌then◌else◌, nat_lt, ◌&&◌}
 use Rattle.std.proofs.lemmas.Bool.{cases_eq}
 use Rattle.std.proofs.lemmas.Bool.Decides.{nat_tests}
 use Rattle.std.proofs.lemmas.Nat.{and_le_r, one_shl, pow_pos}
 use Rattle.std.proofs.Math.Pow.{pow_mono}
 use Rattle.qrmatrix.specs.Bits.{bit}
 use Rattle.qrmatrix.proofs.OnesLaws.{ones_counted}
-use Rattle.qrmatrix.proofs.RowBitsLaws.{and_bit, low_bit}
+use Rattle.qrmatrix.proofs.Laws.RowBitsLaws.{and_bit, low_bit}
 use Rattle.qrmatrix.specs.Private.Counting.{sum_below, count_below, one_if}
-use Rattle.qrmatrix.proofs.SumLaws.{sum_below_same, sum_below_zero}
+use Rattle.qrmatrix.proofs.Laws.SumLaws.{sum_below_same, sum_below_zero}
 
 pub count_small : (n : ℕ) (p : ℕ → Bool) → count_below n p ≤ n
 count_small zero p = omega arith
@@ -57,6 +57,11 @@ pub sum_exchanged : (n m : ℕ) (f : ℕ → ℕ → ℕ)
 sum_exchanged zero m f = sym (sum_below_zero m (λ y. 0) (λ k l. refl))
 sum_exchanged (suc n) m f = ap (λ z. z + sum_below m (f n)) (sum_exchanged n m f)
     ∙ sym (sum_added m (λ y. sum_below n (λ x. f x y)) (f n))
+
+-- the row of the ones below n, where a word has k bits
+pub lowest_bit : (k w n : ℕ) → n < k → (i : ℕ)
+    → bit (bit_and w (1 * 2 ^ n % 2 ^ k - 1)) i ≡ (nat_lt i n && bit w i)
+lowest_bit k w n l i = rw (one_shl n k l) (grind (arith, nat_tests, and_bit w (2 ^ n - 1) i, low_bit n i))
 
 -- the ones of a row below n, where a word has k bits
 pub ones_below : (k w n : ℕ) → n < k → count_ones (bit_and w (1 * 2 ^ n % 2 ^ k - 1)) ≡ count_below n (bit w)

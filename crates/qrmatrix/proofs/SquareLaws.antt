@@ -10,7 +10,7 @@ use Rattle.std.proofs.lemmas.List.Elements.{All-head, All-tail, All-set}
 use Rattle.std.proofs.lemmas.List.FromFn.{get_or-map-range_with_len}
 use Rattle.std.proofs.lemmas.Nat.{xor_lt}
 use Rattle.qrmatrix.specs.Private.Squares.{flip_if}
-use Rattle.qrmatrix.proofs.RowBitsLaws.{above_bit, xor_bit}
+use Rattle.qrmatrix.proofs.Laws.RowBitsLaws.{above_bit, xor_bit}
 use Rattle.qrmatrix.specs.Bits.{bit}
 use Rattle.qrmatrix.specs.Square.{value_at}
 use Rattle.qrmatrix.specs.Private.RowBits.{low_bits, AreRows}

@@ -7,7 +7,7 @@ use Rattle.std.proofs.lemmas.Bool.{cases_eq, le-leb, ne_eqb}
 use Rattle.qrmatrix.specs.Private.Counting.{sum_below, count_below, one_if}
 use Rattle.qrmatrix.specs.Penalty.{begins_run, run_penalty, is_uniform, window_points}
 use Rattle.qrmatrix.proofs.PenaltySumLaws.{run_penalty-sum}
-use Rattle.qrmatrix.proofs.SumLaws.{sum_below_same}
+use Rattle.qrmatrix.proofs.Laws.SumLaws.{sum_below_same}
 use Rattle.qrmatrix.proofs.RowSumLaws.{sum_exchanged}
 
 pub count_same : (n : ℕ) (p q : ℕ → Bool) → ((i : ℕ) → i < n → p i ≡ q i) → count_below n p ≡ count_below n q

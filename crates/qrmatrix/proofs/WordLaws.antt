@@ -1,13 +1,12 @@
 -- What operations on whole rows say of the line of modules in a row, for words of any width.
-use Rattle.std.proofs.Common.{◌≡◌, ℕ, ◌+◌, ◌-◌, ◌<◌, ap, ◌∙◌, arith, Bool, true, false, not, refl, ◌&&◌, ◌||◌, sym}
-use Rattle.std.specs.Prelude.{nat_le}
+use Rattle.std.proofs.Common.{◌≡◌, ℕ, ◌+◌, ◌-◌, ◌∙◌, arith, Bool, false, not, refl, ◌&&◌, ◌||◌, sym}
 use Rattle.std.specs.Bool.{beq}
 use mathlib.Core.Logic.{◌≢◌}
 use Rattle.std.proofs.lemmas.Bool.{ne_eqb}
 use Rattle.qrmatrix.specs.Penalty.{begins_run, is_one_colour, is_uniform, shows_finder}
 use Rattle.qrmatrix.specs.Private.PenaltyParts.{finder_from, light_from}
 use Rattle.qrmatrix.proofs.FinderLaws.{shows_finder-parts}
-use Rattle.qrmatrix.proofs.WindowLaws.{five_equal, not_before}
+use Rattle.qrmatrix.proofs.WindowLaws.{five_equal}
 
 pub same_where_not_different : (a b : Bool) → not (not (beq b a)) ≡ beq b a
 same_where_not_different a b = grind arith
@@ -71,14 +70,6 @@ pub dark_is : (line moved two moved_two : ℕ → Bool)
     → (i : ℕ) → (two i || moved_two i) ≡ not (light_from line i)
 dark_is line moved two moved_two is_moved is_two is_moved_two i =
     rw (is_moved_two i, is_two i, is_two (i + 2), is_moved i, is_moved (i + 2)) (grind arith)
-
--- a run begins at each window of one colour that comes after none
-pub run_begins : (line uniform moved : ℕ → Bool) (width : ℕ)
-    → ((i : ℕ) → i < width → uniform i ≡ is_uniform line i 5)
-    → ((i : ℕ) → i < width → moved i ≡ (nat_le 1 i && uniform (i - 1)))
-    → (i : ℕ) → i < width → is_uniform line i 5 ≡ true → not (moved i) ≡ begins_run line i
-run_begins line uniform moved width marks is_moved i l here =
-    ap not (is_moved i l ∙ ap (λ b. nat_le 1 i && b) (marks (i - 1) (omega arith))) ∙ not_before line i here
 
 -- a module that is not dark is light
 not_dark : (f l g r : Bool) → ((f && not (not l)) || (g && not (not r))) ≡ ((f && l) || (r && g))

@@ -10,7 +10,7 @@ use Rattle.gf256.specs.BinaryPolynomial.{binary_remainder}
 use Rattle.gf256.specs.ErrorCorrection.{wrong_codewords}
 use Rattle.labelcore.specs.declared.level.Level.{Level}
 use Rattle.labelcore.specs.declared.level.Level.TheVariants.{L, M, Q, H}
-use Rattle.qrdata.specs.Steps.{◌>>=◌}
+use Rattle.labelcore.specs.Steps.{◌>>=◌}
 use Rattle.qrdata.specs.Bits.{number_of, codewords_of}
 use Rattle.qrdata.specs.Reading.{data_in}
 use Rattle.qrdata.specs.Versions.{total_codewords, side_of}

@@ -11,7 +11,7 @@ ghost use Rattle.qrmatrix.specs.Private.Squares.{IsWithin};
 
 use crate::penalty::penalty;
 use crate::square::{SIDE, Square};
-use crate::unmasked::Unmasked;
+use crate::unmasked::{Masked, Unmasked};
 use labelcore::Level;
 use qrdata::{Mask, Version, Words, are_bytes};
 use std::marker::Model;
@@ -49,11 +49,19 @@ impl Matrix {
         ensures { IsSymbolOf version level mask words.now.items result }
     {
         are_bytes(words);
-        let unmasked = Unmasked::draw(version, level, words);
-        let masked = match mask {
-            Some(number) => unmasked.under(Mask::of(number)),
-            None => unmasked.under_best_mask(),
+        // Symbols are drawn where they stay: one that a function returns is copied.
+        let mut unmasked = Unmasked {
+            version,
+            level,
+            free: Square::new(),
+            modules: Square::new(),
         };
+        unmasked.draw(words);
+        let mut masked = Masked::blank();
+        match mask {
+            Some(number) => unmasked.draw_under(Mask::of(number), &mut masked),
+            None => unmasked.draw_under_best_mask(&mut masked),
+        }
         Matrix {
             side: version.side(),
             mask: masked.mask,

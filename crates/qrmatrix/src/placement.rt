@@ -1,6 +1,7 @@
-//! The placement of the codewords: a cursor goes along the strips and counts the free modules, four rows of a strip at
-//! once where all of their modules are free.
-ghost use Rattle.std.specs.Prelude.{◌≡◌, ℕ, ◌+◌, ◌-◌, ◌*◌, ◌/◌, ◌%◌, ◌<◌, ◌≤◌, true, false, IsTrue, List, Bool, length};
+//! The placement of the codewords: a cursor goes along the strips and counts the free modules. A column of a symbol has
+//! the same free modules as the row of its number, so that a word tells how many rows of a strip, one after the other,
+//! are free or are none.
+ghost use Rattle.std.specs.Prelude.{◌≡◌, ℕ, ◌+◌, ◌-◌, ◌*◌, ◌/◌, ◌<◌, ◌≤◌, true, false, List, Bool, length};
 ghost use Rattle.std.specs.Prelude.{slice_index};
 ghost use Rattle.qrdata.specs.Versions.{side_of};
 ghost use Rattle.qrmatrix.specs.Functions.{is_free};
@@ -12,9 +13,12 @@ ghost use Rattle.qrmatrix.specs.Private.Drawing.{MarksFree, PlacesCodewords};
 use crate::square::{SIDE, Square};
 use qrdata::{Version, Words};
 
-/// Room for the codewords and zeros after them: enough that each module of the largest symbol has a bit, and one byte
+/// Room for the codewords and zeros after them: enough that each module of the largest symbol has a bit, and seven bytes
 /// more.
-const ROOM: usize = 402;
+const ROOM: usize = 408;
+
+/// The most rows of a strip that are placed at once: a word of the codewords has the bits for them.
+const ROWS: usize = 28;
 
 /// Two columns of a symbol.
 #[derive(Clone, Copy)]
@@ -61,6 +65,24 @@ impl Strip {
             t
         }
     }
+
+    /// Returns how many rows, from the one that the strip reaches after `t` others on, have a one in a word with a bit
+    /// for each row: at most `ROWS`.
+    #[inline(always)]
+    fn ones_from(self, word: u64, t: usize) -> usize
+        requires side { self.side ≤ SIDE }
+        requires row { t < self.side }
+        ensures ones { (j : ℕ) → j < result → bit word (row_of self.side self.number (t + j)) ≡ true }
+        ensures inside { t + result ≤ self.side }
+        ensures bound { result ≤ ROWS }
+    {
+        let ones = if self.number % 2 == 0 {
+            (!(word << (64 - self.side + t))).leading_zeros()
+        } else {
+            (!(word >> t)).trailing_zeros()
+        };
+        (ones as usize).min(ROWS).min(self.side - t)
+    }
 }
 
 /// Returns the codewords with zeros after them.
@@ -73,18 +95,18 @@ fn with_zeros(codewords: &[u8]) -> [u8; ROOM]
     bytes
 }
 
-/// Returns the bits of the codewords from bit `i` on, at least nine, the first one the highest.
+/// Returns the bits of the codewords from bit `i` on, at least 57, the first one the highest.
 #[tactic(auto, using(crate::proofs::TwoBitsLaws::codeword_more))]
 fn bits_from(bytes: &[u8; ROOM], i: usize) -> u64
-    requires { i < 8 * (ROOM - 2) }
-    ensures { HasBits 9 result bytes.now i }
+    requires { i < 8 * (ROOM - 8) }
+    ensures { HasBits 57 result bytes.now i }
 {
     let first = i / 8;
     let mut bits = 0;
-    for j in 0..2 {
+    for j in 0..8 {
         bits = (bits << 8) | u64::from(bytes[first + j]);
     }
-    bits << (48 + i % 8)
+    bits << (i % 8)
 }
 
 /// Returns bit `x` and, one place higher, the next one.
@@ -125,78 +147,22 @@ fn place_row(free: &Square, modules: &mut Square, x: usize, y: usize, bits: u64)
     (free_pair as usize + 1) / 2
 }
 
-/// Returns whether both modules of the strip are free in row `t` and in the next three that it reaches.
-fn are_four_free(strip: Strip, t: usize, free: &Square) -> bool
-    requires side { strip.side ≤ SIDE }
-    requires column { strip.x + 1 < SIDE }
-    requires row { t + 3 < strip.side }
-    ensures { IsTrue result → (j : ℕ) → j < 4
-        → (value_at free.now strip.x (row_of strip.side strip.number (t + j)) ≡ true)
-        × (value_at free.now (strip.x + 1) (row_of strip.side strip.number (t + j)) ≡ true) }
-{
-    let rows = free.row(strip.row(t))
-        & free.row(strip.row(t + 1))
-        & free.row(strip.row(t + 2))
-        & free.row(strip.row(t + 3));
-    pair_at(rows, strip.x) == 3
-}
-
-/// Places eight bits on four rows whose modules are free, from row `t` on.
-fn place_free(strip: Strip, t: usize, bits: u64, modules: &mut Square)
-    requires side { strip.side ≤ SIDE }
-    requires column { strip.x + 1 < SIDE }
-    requires row { t + 3 < strip.side }
-    ensures { (free : List (List Bool)) → ((j : ℕ) → j < 4
-        → (value_at free strip.x (row_of strip.side strip.number (t + j)) ≡ true)
-        × (value_at free (strip.x + 1) (row_of strip.side strip.number (t + j)) ≡ true))
-        → (codewords : List ℕ) (i : ℕ) → HasBits 9 bits codewords i
-        → MovesOn strip free codewords modules.old modules.new i t (i + 8) (t + 4) }
-{
-    for j in 0..4 {
-        let pair = bits_for_pair(3, bits << (2 * j));
-        modules.flip(strip.row(t + j), pair << strip.x);
-    }
-}
-
-/// Places bits on the free modules of `count` rows, at most four of them, from row `t` on, and returns how many.
-fn place_rows(
-    strip: Strip,
-    t: usize,
-    count: usize,
-    bits: u64,
-    free: &Square,
-    modules: &mut Square,
-) -> usize
+/// Places bits on `count` rows whose modules are free, from row `t` on.
+fn place_free(strip: Strip, t: usize, count: usize, bits: u64, modules: &mut Square)
     requires side { strip.side ≤ SIDE }
     requires column { strip.x + 1 < SIDE }
     requires row { t + count ≤ strip.side }
-    requires count { count ≤ 4 }
-    ensures placed { (codewords : List ℕ) (i : ℕ) → HasBits 9 bits codewords i
-        → MovesOn strip free.now codewords modules.old modules.new i t (i + result) (t + count) }
-    ensures bound { result ≤ 2 * count }
+    requires count { count ≤ ROWS }
+    ensures { (free : List (List Bool)) → ((j : ℕ) → j < count
+        → (value_at free strip.x (row_of strip.side strip.number (t + j)) ≡ true)
+        × (value_at free (strip.x + 1) (row_of strip.side strip.number (t + j)) ≡ true))
+        → (codewords : List ℕ) (i : ℕ) → HasBits 57 bits codewords i
+        → MovesOn strip free codewords modules.old modules.new i t (i + 2 * count) (t + count) }
 {
-    let mut placed = 0;
+    let mut rest = bits;
     for j in 0..count {
-        placed += place_row(free, modules, strip.x, strip.row(t + j), bits << placed);
-    }
-    placed
-}
-
-/// Places the bits from bit `i` on on four rows of a strip, from row `t` on, and returns how many.
-#[inline(always)]
-fn place_four(strip: Strip, t: usize, bits: u64, free: &Square, modules: &mut Square) -> usize
-    requires side { strip.side ≤ SIDE }
-    requires column { strip.x + 1 < SIDE }
-    requires row { t + 3 < strip.side }
-    ensures placed { (codewords : List ℕ) (i : ℕ) → HasBits 9 bits codewords i
-        → MovesOn strip free.now codewords modules.old modules.new i t (i + result) (t + 4) }
-    ensures bound { result ≤ 8 }
-{
-    if are_four_free(strip, t, free) {
-        place_free(strip, t, bits, modules);
-        8
-    } else {
-        place_rows(strip, t, 4, bits, free, modules)
+        modules.flip(strip.row(t + j), bits_for_pair(3, rest) << strip.x);
+        rest = rest << 2;
     }
 }
 
@@ -209,26 +175,33 @@ fn place_strip(
     modules: &mut Square,
     first: usize,
 ) -> usize
-    requires side { (strip.side ≤ SIDE) × (strip.side % 4 ≡ 1) }
+    requires side { strip.side ≤ SIDE }
     requires column { strip.x + 1 < SIDE }
-    requires first { first + 2 * strip.side < 8 * (ROOM - 2) }
+    requires first { first + 2 * strip.side < 8 * (ROOM - 8) }
     ensures placed { MovesOn strip free.now bytes.now modules.old modules.new first 0 result strip.side }
     ensures bound { result ≤ first + 2 * strip.side }
 {
-    // Row 0 is placed alone, so that the four rows are the same ones in each strip.
-    let begin = strip.number % 2;
-    let mut i = first + place_rows(strip, 0, begin, bits_from(bytes, first), free, modules);
-    for block in 0..strip.side / 4 {
-        i += place_four(strip, begin + 4 * block, bits_from(bytes, i), free, modules);
+    let left = free.row(strip.x);
+    let right = free.row(strip.x + 1);
+    let mut i = first;
+    let mut t = 0;
+    while t < strip.side {
+        let both = strip.ones_from(left & right, t);
+        if 0 < both {
+            place_free(strip, t, both, bits_from(bytes, i), modules);
+            i += 2 * both;
+            t += both;
+            continue;
+        }
+        let neither = strip.ones_from(!left & !right, t);
+        if 0 < neither {
+            t += neither;
+        } else {
+            i += place_row(free, modules, strip.x, strip.row(t), bits_from(bytes, i));
+            t += 1;
+        }
     }
-    i + place_rows(
-        strip,
-        strip.side - 1 + begin,
-        1 - begin,
-        bits_from(bytes, i),
-        free,
-        modules,
-    )
+    i
 }
 
 /// Places the codewords on the free modules, strip after strip from the right, upwards and downwards in turn (ISO/IEC

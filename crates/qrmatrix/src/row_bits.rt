@@ -77,20 +77,27 @@ pub fn dark_in_four<W: Word>(row: W) -> W
 }
 
 /// Returns the places at which seven rows, one after the other, have the modules of a finder pattern.
-#[tactic(auto, using(crate::proofs::RowBitsLaws::and_bit, crate::proofs::RowBitsLaws::not_bit))]
-pub fn finders_in(a: u64, b: u64, c: u64, d: u64, e: u64, f: u64, g: u64) -> u64
-    ensures { (i : ℕ) → i < 64 → bit result i
-        ≡ is_finder (bit a i) (bit b i) (bit c i) (bit d i) (bit e i) (bit f i) (bit g i) }
+pub fn finders_in<W: Word>(a: W, b: W, c: W, d: W, e: W, f: W, g: W) -> W
+    ensures { (i : ℕ) → i < W.width → W.bits result i
+        ≡ is_finder (W.bits a i) (W.bits b i) (W.bits c i) (W.bits d i) (W.bits e i) (W.bits f i) (W.bits g i) }
 {
-    a & !b & c & d & e & !f & g
+    a.and(b.inverse())
+        .and(c)
+        .and(d)
+        .and(e)
+        .and(f.inverse())
+        .and(g)
 }
 
 /// Returns the places at which four rows are light.
-#[tactic(auto, using(crate::proofs::RowBitsLaws::and_bit, crate::proofs::RowBitsLaws::not_bit))]
-pub fn light_in(a: u64, b: u64, c: u64, d: u64) -> u64
-    ensures { (i : ℕ) → i < 64 → bit result i ≡ is_light (bit a i) (bit b i) (bit c i) (bit d i) }
+pub fn light_in<W: Word>(a: W, b: W, c: W, d: W) -> W
+    ensures { (i : ℕ) → i < W.width → W.bits result i
+        ≡ is_light (W.bits a i) (W.bits b i) (W.bits c i) (W.bits d i) }
 {
-    !a & !b & !c & !d
+    a.inverse()
+        .and(b.inverse())
+        .and(c.inverse())
+        .and(d.inverse())
 }
 
 /// Returns the penalty of runs in the lowest `count` places. `uniform` has the places at which windows of one colour

@@ -33,13 +33,6 @@ impl Square {
         Square { rows: [0; SIDE] }
     }
 
-    /// Returns a copy.
-    pub fn copied(&self) -> Square
-        ensures { result ≡ self.now }
-    {
-        Square { rows: self.rows }
-    }
-
     /// Takes over the values of another square.
     pub fn copy_from(&mut self, other: &Square)
         ensures { self.new ≡ other.now }

@@ -50,12 +50,12 @@ pub fn draw_functions(version: Version, free: &mut Square, modules: &mut Square)
 /// A symbol that no mask is laid over yet, without its format information.
 #[derive(Drop)]
 pub struct Unmasked {
-    version: Version,
-    level: Level,
+    pub version: Version,
+    pub level: Level,
     /// The modules that the codewords choose.
-    free: Square,
+    pub free: Square,
     /// The modules that are dark.
-    modules: Square,
+    pub modules: Square,
 }
 
 /// A symbol under a mask.
@@ -67,13 +67,13 @@ pub struct Masked {
 }
 
 impl Masked {
-    /// Returns a copy.
-    fn copied(&self) -> Masked
-        ensures { result ≡ self.now }
+    /// Returns a blank symbol.
+    pub fn blank() -> Masked
+        ensures { IsBlank result.modules }
     {
         Masked {
-            mask: self.mask,
-            modules: self.modules.copied(),
+            mask: Mask::of(0),
+            modules: Square::new(),
         }
     }
 
@@ -101,41 +101,18 @@ impl Masked {
 }
 
 impl Unmasked {
-    /// Draws the codewords without a mask.
-    pub fn draw(version: Version, level: Level, codewords: &Words) -> Unmasked
-        ensures { Draws version level codewords.now.items result }
+    /// Draws the codewords without a mask, on blank squares.
+    pub fn draw(&mut self, codewords: &Words)
+        requires { IsBlank self.old.free × IsBlank self.old.modules }
+        ensures { Draws self.old.version self.old.level codewords.now.items self.new }
     {
-        // The squares are drawn in their place, and not moved into it.
-        let mut unmasked = Unmasked {
-            version,
-            level,
-            free: Square::new(),
-            modules: Square::new(),
-        };
-        draw_functions(version, &mut unmasked.free, &mut unmasked.modules);
-        place(version, codewords, &unmasked.free, &mut unmasked.modules);
-        unmasked
-    }
-
-    /// Returns the symbol under a mask.
-    pub fn under(&self, mask: Mask) -> Masked
-        ensures mask { result.mask ≡ mask }
-        ensures modules { (codewords : List ℕ) → Places self.now codewords
-            → ShowsSymbol self.now codewords result }
-        ensures within { (codewords : List ℕ) → Places self.now codewords
-            → IsWithin (side_of self.now.version) result.modules }
-    {
-        let mut masked = Masked {
-            mask,
-            modules: Square::new(),
-        };
-        self.draw_under(mask, &mut masked);
-        masked
+        draw_functions(self.version, &mut self.free, &mut self.modules);
+        place(self.version, codewords, &self.free, &mut self.modules);
     }
 
     /// Draws the symbol under a mask, with the format information for it, over a blank one or over that under another
     /// mask.
-    fn draw_under(&self, mask: Mask, masked: &mut Masked)
+    pub fn draw_under(&self, mask: Mask, masked: &mut Masked)
         ensures mask { masked.new.mask ≡ mask }
         ensures modules { (codewords : List ℕ) → Places self.now codewords
             → IsWithin (side_of self.now.version) masked.old.modules → ShowsSymbol self.now codewords masked.new }
@@ -172,17 +149,18 @@ impl Unmasked {
         penalty_below(&masked.modules, self.version.side(), limit)
     }
 
-    /// Lays each mask over the modules and keeps the symbol of the lowest penalty, the first of several (ISO/IEC 18004,
-    /// 7.8.1). A symbol is given up as soon as its penalty reaches the lowest one so far.
-    pub fn under_best_mask(&self) -> Masked
-        ensures mask { (codewords : List ℕ) → Places self.now codewords → result.mask
+    /// Lays each mask over the modules and draws the symbol of the lowest penalty, the first of several, over a blank one
+    /// (ISO/IEC 18004, 7.8.1). A symbol is given up as soon as its penalty reaches the lowest one so far.
+    pub fn draw_under_best_mask(&self, best: &mut Masked)
+        requires { IsBlank best.old.modules }
+        ensures mask { (codewords : List ℕ) → Places self.now codewords → best.new.mask
             ≡ chosen_mask self.now.version self.now.level None codewords }
         ensures modules { (codewords : List ℕ) → Places self.now codewords
-            → ShowsSymbol self.now codewords result }
+            → ShowsSymbol self.now codewords best.new }
     {
-        let mut next = self.under(mask_in_turn(0));
-        let mut lowest = self.penalty_of(&next);
-        let mut best = next.copied();
+        self.draw_under(mask_in_turn(0), best);
+        let mut lowest = self.penalty_of(best);
+        let mut next = Masked::blank();
         for turn in 1..8 {
             let mask = mask_in_turn(turn);
             self.draw_under(mask, &mut next);
@@ -192,6 +170,5 @@ impl Unmasked {
                 best.copy_from(&next);
             }
         }
-        best
     }
 }

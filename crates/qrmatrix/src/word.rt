@@ -1,5 +1,5 @@
 //! The words that hold a row of modules, bit i the module at place i: 32 bits in small symbols, and else 64.
-ghost use Rattle.std.specs.Prelude.{◌≡◌, ℕ, ◌+◌, ◌-◌, ◌^◌, ◌<◌, ◌≤◌, nat_le, not, Bool, false, ◌&&◌, ◌||◌};
+ghost use Rattle.std.specs.Prelude.{◌≡◌, ℕ, ◌+◌, ◌-◌, ◌^◌, ◌<◌, ◌≤◌, nat_le, nat_lt, not, Bool, false, ◌&&◌, ◌||◌};
 ghost use Rattle.std.specs.Bool.{beq};
 ghost use Rattle.qrmatrix.specs.Private.Counting.{count_below};
 ghost use Rattle.qrmatrix.specs.Bits.{bit};
@@ -46,6 +46,11 @@ pub trait Word: Copy {
         requires { places < 32 }
         ensures { (i : ℕ) → i < width → bits result i ≡ (nat_le places i && bits self (i - places)) };
 
+    /// Returns the ones in the lowest `count` places.
+    fn lowest(self, count: usize) -> Self
+        requires { count < width }
+        ensures { (i : ℕ) → bits result i ≡ (nat_lt i count && bits self i) };
+
     /// Returns how many of the lowest `count` places have a one.
     fn ones_below(self, count: usize) -> Self
         requires { count < width }
@@ -69,22 +74,22 @@ impl Word for u32 {
 
     ghost width = { 32 };
 
-    #[tactic(auto, using(crate::proofs::RowBitsLaws::zero_bit))]
+    #[tactic(auto, using(crate::proofs::Laws::RowBitsLaws::zero_bit))]
     fn zero() -> u32 {
         0
     }
 
-    #[tactic(auto, using(crate::proofs::RowBitsLaws::and_bit))]
+    #[tactic(auto, using(crate::proofs::Laws::RowBitsLaws::and_bit))]
     fn and(self, other: u32) -> u32 {
         self & other
     }
 
-    #[tactic(auto, using(crate::proofs::RowBitsLaws::or_bit))]
+    #[tactic(auto, using(crate::proofs::Laws::RowBitsLaws::or_bit))]
     fn or(self, other: u32) -> u32 {
         self | other
     }
 
-    #[tactic(auto, using(crate::proofs::RowBitsLaws::xor_bit))]
+    #[tactic(auto, using(crate::proofs::Laws::RowBitsLaws::xor_bit))]
     fn xor(self, other: u32) -> u32 {
         self ^ other
     }
@@ -93,13 +98,17 @@ impl Word for u32 {
         !self
     }
 
-    #[tactic(auto, using(crate::proofs::RowBitsLaws::shr_bit))]
+    #[tactic(auto, using(crate::proofs::Laws::RowBitsLaws::shr_bit))]
     fn down(self, places: u32) -> u32 {
         self >> places
     }
 
     fn up(self, places: u32) -> u32 {
         self << places
+    }
+
+    fn lowest(self, count: usize) -> u32 {
+        self & ((1 << count) - 1)
     }
 
     fn ones_below(self, count: usize) -> u32 {
@@ -122,22 +131,22 @@ impl Word for u64 {
 
     ghost width = { 64 };
 
-    #[tactic(auto, using(crate::proofs::RowBitsLaws::zero_bit))]
+    #[tactic(auto, using(crate::proofs::Laws::RowBitsLaws::zero_bit))]
     fn zero() -> u64 {
         0
     }
 
-    #[tactic(auto, using(crate::proofs::RowBitsLaws::and_bit))]
+    #[tactic(auto, using(crate::proofs::Laws::RowBitsLaws::and_bit))]
     fn and(self, other: u64) -> u64 {
         self & other
     }
 
-    #[tactic(auto, using(crate::proofs::RowBitsLaws::or_bit))]
+    #[tactic(auto, using(crate::proofs::Laws::RowBitsLaws::or_bit))]
     fn or(self, other: u64) -> u64 {
         self | other
     }
 
-    #[tactic(auto, using(crate::proofs::RowBitsLaws::xor_bit))]
+    #[tactic(auto, using(crate::proofs::Laws::RowBitsLaws::xor_bit))]
     fn xor(self, other: u64) -> u64 {
         self ^ other
     }
@@ -146,13 +155,17 @@ impl Word for u64 {
         !self
     }
 
-    #[tactic(auto, using(crate::proofs::RowBitsLaws::shr_bit))]
+    #[tactic(auto, using(crate::proofs::Laws::RowBitsLaws::shr_bit))]
     fn down(self, places: u32) -> u64 {
         self >> places
     }
 
     fn up(self, places: u32) -> u64 {
         self << places
+    }
+
+    fn lowest(self, count: usize) -> u64 {
+        self & ((1 << count) - 1)
     }
 
     fn ones_below(self, count: usize) -> u64 {

@@ -6,10 +6,10 @@ use Rattle.std.specs.Bool.{beq, then_some}
 use Rattle.std.specs.Cmp.Lexicographic.{pointwise}
 use Rattle.std.proofs.lemmas.List.Folds.{list_all-map}
 use Rattle.picture.specs.Picture.{AreEqualRows, Picture}
-use Rattle.picture.proofs.SampleLaws.{map-range, pointwise-same}
+use Rattle.picture.proofs.Laws.SampleLaws.{map-range, pointwise-same}
 use Rattle.picture.specs.Reading.{common_row, raster}
 use Rattle.picture.specs.Text.{pixel_row}
-use Rattle.reading.proofs.CellLaws.{pass_all}
+use Rattle.reading.proofs.Laws.CellLaws.{pass_all}
 
 -- the row that all rows are equal to is the first
 first_row : (p : Picture) (m : ℕ) (row : List Bool) → p.height ≡ suc m → row ≡ pixel_row p 0

@@ -1,14 +1,15 @@
 -- Worked values: bytes and bits as dots, and the dots of `ean8 7351353`, at a scale of 1 and of 2.
-use Rattle.std.proofs.Common.{◌≡◌, ℕ, List, [], ◌∷◌, ◌++◌, ◌*◌, None, Some, codes, refl, flat_map, map, length, option_map, true, false}
-use Rattle.std.specs.Prelude.{if◌then◌else◌, nat_lt, replicate, reverse, slice_set}
-use Rattle.labelcore.specs.declared.symbology.Symbology.TheVariants.{Ean8, UpcA}
-use Rattle.linear.specs.Tables.{number_set_a}
+use Rattle.std.proofs.Common.{◌≡◌, ℕ, List, [], ◌∷◌, ◌++◌, ◌*◌, None, Some, codes, refl, flat_map, map, option_map, true, false}
+use Rattle.std.specs.Prelude.{if◌then◌else◌, nat_lt, reverse, slice_set}
+use Rattle.labelcore.specs.declared.symbology.Symbology.TheVariants.{Code128, Ean8, Qr, UpcA}
+use Rattle.linear.specs.Code128.{character_modules}
+use Rattle.linear.specs.Tables.{character_widths, number_set_a}
 use Rattle.reading.specs.Dots.{bits_picture, bytes_picture, bytes_read, is_inside, row_end}
 use Rattle.reading.specs.declared.bits.BitRegion.{BitRegion}
 use Rattle.picture.specs.Picture.{Picture}
 use Rattle.picture.specs.Reading.{Raster, raster, sample}
 use Rattle.reading.specs.Found.{Found, any_reading, first_some, turned, upright_reading}
-use Rattle.reading.specs.Labels.{read_dots, read_short}
+use Rattle.reading.specs.Labels.{is_width, read_dots, read_label}
 
 -- the raster of digits, 1 where dark
 raster_in : ℕ → ℕ → List ℕ → Raster
@@ -76,10 +77,15 @@ read_twice : (read_dots Ean8 2 (raster_in 162 2 twice) ≡ Some (codes "73513537
 unfolding raster_in twice sample number_set_a
 read_twice = (refl, refl, refl)
 
--- a first row as long as that of the longest symbol is read, and no longer one
-longest_row : map (λ modules. read_short (λ rows. Some (length rows ∷ [])) (replicate modules false ∷ [])) (1795 ∷ 1796 ∷ [])
-    ≡ Some (1 ∷ []) ∷ None ∷ []
-longest_row = refl
+-- a first row as long as that of the shortest and of the longest symbol is read, and no shorter or longer one
+widths : (map (is_width Code128) (45 ∷ 46 ∷ 1795 ∷ 1796 ∷ []) ≡ false ∷ true ∷ true ∷ false ∷ [])
+    × (map (is_width Qr) (21 ∷ 1795 ∷ 1796 ∷ []) ≡ true ∷ true ∷ false ∷ [])
+widths = (refl, refl)
+
+-- a Code 128 with nothing between its start and its check character is not read: 104 is 1 modulo 103
+no_character : read_label Code128 (flat_map character_modules (104 ∷ 1 ∷ 106 ∷ []) ∷ []) ≡ None
+unfolding character_widths
+no_character = refl
 
 -- ---- nothing told
 

@@ -12,13 +12,13 @@ use Rattle.labelcore.specs.declared.symbology.Symbology.TheVariants.{Ean13}
 use Rattle.picture.specs.Picture.{Picture}
 use Rattle.picture.specs.Reading.{raster}
 use Rattle.picture.specs.Text.{below}
-use Rattle.picture.proofs.SampleLaws.{value_at-raster}
+use Rattle.picture.proofs.Laws.SampleLaws.{value_at-raster}
 use Rattle.filter.specs.Symbol.{quiet_zone}
 use Rattle.reading.specs.Found.{Found, any_reading, first_some, reading_as, reading_at, symbologies, turned, upright_reading}
 use Rattle.reading.specs.Labels.{read_dots}
 use Rattle.reading.specs.Private.{AreLightBefore, IsFirst, can_begin, is_second_light, reading_from}
-use Rattle.reading.proofs.AloneLaws.{place_of, read_upright}
-use Rattle.reading.proofs.ScaleLaws.{IsRead, after_first, is_read, second_is, second_wide, zone_is}
+use Rattle.reading.proofs.Laws.AloneLaws.{place_of, read_upright}
+use Rattle.reading.proofs.Laws.ScaleLaws.{IsRead, after_first, is_read, second_is, second_wide, zone_is}
 
 -- where no question has an answer
 none_of : {A B : Type 0} (ask : A → Option B) → ((x : A) → ask x ≡ None) → (xs : List A) → first_some ask xs ≡ None

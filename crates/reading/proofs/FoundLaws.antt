@@ -14,7 +14,7 @@ use Rattle.picture.specs.Text.{below}
 use Rattle.reading.specs.Found.{any_reading, first_some, found_of, reading_as, reading_at, symbologies, turned, upright_reading}
 use Rattle.reading.specs.Labels.{read_dots}
 use Rattle.reading.specs.declared.found.Reading.{Reading}
-use Rattle.reading.proofs.ScaleLaws.{scale_within}
+use Rattle.reading.proofs.Laws.ScaleLaws.{scale_within}
 
 pub or_none : {A : Type 0} (a : Option A) → option_or a None ≡ a
 or_none (Some x) = refl

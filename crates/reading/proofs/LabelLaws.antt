@@ -9,19 +9,17 @@ use Rattle.labelcore.specs.declared.symbology.Symbology.{Symbology as AnySymbolo
 use Rattle.picture.specs.Picture.{Picture, enlargement, with_quiet_zone}
 use Rattle.picture.specs.Text.{below}
 use Rattle.picture.specs.Reading.{raster}
-use Rattle.picture.proofs.SampleLaws.{sample-raster}
-use Rattle.filter.specs.Reading.{read_modules}
+use Rattle.picture.proofs.Laws.SampleLaws.{sample-raster}
 use Rattle.filter.specs.Symbol.{Symbol, quiet_zone}
-use Rattle.filter.proofs.ReadLaws.{IsReadable}
-use Rattle.reading.specs.Labels.{ModulesAreRead, read_dots, read_short}
+use Rattle.filter.proofs.Laws.ReadLaws.{IsReadable}
+use Rattle.reading.specs.Labels.{ModulesAreRead, read_dots, read_label}
 use Rattle.reading.specs.Private.{are_whole_cells, is_row_of_cells, modules_in}
-use Rattle.reading.proofs.CellLaws.{sample_is}
-use Rattle.reading.proofs.WidthLaws.{read_if_short, test_after}
+use Rattle.reading.proofs.Laws.CellLaws.{sample_is}
+use Rattle.reading.proofs.WidthLaws.{read_if_width, test_after}
 
 pub modules_read : ModulesAreRead
-modules_read symbology p scale short some =
-    ap (option_and_then (read_short (read_modules symbology))) (sample-raster p (quiet_zone symbology) scale some)
-    ∙ read_if_short (read_modules symbology) p short
+modules_read symbology p scale some =
+    ap (option_and_then (read_label symbology)) (sample-raster p (quiet_zone symbology) scale some)
 
 module _ (symbology : AnySymbology) (p : Picture) (scale : ℕ) (some : 0 < scale) where
   -- dots that are no whole number of cells are not read
@@ -31,16 +29,17 @@ module _ (symbology : AnySymbology) (p : Picture) (scale : ℕ) (some : 0 < scal
   -- others are read as their modules are, if each dot has the colour of its cell
   pub whole_read : are_whole_cells p scale (quiet_zone symbology) ≡ true → read_dots symbology scale (raster p)
       ≡ option_and_then (then_some (list_all (is_row_of_cells p scale (quiet_zone symbology)) (below p.height)))
-      (read_short (read_modules symbology) (raster (modules_in p scale (quiet_zone symbology))).rows)
+      (read_label symbology (raster (modules_in p scale (quiet_zone symbology))).rows)
   whole_read whole = rw (sample_is p scale (quiet_zone symbology) some, whole)
-      (test_after (read_short (read_modules symbology)) (raster (modules_in p scale (quiet_zone symbology))).rows
+      (test_after (read_label symbology) (raster (modules_in p scale (quiet_zone symbology))).rows
       (list_all (is_row_of_cells p scale (quiet_zone symbology)) (below p.height)))
 
 readable_read : (symbol : Symbol) (scale : ℕ) → 0 < scale → IsReadable symbol
     → read_dots symbol.symbology scale
     (raster (enlargement (with_quiet_zone symbol.modules (quiet_zone symbol.symbology)) scale)) ≡ Some symbol.full
 readable_read symbol scale some is =
-    modules_read symbol.symbology symbol.modules scale is.columns some ∙ is.read
+    modules_read symbol.symbology symbol.modules scale some
+    ∙ read_if_width symbol.symbology symbol.modules is.some_rows is.columns is.wide ∙ is.read
 
 pub drawn_read : (found : Result Symbol Fault) (scale : ℕ) → 0 < scale → IfOk found IsReadable
     → IfOk found (λ symbol. read_dots symbol.symbology scale

@@ -1,11 +1,9 @@
-pub mod DotLaws
-pub mod CellLaws
 mod BitLaws
-mod FoundLaws
-mod ScaleLaws
-mod AloneLaws
-mod FirstLaws
+mod DotLaws
 mod Examples
-mod WidthLaws
-mod SquareLaws
+mod FirstLaws
+mod FoundLaws
 mod LabelLaws
+pub mod Laws
+mod SquareLaws
+mod WidthLaws

@@ -12,13 +12,13 @@ use Rattle.std.proofs.lemmas.List.FromFn.{get_or-map-range_with_len, length-map-
 use Rattle.qrdata.specs.Reading.{data_in}
 use Rattle.qrmatrix.specs.Bits.{bit}
 use Rattle.qrmatrix.specs.Reading.{Reading, read_matrix, read_square}
-use Rattle.qrmatrix.proofs.RowBitsLaws.{above_bit, shr_bit}
+use Rattle.qrmatrix.proofs.Laws.RowBitsLaws.{above_bit, shr_bit}
 use Rattle.qrmatrix.specs.Square.{value_at}
-use Rattle.qr_reading.proofs.SymbolReadingLaws.{wide_side}
+use Rattle.qr_reading.proofs.Laws.SymbolReadingLaws.{wide_side}
 use Rattle.picture.specs.Picture.{Picture}
 use Rattle.picture.specs.Reading.{raster}
 use Rattle.picture.specs.Text.{pixel_row}
-use Rattle.picture.proofs.SampleLaws.{value_at-raster}
+use Rattle.picture.proofs.Laws.SampleLaws.{value_at-raster}
 use Rattle.std.proofs.Math.Pow.{pow_mono}
 use Rattle.std.proofs.lemmas.Nat.{pow-add}
 use Rattle.std.proofs.lemmas.Nat.Bits.{bit_at-lt, bit_at_cat_high, shr_and_one}
@@ -164,14 +164,6 @@ moved_bit row x k =
 -- a sum that fits
 pub column_fits : (rows : List ℕ) (x y column : ℕ) → SeesColumn rows x y column → y ≤ 56 → column < 2 ^ 56
 column_fits rows x y column sees few = let most : 2 ^ y ≤ 2 ^ 56 = pow_mono few in omega (arith, sees.small, most)
-
--- a fact on each number below four
-pub by_four : (P : ℕ → Type 0) → P 0 → P 1 → P 2 → P 3 → (k : ℕ) → k < 4 → P k
-by_four P a b c d zero few = a
-by_four P a b c d (suc zero) few = b
-by_four P a b c d (suc (suc zero)) few = c
-by_four P a b c d (suc (suc (suc zero))) few = d
-by_four P a b c d (suc (suc (suc (suc k)))) few = absurd (omega (arith, few))
 
 -- a column whose rows are all read
 pub column_seen : (rows : List ℕ) (x x' y side column : ℕ) → x' ≡ x → y ≡ side → SeesColumn rows x y column → (i : ℕ)

@@ -1,11 +1,10 @@
 //! Labels read from modules and from dots, by their symbology.
 ghost use Rattle.std.specs.Prelude.{◌≡◌, ◌≢◌, ◌<◌, ℕ, [], IfOk, Some, option_map};
-ghost use Rattle.filter.specs.Reading.{read_modules};
 ghost use Rattle.filter.specs.Symbol.{quiet_zone, symbol_of};
 ghost use Rattle.picture.specs.Picture.{enlargement, with_quiet_zone};
 ghost use Rattle.picture.specs.Reading.{raster};
 ghost use Rattle.labelcore.specs.declared.symbology.Symbology.TheVariants.{Qr};
-ghost use Rattle.reading.specs.Labels.{ModulesAreRead, read_dots, read_short};
+ghost use Rattle.reading.specs.Labels.{ModulesAreRead, read_dots, read_label};
 ghost use Rattle.reading.specs.Private.{ShowsSingles};
 
 use crate::bars::read_bars;
@@ -22,7 +21,7 @@ use qr_reading::SymbolData;
 /// to have its colour.
 pub fn read_modules<G: Grid>(symbology: Symbology, modules: &G) -> Option<SymbolData>
     ensures { option_map (λ bytes. bytes.items) result
-        ≡ read_short (read_modules symbology) (raster (G.picture modules.now)).rows }
+        ≡ read_label symbology (raster (G.picture modules.now)).rows }
 {
     match symbology {
         Symbology::Ean13 => read_bars::<Ean13, G>(modules),

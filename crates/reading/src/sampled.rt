@@ -129,7 +129,7 @@ pub fn are_cells<G: Grid>(dots: &G, scale: usize, zone: &QuietZone) -> bool
 }
 
 /// Returns the first dot of the cell that comes `place` cells after the first `before`.
-#[tactic(auto, using(crate::proofs::CellLaws::begins, crate::proofs::CellLaws::few_cells))]
+#[tactic(auto, using(crate::proofs::Laws::CellLaws::begins, crate::proofs::Laws::CellLaws::few_cells))]
 fn first_dot(length: usize, scale: usize, before: usize, place: usize) -> usize
     requires some { 0 < scale }
     requires inside { before + place < length / scale }

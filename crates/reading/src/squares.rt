@@ -1,12 +1,11 @@
 //! Modules read as QR symbols.
 ghost use Rattle.std.specs.Prelude.{◌≡◌, ◌<◌, ◌≤◌, ◌+◌, ◌-◌, ◌&&◌, ℕ, MatchOption, nat_lt, option_map, slice_index};
 ghost use Rattle.qrmatrix.specs.Bits.{bit};
-ghost use Rattle.filter.specs.Reading.{read_modules};
 ghost use Rattle.labelcore.specs.declared.symbology.Symbology.TheVariants.{Qr};
 ghost use Rattle.picture.specs.Picture.{Picture};
 ghost use Rattle.picture.specs.Reading.{raster};
 ghost use Rattle.reading.specs.Found.{quarter};
-ghost use Rattle.reading.specs.Labels.{read_short};
+ghost use Rattle.reading.specs.Labels.{read_label};
 ghost use Rattle.reading.specs.Private.{IsNoSquare, Packs};
 
 use crate::packed::Packed;
@@ -99,7 +98,7 @@ impl Packed {
     /// Reads the modules as a QR symbol: its data.
     pub fn read(&self) -> Option<SymbolData>
         ensures { (p : Picture) → Packs p self.now
-            → option_map (λ bytes. bytes.items) result ≡ read_short (read_modules Qr) (raster p).rows }
+            → option_map (λ bytes. bytes.items) result ≡ read_label Qr (raster p).rows }
     {
         read(&self.rows[..self.side])
     }
@@ -107,7 +106,7 @@ impl Packed {
 
 /// Reads modules as a QR symbol, which is a square: its data.
 pub fn read_square<G: Grid>(modules: &G) -> Option<SymbolData>
-    ensures { option_map (λ bytes. bytes.items) result ≡ read_short (read_modules Qr) (raster (G.picture modules.now)).rows }
+    ensures { option_map (λ bytes. bytes.items) result ≡ read_label Qr (raster (G.picture modules.now)).rows }
 {
     Packed::of(modules)?.read()
 }

@@ -1,1 +1,1 @@
-pub mod Examples
+mod Examples

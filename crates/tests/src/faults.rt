@@ -4,6 +4,7 @@ use command::{End, OpenFault, open_file};
 use filter::{RunFault, Status, run};
 use labelcore::{FailAt, Format, Level, MemSink, MemSource, Options};
 use std::alloc::Global;
+use std::test::Fail;
 
 /// Whether a fault is shown as this text.
 fn shows(alloc: Global, fault: RunFault, text: &str) -> bool {
@@ -14,7 +15,8 @@ fn shows(alloc: Global, fault: RunFault, text: &str) -> bool {
 }
 
 #[test]
-fn shows_faults(rt: HostRuntime) {
+fn shows_faults(rt: HostRuntime) -> Result<(), Fail> {
+    let mut compared: u32 = 0;
     for (fault, text) in [
         (RunFault::Read, "read failed"),
         (RunFault::WriteOut, "write failed"),
@@ -22,7 +24,10 @@ fn shows_faults(rt: HostRuntime) {
         (RunFault::Spent, "filter is spent"),
     ] {
         assert!(rt; shows(rt.alloc(), fault, text));
+        compared = compared.saturating_add(1);
     }
+    println!(rt; "compared {compared} texts")?;
+    Ok(())
 }
 
 /// The result of a run over a label and a refusal, what each sink holds after it, and its calls.

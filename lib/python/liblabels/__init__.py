@@ -2,18 +2,18 @@
 
 >>> import liblabels
 >>> code = liblabels.symbol("ean13", "400638133393")  # the check digit may be left out
->>> code.data
-b'4006381333931'
+>>> code.text
+'4006381333931'
 >>> code.png(scale=4, dpi=300)[1:4]  # the bytes of a file
 b'PNG'
->>> code.svg(0.33, "mm")[:4]
+>>> code.svg(scale=0.33, unit="mm")[:4]
 '<svg'
 >>> liblabels.symbol("ean13", "4006381333932")
 Traceback (most recent call last):
 liblabels.Refused: check digit is 2, should be 1
 
->>> code.data_uri("png")[:22]  # for a web page
-'data:image/png;base64,'
+>>> code.data_uri()[:26]  # for a web page
+'data:image/svg+xml;base64,'
 
 >>> label = liblabels.line("qr,level=Q HELLO")  # a line as of labels(1)
 >>> label.width, label.version, label.level, label.mask, label.data
@@ -22,23 +22,27 @@ liblabels.Refused: check digit is 2, should be 1
 >>> liblabels.read(picture)  # what a picture says
 Reading(symbology='ean8', scale=2, turns=0, data=b'73513537')
 
-A file of it with its digits below; the same into an open file; the modules as an array of numpy, without quiet zones;
-and a picture as an image of Pillow:
+A file of it with its digits below; the same into an open file; a picture on the screen; the same in a terminal; an
+image of Pillow; and the modules as an array of numpy, without quiet zones:
 
     code.save("shelf.png", digits=True)  # or .svg
     code.save(file, kind="png", digits=True)
-    numpy.asarray(symbol)  # of bool, True where dark
-    Image.frombytes("1", (bitmap.width, bitmap.height), bitmap.bits, "raw", "1;I")
+    code.show()
+    code.terminal()
+    code.image(scale=4, dark="#1a2b3c")
+    numpy.asarray(code)  # of bool, True where dark
 
 `python3 -m liblabels ean13 400638133393 > code.png` writes a symbol in a shell; `--help` says how it writes many.
 
-Data and lines are bytes, bytearray or memoryview, or str, which is encoded as UTF-8. What the library
-refuses raises `Refused` with the text of labels(1), which a pool of processes passes on; a wrong option raises
-ValueError. Numbers are refused, since they lose zeros: read a table with `pandas.read_csv(name, dtype=str)`, which
-leaves nan only for empty cells. The module keeps no state, and other threads run during a call.
+Data and lines are bytes, bytearray or memoryview, or str, which is encoded as UTF-8. The numbers of EAN and UPC may
+have the hyphens of an ISBN, and the spaces of the digits below bars. What the library refuses raises `Refused` with
+the text of labels(1), which a pool of processes passes on; a wrong option raises ValueError.
 
-The library is liblabels.so.1, or the file that the environment variable LABELS_LIBRARY names. Where
-it is not installed the import raises OSError.
+Numbers are refused, since they lose zeros: read a table with `pandas.read_csv(name, dtype=str)`. An empty cell, which
+is nan there and None in openpyxl, is as empty text: `symbol` raises `Refused` with the text "no data".
+
+The module keeps no state, and other threads run during a call. The library is liblabels.so.1, or the file that the
+environment variable LABELS_LIBRARY names. If it is not installed, the import raises OSError.
 """
 
 import base64
@@ -103,6 +107,13 @@ class Refused(ValueError):
         return str(self.args[1])
 
 
+class _TextFile(Protocol):
+    """A file that is open for text."""
+
+    def write(self, text: str, /) -> object:
+        ...
+
+
 class _BinaryFile(Protocol):
     """A file that is open for bytes."""
 
@@ -137,6 +148,15 @@ class Symbol:
     mask: int | None
     modules: bytes = field(repr=False)
     data: bytes
+
+    @property
+    def text(self) -> str:
+        """The data as text; raises UnicodeDecodeError for bytes of a QR code that are not UTF-8.
+
+        >>> symbol("ean13", "978-0-306-40615-7").text + ".png"
+        '9780306406157.png'
+        """
+        return self.data.decode()
 
     def packed(self, quiet_zones: bool = False) -> bytes:
         """Returns the modules as bits, 1 where dark, in rows of whole bytes, as binary PBM has them.
@@ -179,45 +199,120 @@ class Symbol:
 
     def svg(
         self,
-        module: float = 1,
+        scale: float = 1,
         unit: str = "",
-        quiet_zones: bool = True,
+        *,
+        border: int | None = None,
+        dark: str = "black",
         light: str | None = None,
         digits: bool = False,
     ) -> str:
-        """Returns the symbol as SVG, its modules `module` of a unit wide: "mm", "cm", "in", "pt", "px", or none.
+        """Returns the symbol as SVG, its modules `scale` of a unit wide: "mm", "cm", "in", "pt", "px", or none.
 
-        `light` is the colour behind it, as "white"; without one what is behind it shows. With `digits` EAN and UPC
-        have longer guard bars, and their digits below, and Code 128 has its text there, in a font of the program that
-        shows them: ten modules more, and for a long text ten for each line. They need the quiet zones. Raises
-        ValueError for another unit, for a module that is not above 0, and for digits without quiet zones or of QR.
+        `dark` is its colour, as SVG has them; `light` that behind it: with None what is behind it shows. `border` and
+        `digits` are those of `png`, with letters of the program that shows the picture. Raises ValueError for another
+        unit, for a scale that is not above 0, and for what `png` does not take as `border` and `digits`.
 
         >>> symbol("ean8", "7351353", height=5).svg(0.33, "mm")[:83]
         '<svg xmlns="http://www.w3.org/2000/svg" width="26.73mm" height="1.65mm" viewBox="0 '
         """
-        if digits and not quiet_zones:
-            raise ValueError("digits need quiet_zones")
-        left, _, top, _ = self.quiet_zones if quiet_zones else (0, 0, 0, 0)
+        left, right, top, bottom = self._sides(border, digits)
         below = self._below() if digits else _layout.Below()
         guarded = [range(first, last) for first, last in below.guards]
         bars = [(x, y, w, h + 5 * any(left + x in guard for guard in guarded)) for x, y, w, h in self.bars()]
-        return _pictures.svg_of(bars, self.size(quiet_zones), (left, top), module, unit, light, below.lines)
+        size = (left + self.width + right, top + self.height + bottom)
+        return _pictures.svg_of(bars, size, (left, top), scale, unit, dark, light, below.lines)
+
+    def _sides(self, border: int | None, digits: bool) -> _pictures.Sides:
+        """How wide the light modules at each side are: as quiet zones, or as a border."""
+        if border is None:
+            return self.quiet_zones
+        if digits:
+            raise ValueError("digits are in the quiet zones: leave out border")
+        width = _binding.within("border", border, 0, _binding.MOST_BORDER)
+        return width, width, width, width
 
     def _below(self) -> _layout.Below:
         """The longer bars of EAN and UPC, and the digits or the text below."""
         return _layout.below(self.symbology, self.data, self.size()[0])
 
-    def png(self, scale: int = 1, dpi: float | None = None, digits: bool = False) -> bytes:
-        """Returns the symbol as PNG with its quiet zones, its modules `scale` dots wide, 1 to 100.
+    def png(
+        self,
+        scale: float = 1,
+        dpi: float | None = None,
+        digits: bool = False,
+        *,
+        unit: str = "",
+        border: int | None = None,
+        dark: str = "black",
+        light: str | None = "white",
+    ) -> bytes:
+        """Returns the symbol as PNG, its modules `scale` dots wide, 1 to 100.
 
-        Without digits it is that of the symbol's `bitmap`. With `digits` EAN and UPC have longer guard bars, and their
-        digits below, and Code 128 has its text there: ten modules more, and for a long text ten for each line. A
-        control character is a frame there. Raises ValueError for a scale that is not 1 to 100, for digits of QR, and
-        what `Bitmap.png` raises.
+        `dpi` is what the file says of the dots of an inch, from which programs know how large it is. With `unit`,
+        which is "mm", "cm", "in" or "pt", a module is as many whole dots wide as are nearest to `scale` of it.
+
+        `border` is how wide the light margin is at each side, in modules, 0 to 100; without one it is that of the
+        quiet zones, and the picture that of the symbol's `bitmap`. `dark` and `light` are its colours, "black",
+        "white" or as "#1a2b3c"; with None as `light` what is behind the picture shows.
+
+        With `digits` EAN and UPC have longer guard bars, and their digits below, and Code 128 has its text there: ten
+        modules more, and for a long text ten for each line. A control character is a frame there.
+
+        Raises ValueError for a scale or a border that is out of its range, for a unit without `dpi`, for another
+        colour, for digits of QR, for digits with a border, since they are in the quiet zones, and what `Bitmap.png`
+        raises.
 
         >>> symbol("qr", "HELLO").png(scale=4)[:8]
         b'\\x89PNG\\r\\n\\x1a\\n'
+        >>> label = symbol("ean13", "400638133393")
+        >>> label.png(scale=0.33, unit="mm", dpi=300) == label.png(scale=4, dpi=300)  # 3.9 dots
+        True
         """
+        dots: Any = scale if unit in ("", "px") else _pictures.dots_of(scale, unit, dpi)
+        return _pictures.png_of(self._dots(dots, digits, border), dpi, dark, light)
+
+    def image(self, scale: float = 1, digits: bool = False, **options: Any) -> Any:
+        """Returns the picture of `png`, with its options, as an image of Pillow, which has to be installed.
+
+        It is of mode 1, with colours P. Raises what `png` raises.
+
+        >>> symbol("qr", "HELLO").image(scale=4).size, symbol("qr", "HELLO").image(border=0).size
+        ((116, 116), (21, 21))
+        """
+        return _pictures.image_of(self.png(scale, digits=digits, **options))
+
+    def show(self, scale: float = 4, digits: bool = False, **options: Any) -> None:
+        """Shows the picture of `png`, with its options, on the screen, in the program that Pillow finds for it.
+
+        Raises what `png` raises.
+        """
+        self.image(scale, digits, **options).show()
+
+    def terminal(self, file: _TextFile | None = None) -> None:
+        """Prints the symbol with its quiet zones, to standard output or to a file that is open for text.
+
+        It is of black and white blocks, for a terminal that knows UTF-8 and colours. A character is two modules wide
+        for bars, and one for squares.
+
+        >>> output = io.StringIO()
+        >>> symbol("qr", "HELLO").terminal(output)
+        >>> len(output.getvalue().splitlines())  # of 29 rows with the quiet zones
+        15
+        """
+        width, height = self.size()
+        modules = self.packed(quiet_zones=True)
+        if self.rows == 1:
+            lines = _pictures.blocks_of_bars(Bitmap(width, 1, modules), height)
+        else:
+            lines = _pictures.blocks_of_squares(Bitmap(width, height, modules))
+        for text in lines:
+            print(f"{_pictures.BLACK_ON_WHITE}{text}{_pictures.AS_BEFORE}", file=file)
+
+    def _dots(self, scale: int, digits: bool, border: int | None) -> Bitmap:
+        """The picture of the symbol, with its digits, or with a border in place of its quiet zones."""
+        scale = _binding.within("scale", scale, 1, _binding.MOST_SCALE)
+        sides = self._sides(border, digits)
         below = self._below() if digits else None
         drawn = bitmap(
             self.symbology,
@@ -228,7 +323,11 @@ class Symbol:
             min_version=self.version or 1,
             mask=self.mask,
         )
-        return (_pictures.with_text(drawn, scale, below) if below else drawn).png(dpi)
+        if below:
+            return _pictures.with_text(drawn, scale, below)
+        if sides == self.quiet_zones:
+            return drawn
+        return _pictures.with_sides(drawn, scale, self.quiet_zones, sides)
 
     def save(
         self,
@@ -260,13 +359,13 @@ class Symbol:
         else:
             file.write(picture.decode())
 
-    def data_uri(self, kind: str, **options: Any) -> str:
-        """Returns the symbol as a data URI, for a web page: as "png" or "svg", with the options of `png` or of `svg`.
+    def data_uri(self, kind: str = "svg", **options: Any) -> str:
+        """Returns the symbol as a data URI, for a web page: as "svg" or "png", with the options of `svg` or of `png`.
 
         Raises ValueError for another kind, and what these raise.
 
-        >>> symbol("qr", "HELLO").data_uri("svg", light="white")[:26]
-        'data:image/svg+xml;base64,'
+        >>> symbol("qr", "HELLO").data_uri("png", scale=4)[:22]
+        'data:image/png;base64,'
         """
         coded = base64.b64encode(self._picture(kind, options)).decode()
         return f"data:{_MEDIA_TYPES[kind.lower()]};base64,{coded}"
@@ -430,7 +529,7 @@ def symbol(
     """
     options = _binding.options_of("pbm", 1, height, level, min_version, mask, False)
     number = _binding.index_of(SYMBOLOGIES, "symbology", symbology)
-    raw = _binding.encoded(data)
+    raw = _binding.data_of(symbology, data)
     drawn = _symbol(LIBRARY.labels_symbol, raw, options, number)
     assert drawn is not None  # no data is a line that is skipped
     return drawn
@@ -461,7 +560,7 @@ def draw(
     scale = _binding.scale_of_program(scale)
     options = _binding.options_of(format, scale, height, level, min_version, mask, False)
     number = _binding.index_of(SYMBOLOGIES, "symbology", symbology)
-    raw = _binding.encoded(data)
+    raw = _binding.data_of(symbology, data)
     picture = _picture(LIBRARY.labels_draw, _binding.first_room(options), raw, options, number)
     assert picture is not None  # no data is a line that is skipped
     return picture
@@ -487,7 +586,7 @@ def bitmap(
     drawn, more = _binding.scales_of(scale)
     options = _binding.options_of("pbm", drawn, height, level, min_version, mask, False)
     number = _binding.index_of(SYMBOLOGIES, "symbology", symbology)
-    raw = _binding.encoded(data)
+    raw = _binding.data_of(symbology, data)
     picture = _bitmap(LIBRARY.labels_bitmap, raw, options, number)
     assert picture is not None  # no data is a line that is skipped
     return picture.enlarged(more)

@@ -56,14 +56,18 @@ def _parser() -> argparse.ArgumentParser:
     parser.add_argument(
         "-o", "--output", metavar="NAME", help="a .png or .svg file; for each its own: %%s is its data, %%d its number"
     )
-    parser.add_argument("--svg", action="store_true", help="SVG to standard output, a module one unit wide")
+    parser.add_argument("--svg", action="store_true", help="SVG to standard output")
     parser.add_argument("--digits", action="store_true", help="the digits of EAN and UPC, the text of Code 128, below")
     parser.add_argument(
-        "--scale", type=int, default=4, metavar="N", help="PNG: dots of a module, 1 to 100 (default: 4)"
+        "--scale",
+        type=int,
+        default=4,
+        metavar="N",
+        help="how wide a module is: dots of PNG, 1 to 100, or pixels of SVG (default: 4)",
     )
     parser.add_argument("--dpi", type=float, metavar="N", help="PNG: how many dots of an inch it is printed with")
     parser.add_argument("--height", type=int, default=50, metavar="N", help="how many modules high bars are (50)")
-    parser.add_argument("--level", choices=LEVELS, default="M", help="of QR (default: M)")
+    parser.add_argument("--level", type=str.upper, choices=LEVELS, default="M", help="of QR (default: M)")
     parser.add_argument("--version", action="version", version=version())
     return parser
 
@@ -106,7 +110,7 @@ def _drawn(items: list[Given], asked: argparse.Namespace) -> Iterator[tuple[Give
 
 def _picture(code: Symbol, asked: argparse.Namespace, is_svg: bool) -> bytes:
     if is_svg:
-        return code.svg(digits=asked.digits).encode()
+        return code.svg(asked.scale, digits=asked.digits).encode()
     return code.png(asked.scale, asked.dpi, asked.digits)
 
 

@@ -1,9 +1,11 @@
 """The calls of liblabels by ctypes: its structs, its options, and the data that is handed to it."""
 
 import ctypes
+import math
 import numbers
 import operator
 import os
+import re
 import struct
 from collections.abc import Callable, Iterator
 from ctypes import byref
@@ -26,6 +28,10 @@ MAX_DATA = 652
 _MASK_AUTO = 8
 _MOST_DRAWN = 8  # the largest scale of the library
 MOST_SCALE = 100
+MOST_BORDER = 100
+_OF_DIGITS = ("ean13", "ean8", "upca")
+# The groups in which label-table takes all digits of a number, too: those of an ISBN, and those printed below bars.
+_IN_GROUPS = re.compile(rb"97[89](?:[- ]?\d){10}|\d \d{6} \d{6}|\d{4} \d{4}|\d \d{5} \d{5} \d")
 
 
 class Options(ctypes.Structure):
@@ -243,7 +249,7 @@ def options_of(
         index_of(FORMATS, "format", format),
         within("scale", scale, 1, _MOST_DRAWN),
         within("height", height, 1, 500),
-        index_of(LEVELS, "level", level),
+        index_of(LEVELS, "level", str(level).upper()),
         within("min_version", min_version, 1, 10),
         _MASK_AUTO if mask is None else within("mask", mask, 0, 7),
         bool(escapes),
@@ -254,19 +260,34 @@ def options_of(
 def encoded(data: Data) -> bytes:
     """Returns the bytes of data, a str as UTF-8.
 
-    They are real bytes, since the library reads as many as their length says, and a subclass could say another one.
+    They are real bytes, since the library reads as many as their length says, and a subclass could say another one. An
+    empty cell of a table has none. Raises TypeError for a number and for other types.
     """
     if isinstance(data, str):
         return str.encode(data)
-    if not isinstance(data, (bytes, bytearray, memoryview)):
-        raise TypeError(f"data has to be str or bytes, {_other_data(data)}")
-    return data if type(data) is bytes else bytes(memoryview(data))
+    if isinstance(data, (bytes, bytearray, memoryview)):
+        return data if type(data) is bytes else bytes(memoryview(data))
+    if _is_empty_cell(data):
+        return b""
+    raise TypeError(f"data has to be str or bytes, {_other_data(data)}")
+
+
+def data_of(symbology: str, data: Data) -> bytes:
+    """Returns the bytes of the data of a symbology: of EAN and UPC without the hyphens or spaces between groups."""
+    raw = encoded(data)
+    if symbology in _OF_DIGITS and not raw.isdigit() and _IN_GROUPS.fullmatch(raw):
+        return raw.translate(None, b"- ")
+    return raw
+
+
+def _is_empty_cell(cell: object) -> bool:
+    """Whether a value is what an empty cell of a table is: nan or NA of pandas, None of others."""
+    is_nan = isinstance(cell, float) and math.isnan(cell)
+    return cell is None or is_nan or type(cell).__name__ == "NAType"
 
 
 def _other_data(data: object) -> str:
     """What data is if it is no text, and what helps. Numbers mostly come from tables that pandas has read."""
-    if isinstance(data, float) and data != data:
-        return "not nan, an empty cell in pandas: skip such rows, and read the table with dtype=str"
     if isinstance(data, numbers.Number):
         return f"not {type(data).__name__}: pandas reads a table without losing digits with dtype=str"
     return f"not {type(data).__name__}"

@@ -19,7 +19,8 @@ Part = tuple[int, int, int, int]  # left, top, width and height
 _MOST = 2**32 - 1  # the largest number of a call
 _FIRST_LIGHT = 128
 _DARK = 1  # the bits that are dark
-_DIGITS_OF_TRUTHS = b"0" + b"1" * 255
+_DARK_IS_TRUE = b"0" + b"1" * 255
+_DARK_IS_FALSE = b"1" + b"0" * 255
 _DIGITS_OF_GREY = b"1" * _FIRST_LIGHT + b"0" * (256 - _FIRST_LIGHT)
 _IS_DARK = [grey < _FIRST_LIGHT for grey in range(256)]
 _WHITE = 255
@@ -94,6 +95,15 @@ class Reading:
     turns: int
     data: bytes
 
+    @property
+    def text(self) -> str:
+        """The data as text; raises UnicodeDecodeError for bytes of a QR code that are not UTF-8.
+
+        >>> Reading("qr", 1, 0, b"gr\\xc3\\xbcn").text
+        'grün'
+        """
+        return self.data.decode()
+
 
 def _size_of_row(width: int) -> int:
     return (width + 7) // 8
@@ -131,15 +141,20 @@ def _bits_of_file(text: bytes) -> Bitmap:
     return _whole(width, height, rest)
 
 
+def _digits_of_truths(dots: bytes) -> bytes:
+    """The digits of truth values, 1 where dark. The first dot is in the quiet zone, and its value is the light one."""
+    is_first_true = not dots.startswith(b"\0")
+    return dots.translate(_DARK_IS_FALSE if is_first_true else _DARK_IS_TRUE)
+
+
 def _bits_of_array(array: Array) -> Bitmap:
-    digits_of = {"bool": _DIGITS_OF_TRUTHS, "uint8": _DIGITS_OF_GREY}.get(str(array.dtype))
-    if digits_of is None or len(array.shape) != 2:
-        raise ValueError(f"an array has to be bool or uint8 of 2 axes, not {array.dtype} of {len(array.shape)}")
+    kind = str(array.dtype)
+    if kind not in ("bool", "uint8") or len(array.shape) != 2:
+        raise ValueError(f"an array has to be bool or uint8 of 2 axes, not {kind} of {len(array.shape)}")
     height, width = array.shape
     dots = array.tobytes()
-    if digits_of is _DIGITS_OF_GREY and 1 in dots and not dots.strip(b"\0\1"):
-        raise ValueError("an array of uint8 is grey, where 0 and 1 are both dark: make it one of bool")
-    return _packed(width, height, dots.translate(digits_of))
+    has_only_truths = not dots.translate(None, b"\0\1")
+    return _packed(width, height, _digits_of_truths(dots) if has_only_truths else dots.translate(_DIGITS_OF_GREY))
 
 
 def _grey_of(image: Image) -> Image:
@@ -162,7 +177,7 @@ def _bits_of_image(image: Image) -> Bitmap:
 def _bits_of(picture: object) -> Bitmap:
     if isinstance(picture, Bitmap):
         return _whole(picture.width, picture.height, _binding.encoded(picture.bits))
-    if isinstance(picture, os.PathLike):
+    if isinstance(picture, (str, os.PathLike)):
         return _bits_of_file(Path(picture).read_bytes())
     if isinstance(picture, (bytes, bytearray)):
         return _bits_of_file(_binding.encoded(picture))
@@ -170,7 +185,8 @@ def _bits_of(picture: object) -> Bitmap:
         return _bits_of_image(picture)
     if isinstance(picture, Array):
         return _bits_of_array(picture)
-    raise TypeError(f"a picture is of numpy, of Pillow, a Bitmap, a Path or bytes, not {type(picture).__name__}")
+    kinds = "the name or the bytes of a file, a Bitmap, an image of Pillow or an array of numpy"
+    raise TypeError(f"a picture has to be {kinds}, not {type(picture).__name__}")
 
 
 def _read(bits: Bitmap, part: Part) -> Reading | None:
@@ -250,7 +266,7 @@ def _found(picture: object) -> Reading | None:
     return _read(bits, (0, 0, width, height)) or _read_with_text(bits)
 
 
-Picture = Array | Image | Bitmap | os.PathLike[str] | bytes | bytearray
+Picture = Array | Image | Bitmap | str | os.PathLike[str] | bytes | bytearray
 
 
 @overload
@@ -264,32 +280,33 @@ def read(symbology: str, image: Picture, scale: int | None = None) -> bytes | No
 
 
 def read(symbology: object, image: object = None, scale: int | None = None) -> Reading | bytes | None:
-    """Returns what the symbol of a picture says, or None where the picture is no symbol, to a dot.
+    """Returns what the symbol of a picture says, or None if the picture is not, dot for dot, that of a symbol.
 
     A picture is
 
-    - an array of numpy of two axes: of bool, True where dark, or of uint8, grey, dark below 128;
+    - the name of a file of PNG, for which Pillow has to be installed, or of plain or binary PBM (P1, P4) of one
+      picture, as a str or a Path; or the bytes of such a file;
     - an image of Pillow of mode 1, L, P, RGB, LA or RGBA, dark where its grey is below 128, on white where it is
       transparent;
-    - bytes of PNG, for which Pillow has to be installed, or of plain or binary PBM (P1, P4) of one picture;
-    - a Path of such a file, or a `Bitmap`.
+    - an array of numpy of two axes: of uint8, grey, dark below 128; or of truth values, as bool or as 0 and 1, in
+      which the value of the first dot is light, since it is in the quiet zone;
+    - a `Bitmap`.
 
     It is the symbol in its quiet zone, and nothing else: each module a square of dots, the zone as wide as
     `Symbol.quiet_zones` says, above and below bars none, and the height of bars a whole number of modules. Below bars
     may be their digits or their text, dot for dot as `Symbol.png` draws them. The symbology and the scale are found,
     and a picture that is not read upright is turned. No upright picture is read by two symbologies, nor at two scales.
 
-    Where a symbology is told, one of SYMBOLOGIES, the data alone is returned, and only that of an upright symbol of
-    it, at this scale if one is told.
+    If a symbology is given, one of SYMBOLOGIES, only the data is returned, and only that of an upright symbol of it,
+    at this scale if one is given.
 
     Nothing is corrected or guessed: with one dot of the wrong colour it is not read. Only the colour of the seven
     remainder modules of QR versions 2 to 6, which hold no data, does not matter (ISO/IEC 18004, table 1). The check
     digit of EAN and UPC is part of what is returned. The bars of a UPC-A symbol are those of the EAN-13 symbol of a 0
-    and its digits; their quiet zones differ, and so each is read as itself alone.
+    and its digits; their quiet zones differ, and so each is read only as itself.
 
-    Raises ValueError for an unknown symbology, a scale below 1, a picture of other axes, types, modes or sizes, an
-    array of uint8 that has 0 and 1 alone, and bytes that are neither PNG nor PBM; TypeError for another picture; and
-    what Pillow and the file system raise.
+    Raises ValueError for an unknown symbology, a scale below 1, a picture of other axes, types, modes or sizes, and
+    bytes that are neither PNG nor PBM; TypeError for another picture; and what Pillow and the file system raise.
 
     >>> from liblabels import draw
     >>> picture = draw("ean13", "400638133393", scale=3)
@@ -298,12 +315,8 @@ def read(symbology: object, image: object = None, scale: int | None = None) -> R
     >>> read("ean13", picture), read("ean13", picture, scale=1), read("qr", picture)
     (b'4006381333931', None, None)
     """
-    if not isinstance(symbology, str):
+    if image is None or not isinstance(symbology, str):
         return _found(symbology)
-    if image is None:
-        raise TypeError(
-            f"a picture is no str: Path({symbology!r}) names a file, and a symbology is told before a picture"
-        )
     _binding.index_of(SYMBOLOGIES, "symbology", symbology)
     wanted = None if scale is None else _binding.within("scale", scale, 1, _MOST)
     found = _found(image)

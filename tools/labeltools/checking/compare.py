@@ -14,9 +14,9 @@ from itertools import islice, tee
 from operator import itemgetter, mul
 from typing import Any, Iterator, NamedTuple, Sequence
 
-from labeltools.checking.decode import NotDecoded, read_dots
+from labeltools.checking.decode import Different, read_dots
 from labeltools.checking.read_pdf import drawn_pages, DrawnPage, is_at
-from labeltools.checking.read_svg import dots_of_svg
+from labeltools.common.column_names import LONGEST
 from labeltools.common.messages import FAULT, Talk, ToolError
 from labeltools.common.text import Text
 from labeltools.layout.layout import LaidOut, PlacedSymbol
@@ -43,14 +43,6 @@ AGAIN = re.compile(r" \d+\Z")  # behind the name of a column that has several pl
 TOGETHER = ("text", "note")  # places of what is put together of several columns
 KNOWN = 4096  # places of symbols that are kept: most pages share them
 DIGITS = bytes.maketrans(b"\0\1", b"01")
-
-
-class Different(NotDecoded):
-    """What differs in a label of a line, if that is known."""
-
-    def __init__(self, what: Text, record: Record | None = None) -> None:
-        super().__init__(what)
-        self.record = record
 
 
 class Document(NamedTuple):
@@ -138,13 +130,12 @@ class Comparison:
         """
         try:
             self.compare(document)
-        except NotDecoded as error:
-            record = error.record if isinstance(error, Different) else None
-            place = (record or first_record(document.pages[0])).origin.text
+        except Different as error:
+            place = (error.record or first_record(document.pages[0])).origin.text
             raise ToolError(Text("{}: {}", place, error.what), FAULT, LABELS_FAILED) from error
 
     def compare(self, document: Document) -> None:
-        """Raises `NotDecoded` as `check` does."""
+        """Raises `Different` as `check` does."""
         wanted, again = tee([*self.wanted_on(labels)] for labels in document.pages)
         dpi = self.plan.dpi
         if self.form == "pdf":
@@ -153,16 +144,13 @@ class Comparison:
                 self.talk.go_on(0, 0)
                 try:
                     drawn = next(pages)
-                except NotDecoded as error:
+                except Different as error:
                     raise Different(error.what, first_record(labels)) from error
                 check_codes(symbols, drawn, self.plan.dot)
             return
-        if self.form == "svg":
-            page = dots_of_svg(document.data, dpi, self.plan.page)
-        else:
-            page, copies = read_dots(self.form, document.data, self.plan.page[0])
-            self.check_size(page, copies, document.copies)
-            self.check_drawn(page, document)
+        page, copies = read_dots(self.form, document.data, self.plan.page[0])
+        self.check_size(page, copies, document.copies)
+        self.check_drawn(page, document)
         for symbol in next(wanted):
             check_symbol_dots(symbol, page, self.plan.dot)
 
@@ -235,7 +223,7 @@ class Comparison:
             engine, data = self.escaped, spot.data
         symbol = engine.symbol(line)
         if isinstance(symbol, Refused):
-            raise Different(symbol.what)
+            raise Different(symbol.problem.what)
         if symbol.data != data:
             raise Different(Text("its code says other data than its line"))
         return symbol
@@ -423,7 +411,7 @@ def compared_name(name: str) -> str:
     >>> compared_name("Seat_No"), compared_name(" title-2")
     ('seat no', 'title 2')
     """
-    return BETWEEN.sub(" ", unicodedata.normalize("NFC", name)).strip().casefold()
+    return BETWEEN.sub(" ", unicodedata.normalize("NFC", name[:LONGEST])).strip().casefold()
 
 
 def turned_box(box: Box, size: tuple[int, int], quarters: int) -> Box:

@@ -9,9 +9,10 @@ from binascii import Error, unhexlify
 from functools import lru_cache
 
 from labeltools.common.text import Text
+from labeltools.lines.file import Record
 from labeltools.paper.picture import Picture, rows_reader
 
-ZPL_HEAD = re.compile(rb"\^XA\^PON\^LH0,0\^LS0\^PW([0-9]+)\^LL([0-9]+)\n")
+ZPL_HEAD = re.compile(rb"\^XA\^MUD\^PON\^PMN\^JMA\^LH0,0\^LS0\^PW([0-9]+)\^LL([0-9]+)\n")
 ZPL_FIELD = re.compile(rb"\^FO([0-9]+),([0-9]+)\^GFA,([0-9]+),([0-9]+),([1-9][0-9]*),")
 FIELD_END = b"^FS\n"
 ZPL_END = re.compile(rb"(?:\^PQ([0-9]+)\n)?\^XZ\n")
@@ -41,22 +42,23 @@ KNOWN = 256  # fields that are kept: many labels have the same price
 Printed = tuple[Picture, int]  # a page in dots, and how often it is printed
 
 
-class NotDecoded(Exception):
-    """Why bytes are not of their form."""
+class Different(Exception):
+    """What is wrong in what goes out, and in the label of which line, if that is known."""
 
-    def __init__(self, what: Text) -> None:
+    def __init__(self, what: Text, record: Record | None = None) -> None:
         super().__init__(what)
         self.what = what
+        self.record = record
 
 
 def read_dots(form: str, data: bytes, width: int) -> Printed:
-    """Returns one label or page; raises `NotDecoded`. The width is that which a page has to have,
+    """Returns one label or page; raises `Different`. The width is that which a page has to have,
     of which ESC/POS does not say what is white at the right.
     """
     try:
         return DECODERS[form](data, width)
     except (ValueError, IndexError, zlib.error, struct.error) as error:
-        raise NotDecoded(Text("the output cannot be read back as {}: {}", form, error)) from error
+        raise Different(Text("the output cannot be read back as {}: {}", form, error)) from error
 
 
 def dots_of_pbm(data: bytes, _: int) -> Printed:
@@ -70,7 +72,7 @@ def dots_of_pbm(data: bytes, _: int) -> Printed:
 def dots_of_png(data: bytes, _: int) -> Printed:
     """Reads PNG of one bit a pixel without filters."""
     if data[:8] != PNG_HEAD:
-        raise NotDecoded(Text("the output is not a PNG file"))
+        raise Different(Text("the output is not a PNG file"))
     start = len(PNG_HEAD)
     packed = b""
     width = height = 0
@@ -81,13 +83,13 @@ def dots_of_png(data: bytes, _: int) -> Printed:
         if kind == b"IHDR":
             width, height, depth, colour = struct.unpack(">IIBB", body[:10])
             if (depth, colour) != (1, 0):
-                raise NotDecoded(Text("the output is not a PNG file of one bit for each dot"))
+                raise Different(Text("the output is not a PNG file of one bit for each dot"))
         packed += body if kind == b"IDAT" else b""
         start += length + 12
     stride = (width + 7) // 8
     rows = of_length(zlib.decompress(packed), (1 + stride) * height)
     if any(rows[:: 1 + stride]):
-        raise NotDecoded(Text("the output is a PNG file with filters"))
+        raise Different(Text("the output is a PNG file with filters"))
     light = rows_reader(1, stride, 0, height)(rows)
     return Picture(width, height, b"".join(light).translate(INVERTED)), 1
 
@@ -102,14 +104,14 @@ def dots_of_escpos(data: bytes, width: int) -> Printed:
     while start < end:
         size, count = SIZE.unpack_from(data, start + len(RASTER))
         if not data.startswith(RASTER, start) or not 0 < size <= stride or not count:
-            raise NotDecoded(Text("the output is not ESC/POS as label-print writes it"))
+            raise Different(Text("the output is not ESC/POS as label-print writes it"))
         start += len(RASTER) + SIZE.size
         white = bytes(stride - size)
         images += [white.join(rows_reader(0, size, 0, count)(data, start)), white]
         height += count
         start += size * count
     if start != end:
-        raise NotDecoded(Text("the output is not ESC/POS as label-print writes it"))
+        raise Different(Text("the output is not ESC/POS as label-print writes it"))
     return Picture(width, height, b"".join(images)), 1
 
 
@@ -117,7 +119,7 @@ def dots_of_zpl(data: bytes, _: int) -> Printed:
     """Reads the graphic fields of a label, which is white where none is."""
     head = ZPL_HEAD.match(data)
     if not head or any(map(data.__contains__, LOWER)):
-        raise NotDecoded(Text("the output is not ZPL as label-print writes it"))
+        raise Different(Text("the output is not ZPL as label-print writes it"))
     width, height = map(int, head.groups())
     stride = (width + 7) // 8
     page = bytearray(stride * height)
@@ -130,12 +132,12 @@ def dots_of_zpl(data: bytes, _: int) -> Printed:
         left, rest = divmod(left, 8)
         right, bottom = left + size, top + length // size
         if rest or right > stride or bottom > height:
-            raise NotDecoded(Text("ZPL with a field that extends beyond the label"))
+            raise Different(Text("ZPL with a field that extends beyond the label"))
         if not length == again == len(dots):
-            raise NotDecoded(Text("ZPL with a field that has too few rows"))
+            raise Different(Text("ZPL with a field that has too few rows"))
         beside = [other for other in fields if other[1] < bottom and top < other[3]]
         if beside and any([other[0] < right and left < other[2] for other in beside]):
-            raise NotDecoded(Text("ZPL with a field over another one"))
+            raise Different(Text("ZPL with a field over another one"))
         put(page, slice(stride * top + left, stride * bottom, stride), dots, size, bool(beside))
         fields.append((left, top, right, bottom))
         if not data.startswith(FIELD_END, end):
@@ -143,7 +145,7 @@ def dots_of_zpl(data: bytes, _: int) -> Printed:
         start = end + len(FIELD_END)
     count = ZPL_END.fullmatch(data, start)
     if not count:
-        raise NotDecoded(Text("ZPL without an end"))
+        raise Different(Text("ZPL without an end"))
     return Picture(width, height, page), int(count[1] or 1)  # not copied: it does not change
 
 
@@ -169,7 +171,7 @@ def put(page: bytearray, place: slice, dots: bytes, size: int, is_beside: bool) 
 @lru_cache(KNOWN)
 def rows_of_field(text: bytes, size: int) -> bytes:
     """Returns the rows of a graphic field, of some bytes each, one behind another; raises
-    `NotDecoded`.
+    `Different`.
 
     >>> rows_of_field(b"FM0:12345678", 4).hex(" ", 4)
     'f0000000 f0000000 12345678'
@@ -181,7 +183,7 @@ def rows_of_field(text: bytes, size: int) -> bytes:
     except Error:
         rows = [*map(unhexlify, without_counts(b":".join(digits), 2 * size))]
     if not rows[0] or any([len(some) % size for some in rows]):
-        raise NotDecoded(Text("a row of the ZPL has the wrong length"))
+        raise Different(Text("a row of the ZPL has the wrong length"))
     for number, again in enumerate(parts[1::2]):
         rows[number] += rows[number][-size:] * (1 + len(again))
     return b"".join(rows)
@@ -189,22 +191,22 @@ def rows_of_field(text: bytes, size: int) -> bytes:
 
 def without_counts(text: bytes, digits: int) -> list[bytes]:
     """Returns the digits of rows with counts, of so many digits each, from one `:` to the next.
-    Raises `NotDecoded`.
+    Raises `Different`.
     """
     if not text.isascii():
-        raise NotDecoded(Text("the output is not ZPL as label-print writes it"))
+        raise Different(Text("the output is not ZPL as label-print writes it"))
     for letter in filter(text.__contains__, COUNTS):
         text = text.replace(*RUNS[letter])
     parts = text.split(b":")
     if not b"".join([part[digits - 1 :: digits] for part in parts]).isascii():
-        raise NotDecoded(Text("a row of the ZPL has the wrong length"))
+        raise Different(Text("a row of the ZPL has the wrong length"))
     return text.translate(UNMARKED).split(b":")
 
 
 def of_length(data: bytes, length: int) -> bytes:
-    """Returns data of a length; raises `NotDecoded` for another one."""
+    """Returns data of a length; raises `Different` for another one."""
     if len(data) != length:
-        raise NotDecoded(Text("{} bytes of dots for {}", len(data), length))
+        raise Different(Text("{} bytes of dots for {}", len(data), length))
     return data
 
 

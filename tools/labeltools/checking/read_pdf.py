@@ -7,7 +7,7 @@ import zlib
 from functools import lru_cache
 from typing import Iterable, Iterator, NamedTuple, Sequence
 
-from labeltools.checking.decode import NotDecoded
+from labeltools.checking.decode import Different
 from labeltools.common.text import Text
 from labeltools.paper.box import Box
 
@@ -41,7 +41,9 @@ WHITES = re.compile(
 WHITE = re.compile(rb"\s*q\s+1 1 1 rg (?:/a[0-9]+ gs\s)?([-0-9. \nmlhre]+) f\s+Q\s*")
 # one rectangle, or several and a point that paints nothing
 ALONE = re.compile(rb"(N) (N) (N) (N) re".replace(b"N", NUMBER))
-RECTANGLE = re.compile(rb"(N) (N) m (N) (N) l (N) (N) l (N) (N) l\s+h\s".replace(b"N", NUMBER))
+RECTANGLE = re.compile(
+    rb"(?<![-0-9.])(N) (N) m (N) (N) l (N) (N) l (N) (N) l\s+h\s".replace(b"N", NUMBER)
+)
 POINT = re.compile(rb"N N m".replace(b"N", NUMBER))
 PICTURE = re.compile(rb"(?:Q\nq\n)?%b cm\n/x([0-9]+)" % NUMBERS)
 END = re.compile(rb"Q\s+Q\s*")
@@ -192,18 +194,17 @@ def boxes_in(path: bytes) -> tuple[Box, ...]:
         corners = [[*map(float, found)] for found in RECTANGLE.findall(path)]
         if not POINT.fullmatch(RECTANGLE.sub(b"", path)):
             raise ValueError("codes on no rectangles")
-    sides = [sides_of(numbers, 1) for numbers in corners]
+    sides = [sides_of(numbers) for numbers in corners]
     return tuple(Box(left, top, right - left, low - top) for left, top, right, low in sides)
 
 
-def sides_of(corners: Sequence[float], scale: float) -> tuple[int, int, int, int]:
+def sides_of(corners: Sequence[float]) -> tuple[int, int, int, int]:
     """Returns the sides of a rectangle in whole dots by its corners, one behind another; raises
     `ValueError` where they are none.
     """
-    places = [number * scale for number in corners]
-    dots = [round(place) for place in places]
+    dots = [round(place) for place in corners]
     points = [*zip(dots[::2], dots[1::2])]
-    is_near = all(abs(place - dot) <= NEAR for place, dot in zip(places, dots))
+    is_near = all(abs(place - dot) <= NEAR for place, dot in zip(corners, dots))
     sides = [(x == u, y == v) for (x, y), (u, v) in zip(points, [*points[1:], points[0]])]
     if not is_near or sides[:2] != sides[2:] or {*sides} != {(True, False), (False, True)}:
         raise ValueError("a rectangle that is none, or on no whole dots")
@@ -221,15 +222,15 @@ def is_at(corners: Corners, box: Box, quarters: int) -> bool:
 
 
 def drawn_pages(data: bytes, dpi: float, count: int, codes: Iterable[int]) -> Iterator[DrawnPage]:
-    """Yields the codes of each page of a document, of which there are so many; raises `NotDecoded`
+    """Yields the codes of each page of a document, of which there are so many; raises `Different`
     where there are not so many pages, or codes.
     """
     try:
         pdf = Pdf(data, dpi)
         pages = pdf.pages()
         if len(pages) != count:
-            raise NotDecoded(Text("the output has {} pages instead of {}", len(pages), count))
+            raise Different(Text("the output has {} pages instead of {}", len(pages), count))
         for number, several in zip(pages, codes):
             yield pdf.codes_of_page(number, several) if several else DrawnPage((), ())
     except (ValueError, LookupError, TypeError, zlib.error) as error:
-        raise NotDecoded(Text("the output is not PDF as Cairo writes it: {}", error)) from error
+        raise Different(Text("the output is not PDF as Cairo writes it: {}", error)) from error

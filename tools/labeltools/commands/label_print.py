@@ -6,51 +6,44 @@ import os
 import re
 import stat
 import sys
+from functools import partial
 from pathlib import Path
-from types import MappingProxyType
-from typing import Any, Mapping, Sequence
+from typing import Mapping, Sequence
 
-from labeltools.common.arguments import (
-    add_options,
-    Option,
-    Parser,
-    read_beside,
-    wrong_argument,
-)
-from labeltools.common.messages import BAD_ARGUMENTS, sentence, ToolError, write_message
-from labeltools.common.process import (
-    CommandTalk,
-    keep_standard_error,
-    read_input,
-    standard_output,
-)
+from labeltools.common.arguments import add_options, Option, Parser, wrong_argument
+from labeltools.common.messages import BAD_ARGUMENTS, Problem, sentence, ToolError, write_message
+from labeltools.common.process import CommandTalk, keep_standard_error, read_input, standard_output
 from labeltools.common.report import left_out_messages, places_text, Ranges
 from labeltools.common.signals import hold_signals
 from labeltools.common.text import counted, joined, shell_line, Text
 from labeltools.designs.svg_design import is_file
-from labeltools.drawing.forms import FORMS, PBM
+from labeltools.drawing.forms import FORMS, SHOWN_FORMS
 from labeltools.layout.area import PURPOSES
 from labeltools.lines.file import Record
 from labeltools.paper.sizes import A4
-from labeltools.paper.stock import forget_glabels, list_stock, Size
-from labeltools.printing.job import AS_GIVEN, DRAWING_DPI, Job, planned, PrintOptions, refuse
+from labeltools.paper.stock import forget_glabels, list_stock
+from labeltools.printing.job import (
+    AS_GIVEN,
+    DRAWING_DPI,
+    Job,
+    LEAVE_OUT,
+    planned,
+    PrintOptions,
+    refuse,
+    STATES,
+)
 from labeltools.printing.press import check_count, labels_of, Prepared
 from labeltools.printing.selection import ranges_in, selection_of
 from labeltools.sending.journal import Journal
 from labeltools.sending.network import address_of
 from labeltools.sending.outcomes import NOTHING_OUT
 from labeltools.sending.outlets import Files, Outlet, OUTPUT, StandardOutput
-from labeltools.sending.sender import (
-    direct_outlet,
-    expected,
-    labels_text,
-    Sender,
-)
+from labeltools.sending.sender import direct_outlet, expected, labels_text, Sender
 
 TOOL = "label-print"
 USAGE = """label-print --stock NAME [OPTIONS] [LINES]
        label-print --paper WxH [OPTIONS] [LINES]
-       label-print --columns N --rows N --cell WxH [OPTIONS] [LINES]
+       label-print --grid NxN --cell WxH [OPTIONS] [LINES]
        label-print --list-stock [WORD]"""
 ABOUT = """Prints the lines of label-table, or of labels(1), on sheets of labels, on label
 printers and on receipt printers. Lengths are in millimetres. Defaults are in
@@ -61,51 +54,43 @@ EXAMPLES = """examples:
 
 man label-print has all details."""
 LENGTH = re.compile(r"-?\d{1,4}(?:\.\d{1,4})?", re.ASCII)
+GRID = re.compile("([1-9][0-9]{0,3})x([1-9][0-9]{0,3})")
+SOME_CELLS = "3x8"  # as they are written
 SMALLEST = 0.0001  # of a length that is above zero, in millimetres
+TURNS = {"yes": True, "no": False}
 FARTHEST = 10_000.0  # that something is moved
 
 
-def lengths(argument: str, between: str, example: str, least: float = 0.0) -> list[float]:
-    """Returns the lengths of an argument, from `least` on: as many as an example has."""
-    parts = argument.split(between)
-    is_like = len(parts) == example.count(between) + 1 and all(map(LENGTH.fullmatch, parts))
-    found = [float(part) for part in parts] if is_like else []
+def lengths(argument: str, example: str, least: float = 0.0) -> tuple[float, ...]:
+    """Returns the lengths of an argument, from `least` on: as many as an example has, with the same
+    sign between them.
+    """
+    sign = "x" if "x" in example else ","
+    parts = argument.split(sign)
+    is_like = len(parts) == example.count(sign) + 1 and all(map(LENGTH.fullmatch, parts))
+    found = tuple(float(part) for part in parts) if is_like else ()
     if not found or min(found) < least:
         raise wrong_argument(Text("{!r}: write it as {}", argument, example))
     return found
 
 
-def width_and_height(argument: str) -> Size:
-    """Returns a width and a height."""
-    width, height = lengths(argument, "x", "63x38", SMALLEST)
-    return width, height
-
-
-def left_and_top(argument: str) -> Size:
-    """Returns how far something is from the left and from the top."""
-    left, top = lengths(argument, "x", "7x15")
-    return left, top
-
-
-def shift(argument: str) -> Size:
-    """Returns how far something is moved to the right and down, or the other way."""
-    right, down = lengths(argument, ",", "-0.5,1", -FARTHEST)
-    return right, down
+def grid(argument: str) -> tuple[int, int]:
+    """Returns how many cells are side by side, and how many are below one another."""
+    found = GRID.fullmatch(argument)
+    if not found:
+        raise wrong_argument(Text("{!r}: write it as {}", argument, SOME_CELLS))
+    return int(found[1]), int(found[2])
 
 
 def module(argument: str) -> float:
     """Returns the width of a module."""
-    (width,) = lengths(argument, ",", "38.1", SMALLEST)
+    (width,) = lengths(argument, "38.1", SMALLEST)
     return width
 
 
-def edges(argument: str) -> tuple[float, float, float, float]:
+def edges(argument: str) -> tuple[float, ...]:
     """Returns the edges of one number for all, or of four."""
-    if "," in argument:
-        left, top, right, bottom = lengths(argument, ",", "5,5,5,5")
-        return left, top, right, bottom
-    (edge,) = lengths(argument, ",", "5")
-    return edge, edge, edge, edge
+    return lengths(argument, "5,5,5,5") if "," in argument else 4 * lengths(argument, "5")
 
 
 def number_from(argument: str, least: int, digits: int, example: str) -> int:
@@ -114,16 +99,6 @@ def number_from(argument: str, least: int, digits: int, example: str) -> int:
     if not is_number or int(argument) < least:
         raise wrong_argument(Text("{!r}: write it as {}", argument, example))
     return int(argument)
-
-
-def from_one(argument: str) -> int:
-    """Returns how many of something there are, or which of them is meant."""
-    return number_from(argument, 1, 4, "3")
-
-
-def labels_before(argument: str) -> int:
-    """Returns how many labels are on paper already: at most as many as one run takes."""
-    return number_from(argument, 0, 7, "9")
 
 
 def design_of(argument: str) -> str:
@@ -166,7 +141,11 @@ def printer_of(argument: str) -> str:
     return argument
 
 
-SHOWN_FORMS = ", ".join(name for name in FORMS if name != PBM.name)  # which is for tests
+WIDTH_AND_HEIGHT = partial(lengths, example="63x38", least=SMALLEST)
+LEFT_AND_TOP = partial(lengths, example="7x15")
+SHIFT = partial(lengths, example="-0.5,1", least=-FARTHEST)
+FROM_ONE = partial(number_from, least=1, digits=4, example="3")
+LABELS_BEFORE = partial(number_from, least=0, digits=7, example="9")  # as many as a run takes
 SUMMARY = "report what was written and how to print it (always on a terminal)"
 OPTIONS: Mapping[str, Sequence[Option]] = {
     "the paper": (
@@ -186,34 +165,37 @@ OPTIONS: Mapping[str, Sequence[Option]] = {
         Option(
             "--paper",
             "WxH",
-            "one label on each page of this size, as on a roll",
-            width_and_height,
+            "one label on each page of this size, as on a roll; or the page of a grid "
+            "({:g}x{:g})".format(*A4),
+            WIDTH_AND_HEIGHT,
             apart="sheet",
         ),
         Option(
             "--cell",
             "WxH",
-            "a grid, with --columns and --rows: the size of a cell",
-            width_and_height,
-            apart="sheet",
+            "the size of a cell of a grid",
+            WIDTH_AND_HEIGHT,
         ),
-        Option("--columns", "N", "cells side by side", from_one),
-        Option("--rows", "N", "cells below one another", from_one),
-        Option("--page", "WxH", "the size of the page ({:g}x{:g})".format(*A4), width_and_height),
+        Option(
+            "--grid",
+            "NxN",
+            "with --cell: how many cells are side by side and below one another, such as 3x8",
+            grid,
+        ),
         Option(
             "--margin",
             "LEFTxTOP",
             "where the first cell begins (by default the grid is centred)",
-            left_and_top,
+            LEFT_AND_TOP,
         ),
-        Option("--gap", "XxY", "the distance between two cells (0x0)", left_and_top),
+        Option("--gap", "XxY", "the distance between two cells (0x0)", LEFT_AND_TOP),
         Option(
             "--edge",
             "MM",
             "white at the edges of a page: one for all, or left,top,right,bottom (5; on a roll 0)",
             edges,
         ),
-        Option("--shift", "X,Y", "move everything, for a printer that feeds off centre", shift),
+        Option("--shift", "X,Y", "move everything, for a printer that feeds off centre", SHIFT),
     ),
     "how labels look": (
         Option(
@@ -224,11 +206,10 @@ OPTIONS: Mapping[str, Sequence[Option]] = {
         ),
         Option(
             "--turn",
-            "",
-            "turn labels a quarter to the right (default: if more fit)",
-            apart="turn",
+            "WHETHER",
+            "turn labels a quarter to the right: yes, or no (by default if more fit)",
+            choices=tuple(TURNS),
         ),
-        Option("--no-turn", "", "never turn labels", target="turn", sets=False, apart="turn"),
         Option(
             "--module",
             "MM",
@@ -246,7 +227,7 @@ OPTIONS: Mapping[str, Sequence[Option]] = {
         ),
     ),
     "what is printed": (
-        Option("--first", "N", "begin at this cell of the first page (1)", from_one),
+        Option("--first", "N", "begin at this cell of the first page (1)", FROM_ONE),
         Option(
             "--only",
             "ROWS",
@@ -267,13 +248,7 @@ OPTIONS: Mapping[str, Sequence[Option]] = {
             "--after",
             "N",
             "skip this many labels, which are on paper already (0)",
-            labels_before,
-        ),
-        Option(
-            "--unique",
-            "",
-            "skip a line whose code came before, as for tickets and serial numbers",
-            target="is_unique",
+            LABELS_BEFORE,
         ),
         Option(
             "--escapes",
@@ -286,14 +261,14 @@ OPTIONS: Mapping[str, Sequence[Option]] = {
         Option(
             "--to",
             "FORM",
-            f"{SHOWN_FORMS} (pdf)",
+            "{} (pdf)".format(", ".join(SHOWN_FORMS)),
             choices=tuple(FORMS),
         ),
         Option(
             "--dpi",
             "N",
-            f"the resolution of the printer, in dots per inch (pdf and svg: {DRAWING_DPI})",
-            from_one,
+            f"the resolution of the printer, in dots per inch (pdf: {DRAWING_DPI})",
+            FROM_ONE,
         ),
         Option(
             "--each",
@@ -324,9 +299,16 @@ OPTIONS: Mapping[str, Sequence[Option]] = {
         Option(
             "--again",
             "PRINTER",
-            "with --only or --only-code: print once more what the journal has of this printer; "
-            "on a queue of CUPS: what was sent to it before",
+            "with --only or --only-code: print once more what the journal has of this printer",
             not_empty,
+        ),
+        Option(
+            "--state",
+            "WHICH",
+            "print nothing. list: write what the journal has as CSV; printed: its labels in doubt "
+            "are on paper; missing: the next run prints them (of a printer with --print, some with "
+            "--only or --only-code)",
+            choices=STATES,
         ),
         Option(
             "--stream",
@@ -334,7 +316,7 @@ OPTIONS: Mapping[str, Sequence[Option]] = {
             "print each label as soon as its line has come in, and answer on standard error",
             target="is_stream",
         ),
-        Option("--dots", "N", "escpos: dots across the paper (576)", from_one),
+        Option("--dots", "N", "escpos: dots across the paper (576)", FROM_ONE),
         Option(
             "--no-cut",
             "",
@@ -357,14 +339,13 @@ def print_parser() -> Parser:
     return parser
 
 
-def print_options(
-    words: Sequence[str] | None = None, chosen: Mapping[str, Any] = MappingProxyType({})
-) -> PrintOptions:
-    """Returns what words ask for, or else the arguments of this program, beside what is chosen
-    already, by the names of fields; raises `ToolError` and `OSError`.
+def print_options(words: Sequence[str] | None = None) -> PrintOptions:
+    """Returns what words ask for, or else the arguments of this program; raises `ToolError` and
+    `OSError`.
     """
-    given = vars(read_beside(chosen, print_parser(), OPTIONS, words))
+    given = vars(print_parser().parse_args(words))
     given["only"] = selection_of(given.pop("rows_only") or (), given.pop("codes"))
+    given["turn"] = TURNS.get(given["turn"])
     return PrintOptions(**given)
 
 
@@ -374,10 +355,14 @@ def run() -> int:
     if options.is_stream:
         keep_standard_error()
     if options.list_stock is not None:
-        one_word = Text("--list-stock takes one WORD: put quotes around several")
-        refuse(options.lines, one_word)
+        one_word = Text("sheets are looked for by one text")
+        refuse(options.lines, one_word, Text("put quotes around it"), ["list-stock"])
         print(stock_lines(options.list_stock))
         return 0
+    if options.state is not None:
+        from labeltools.commands import journal_run  # with the journal
+
+        return journal_run.run(options)
     if options.queue and not options.is_stream and not options.is_sent_singly:
         from labeltools.commands.queue_run import print_on_queue  # with CUPS, which takes time
 
@@ -398,13 +383,13 @@ def labels_in(job: Job, talk: CommandTalk) -> Prepared:
     found = all_labels(job, talk)
     for message in [
         *left_out_messages(found.left_out, found.tables),
-        *(remark.reason for remark in found.remarks),
+        *(remark.problem.line for remark in found.remarks),
     ]:
         write_message(TOOL, message)
     check_count(job, found.prints)
-    if after := job.options.after:
+    if job.options.after:
         place = places_text([found.prints[0].record.origin], len(found.tables) > 1)
-        write_message(TOOL, Text("--after {}: the first label is {}", after, place))
+        write_message(TOOL, Text("the first label is {}", place))
     return found
 
 
@@ -444,24 +429,24 @@ def check_way(job: Job) -> None:
 def check_given(job: Job, is_queue: bool = False) -> None:
     """Raises `ToolError` where a paper is as given of which no driver says anything."""
     needless = job.options.is_paper_as_given and (not is_queue or job.form.is_roll)
-    only = Text("{} is only for a PDF on a queue of CUPS", AS_GIVEN)
-    refuse(needless, only, Text("leave it out"))
+    only = Text("a paper is taken as given only for a PDF on a queue of CUPS")
+    refuse(needless, only, LEAVE_OUT, [AS_GIVEN.option])
 
 
 def direct_way(job: Job) -> Outlet:
     """Returns the way to a printer, or else standard output."""
     if job.options.queue:
-        return direct_outlet(job.options.queue)
+        return direct_outlet(job.options.queue, job.form)
     return StandardOutput(job.form.is_roll, is_synced=job.options.journal is not None)
 
 
 def sender_of(job: Job, outlet: Outlet, records: Sequence[Record]) -> Sender:
     """Returns what sends the labels of some lines, after a look at the journal."""
     options = job.options
-    journal = Journal(options.journal, outlet.name, records) if options.journal else None
+    journal = Journal(options.journal, outlet.name, options.again) if options.journal else None
     if journal is not None:
         check_journal(options, journal)
-    return Sender(outlet, journal, options.again, records)
+    return Sender(job, outlet, journal, records)
 
 
 def check_journal(options: PrintOptions, journal: Journal) -> None:
@@ -471,7 +456,7 @@ def check_journal(options: PrintOptions, journal: Journal) -> None:
     if options.again and options.again not in journal.printers():
         names = ", ".join(sorted(journal.printers())) or Text("nothing")
         what = Text("{} has no label of {}", journal.path, options.again)
-        raise ToolError(what, Text("--again: the journal has these printers: {}", names))
+        raise ToolError(what, Text("the journal has these printers: {}", names))
     if journal.has_others:
         what = Text("other users may read or write {}, and stop it", journal.path)
         line = shell_line(["chmod", "go=", journal.path])
@@ -497,14 +482,15 @@ def give_out(found: Prepared, talk: CommandTalk) -> int:
     try:
         send_labels(sender, found, talk)
     finally:
-        doubtful = sender.doubtful_codes()
+        doubtful = sender.end_run()
         for message in sender.doubts(doubtful):
             write_message(TOOL, message)
     known = len(sender.known - doubtful.keys())
     is_asked = options.is_summed or sys.stderr.isatty()
     if options.each is None and (known or options.queue or is_asked):
         write_message(TOOL, summary_of(found.job, sender, known))
-    return 1 if found.left_out or doubtful or sender.is_stuck else 0
+    is_left_out = found.left_out or sender.progress.wrong
+    return int(bool(is_left_out or doubtful or sender.watch.is_stuck))
 
 
 def send_labels(sender: Sender, found: Prepared, talk: CommandTalk) -> None:
@@ -520,11 +506,11 @@ def send_labels(sender: Sender, found: Prepared, talk: CommandTalk) -> None:
             sender.send_all(found, talk, came)
         except ToolError as error:
             if came:
-                talk.say(error.what, error.hint)
+                talk.say(error.problem)
             raise
         if came:
             so_far = sender.progress.so_far()
-            talk.say(Text("{}: {}, and these are all", sender.outlet.name, so_far))
+            talk.say(Problem(Text("{}: {}, and these are all", sender.outlet.name, so_far)))
 
 
 def summary_of(job: Job, sender: Sender, known: int) -> Text:
@@ -540,7 +526,7 @@ def summary_of(job: Job, sender: Sender, known: int) -> Text:
             known,
             options.journal,
         )
-    text = sender.result() if options.queue else labels_text(taken)
+    text = sender.watch.report_of_sent(labels_text(taken)) if options.queue else labels_text(taken)
     if not job.form.is_roll:
         text = Text("{} on {}", text, counted("{} page", "{} pages", job.pages_of(taken)))
     if known:

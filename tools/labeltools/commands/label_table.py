@@ -6,56 +6,63 @@ import re
 import sys
 from contextlib import suppress
 from dataclasses import fields, replace
-from types import MappingProxyType
+from functools import partial
+from itertools import chain
 from typing import Any, Callable, Mapping, Sequence, TypeVar
 
-from labeltools.common.arguments import (
-    add_options,
-    Option,
-    Parser,
-    read_beside,
-    words_of,
-    wrong_argument,
-)
-from labeltools.common.budget import Budget, TABLE
+from labeltools.common.apart import apart, Input, read_apart
+from labeltools.common.arguments import add_options, Option, Parser, words_of, wrong_argument
+from labeltools.common.budget import LINES, TABLE
 from labeltools.common.messages import (
     BAD_ARGUMENTS,
     BadArguments,
     Origin,
+    Problem,
     quoted,
-    sentence,
+    Remedy,
     Silence,
+    Talk,
     ToolError,
     visible,
     write_message,
 )
 from labeltools.common.process import CommandTalk, read_file, read_input, standard_output
 from labeltools.common.report import listed
-from labeltools.common.text import (
-    either,
-    hint_of_remedies,
-    joined,
-    remedies_of,
-    Remedy,
-    shell_line,
-    shell_word,
-    Text,
-)
-from labeltools.lines.file import LinesFile, read_lines
+from labeltools.common.text import joined, shell_line, shell_word, Text, translated
+from labeltools.lines.file import LinesFile, read_lines, Record
 from labeltools.lines.symbologies import EAN13, SYMBOLOGIES
 from labeltools.sheets.file_options import FileOptions
 from labeltools.sheets.number_format import date_section
-from labeltools.tables.codes import AUTO, CodeRules, HAS_DIGIT, kind_remedy, NAMES, NO_ZEROS
+from labeltools.tables.codes import (
+    AUTO,
+    CodeRules,
+    HAS_DIGIT,
+    kind_remedy,
+    NAMES,
+    NO_ZEROS,
+    symbology_named,
+    WAYS_OF_DIGITS,
+    ZEROS_ARE_LOST,
+)
 from labeltools.tables.columns import column_word
+from labeltools.tables.first_labels import (
+    first_labels,
+    first_ones,
+    line_of_label,
+    Proposed,
+    said_of_unused,
+)
 from labeltools.tables.guess import Guess, guess_of
-from labeltools.tables.old_encoding import old_encoding
+from labeltools.tables.money import ANY_TEXT
+from labeltools.tables.old_encoding import old_encoding, OldEncoding
 from labeltools.tables.prices import PricePattern
 from labeltools.tables.summary import summary_line
 from labeltools.tables.table import lines_of_table
 from labeltools.tables.table_options import Columns, PriceRules, TableOptions
 
 TOOL = "label-table"
-USAGE = "label-table --code COLUMN [OPTIONS] [TABLE]"
+USAGE = """label-table --code COLUMN [OPTIONS] [TABLE]
+       label-table [OPTIONS] TABLE, which proposes the columns"""
 ABOUT = """Reads a table: CSV, .xlsx or .ods. Writes a line for each label, with its title
 and price; labels(1) can draw these lines. A row whose label would be wrong is
 skipped, with a message and status 1. For COLUMN give its name, or its number
@@ -66,16 +73,9 @@ EXAMPLES = """examples:
 
 label-print prints these files. man label-table explains the options, and
 man 5 label-table says what is accepted in each kind of column."""
-SETTINGS = re.compile("[a-z-]+=[A-Za-z0-9]+(?:,[a-z-]+=[A-Za-z0-9]+)*")
-DELIMITER = re.compile('[^"\r\n\0 \x80-\U0010ffff]|tab|none')
-ROW_NUMBER = re.compile("[1-9][0-9]{0,6}")
+ROW_NUMBER = re.compile("0|[1-9][0-9]{0,6}")
 SIGNS = {"comma": ",", "point": ".", ",": ",", ".": "."}
 MOST_PROPOSED = 8  # commands
-MOST_NAMED = 8  # columns of which one is meant
-NO_PRICE = Text(
-    "no price is proposed, since these may be single things, such as tickets or library books"
-)
-PRICED = Remedy("price")
 # what is found in the columns of options, in the order in which it is named
 OF_KINDS = {
     "code": Text("the code"),
@@ -86,16 +86,10 @@ OF_KINDS = {
     "copies": Text("the number of labels"),
 }
 MOST_ALIKE = 50  # messages about rows that differ in their cells alone
-AS_IN_TABLE = Remedy("price-as", says=Text("As in the table"), is_less=True)
-NOT_TOGETHER = Text(
-    "--fill-zeros, --without-check-digit and --symbology code128 or qr do not go together"
-).in_window(Text("lost zeros, codes without a check digit, and Code 128 or QR do not go together"))
-AS_TEXT_AND_PATTERN = Text("--price-text and --price-as do not go together").in_window(
-    Text("prices that may be any text cannot be given another look")
-)
-NO_PRICES = Text("--price-as needs --price, --unit-price or --old-price").in_window(
-    Text("there are no prices to be given another look")
-)
+AS_IN_TABLE = Remedy("price-as", says=Text("print prices as in the table"), is_less=True)
+OF_PRICES = ("price", "unit_price", "old_price")
+NOT_TOGETHER = Text("codes of Code 128 and QR have neither lost zeros nor check digits")
+NO_PRICES = Text("there are no prices to be given another look")
 Read = TypeVar("Read")
 
 
@@ -108,12 +102,12 @@ class TableTalk(CommandTalk):
         super().__init__(TOOL)
         self.rows: dict[tuple[object, ...], list[int]] = {}
 
-    def note(self, origin: Origin, cell: str, reason: Text, hint: Text) -> None:
+    def note(self, origin: Origin, cell: str, problem: Problem) -> None:
         """Writes why a row is left out."""
-        rows = self.rows.setdefault((reason.wording, hint.wording), [])
+        rows = self.rows.setdefault((problem.what.wording, problem.hint.wording), [])
         rows.append(origin.number)
         if len(rows) <= MOST_ALIKE:
-            super().note(origin, cell, reason, hint)
+            super().note(origin, cell, problem)
 
     def report_rest(self) -> None:
         """Writes how many more rows were left out for each reason."""
@@ -143,7 +137,10 @@ def dates(text: str) -> str:
     return text
 
 
-pattern = reported(PricePattern.from_text)
+@reported
+def look_of_prices(text: str) -> PricePattern | str:
+    """Returns the pattern of prices that an argument is, or the word for prices of any text."""
+    return text if text == ANY_TEXT.value else PricePattern.from_text(text)
 
 
 def condition(text: str) -> tuple[str, str]:
@@ -161,28 +158,28 @@ def sign(text: str) -> str:
     return SIGNS[text]
 
 
-def settings(text: str) -> str:
-    """Returns the settings that an argument is."""
-    if not SETTINGS.fullmatch(text):
-        raise wrong_argument(Text("{}: write it as height=30 or level=Q,mask=2", quoted(text)))
-    return text
-
-
-def delimiter(text: str) -> str:
-    """Returns what separates cells."""
-    if not DELIMITER.fullmatch(text):
-        what = Text("{} is not tab, none or a character that can separate cells", quoted(text))
-        raise wrong_argument(what)
+def of_form(text: str, form: re.Pattern[str], wrong: Text) -> str:
+    """Returns an argument that has a form; what is said of another one has the argument in it."""
+    if not form.fullmatch(text):
+        raise wrong_argument(wrong.with_fields(quoted(text)))
     return text
 
 
 def row_number(text: str) -> int:
     """Returns the number of a row."""
-    if not ROW_NUMBER.fullmatch(text):
-        raise wrong_argument(Text("{} is not the number of a row", quoted(text)))
-    return int(text)
+    return int(of_form(text, ROW_NUMBER, Text("{} is not the number of a row", text)))
 
 
+SETTINGS = partial(
+    of_form,
+    form=re.compile("[a-z-]+=[A-Za-z0-9]+(?:,[a-z-]+=[A-Za-z0-9]+)*"),
+    wrong=Text("{}: write it as height=30 or level=Q,mask=2", ""),
+)
+DELIMITER = partial(
+    of_form,
+    form=re.compile('[^"\r\n\0 \x80-\U0010ffff]|tab|none'),
+    wrong=Text("{} is not tab, none or a character that can separate cells", ""),
+)
 SUMMARY = "report at the end how many labels there are, and which prices"
 OPTIONS: Mapping[str, Sequence[Option]] = {
     "columns": (
@@ -221,25 +218,32 @@ OPTIONS: Mapping[str, Sequence[Option]] = {
         Option(
             "--symbology",
             "NAME",
-            f"{', '.join(NAMES)} [default: {AUTO}]",
-            choices=NAMES,
+            f"{', '.join(NAMES)}, or the column that has them [default: {AUTO}]",
             default=AUTO,
         ),
-        Option("--symbology-column", "COLUMN", "the column of the symbologies"),
         Option(
             "--settings",
             "TEXT",
             "settings of all lines, such as height=30 or level=Q,mask=2",
-            settings,
+            SETTINGS,
         ),
-        Option("--fill-zeros", "", "put back up to three lost leading zeros"),
-        Option("--without-check-digit", "", "the numbers have no check digit; labels adds it"),
+        Option(
+            "--digits",
+            "WHICH",
+            "lost-zeros: put back up to three leading zeros; no-check: labels adds check digits",
+            choices=WAYS_OF_DIGITS,
+            default="",
+        ),
         Option("--allow-zeros", "", "accept numbers that end in many zeros, which look rounded"),
         Option("--links", "", "if the cell of a code is a link, draw its address"),
     ),
     "prices and dates": (
-        Option("--price-as", "FORMAT", "write prices like '0,00 €' or '¤ 0.00'", pattern),
-        Option("--price-text", "", "prices may be any text, such as 'on request'"),
+        Option(
+            "--price-as",
+            "FORMAT",
+            "write prices like '0,00 €' or '¤ 0.00'; text: they may be any text, as 'on request'",
+            look_of_prices,
+        ),
         Option("--currency-name", "NAME", "a currency that label-table does not know", default=""),
         Option("--decimal", "SIGN", "decimal sign: comma or point [default: the locale's]", sign),
         Option("--date-as", "FORMAT", "write dates like dd.mm.yyyy", dates),
@@ -252,7 +256,7 @@ OPTIONS: Mapping[str, Sequence[Option]] = {
             "--delimiter",
             "C",
             "the character between cells of CSV; or the word tab, or none for a single column",
-            delimiter,
+            DELIMITER,
         ),
         Option(
             "--encoding",
@@ -260,26 +264,10 @@ OPTIONS: Mapping[str, Sequence[Option]] = {
             "the encoding of CSV [default: UTF-8, or as its byte order mark says]",
         ),
         Option(
-            "--header",
-            "",
-            "row 1 has the names of the columns",
-            target="has_header",
-            apart="header",
-        ),
-        Option(
-            "--no-header",
-            "",
-            "row 1 is an article, not the names of columns",
-            target="has_header",
-            sets=False,
-            apart="header",
-        ),
-        Option(
             "--header-row",
             "N",
-            "this row has the names of the columns",
+            "this row has the names of the columns; 0: no row has them",
             row_number,
-            apart="header",
         ),
     ),
 }
@@ -311,33 +299,42 @@ def record_of_arguments(kind: type[Read], arguments: argparse.Namespace, **more:
     return kind(**{name: found[name] for name in names if found[name] is not None})
 
 
+def symbology_column(arguments: argparse.Namespace) -> str | None:
+    """Returns the column of the symbologies, None where all codes have one."""
+    return None if symbology_named(arguments.symbology) else arguments.symbology
+
+
+def code_rules(arguments: argparse.Namespace) -> CodeRules:
+    """Returns how codes are read; the symbology may be in a column."""
+    kind = symbology_named(arguments.symbology) or AUTO
+    return record_of_arguments(CodeRules, arguments, symbology=kind)
+
+
 def table_options(arguments: argparse.Namespace) -> TableOptions:
     """Returns the options that the arguments are; raises `ToolError` and `OSError` for older lines
     that cannot be read.
     """
     several = {name: tuple(getattr(arguments, name)) for name in ("title", "text", "where")}
     older = arguments.new_since
+    is_text = arguments.price_as == ANY_TEXT.value
+    pattern = None if is_text else arguments.price_as
     return record_of_arguments(
         TableOptions,
         arguments,
         columns=record_of_arguments(
-            Columns, arguments, symbology=arguments.symbology_column, **several
+            Columns, arguments, symbology=symbology_column(arguments), **several
         ),
         file=record_of_arguments(FileOptions, arguments),
-        codes=record_of_arguments(CodeRules, arguments),
-        prices=PriceRules(bool(arguments.price_text), arguments.price_as, arguments.currency_name),
+        codes=code_rules(arguments),
+        prices=PriceRules(is_text, pattern, arguments.currency_name),
         new_since=None if older is None else older_lines(older),
         table="" if arguments.table in (None, "-") else arguments.table,
     )
 
 
-def understood(
-    words: Sequence[str], chosen: Mapping[str, Any] = MappingProxyType({})
-) -> argparse.Namespace:
-    """Returns the arguments that words are, beside what is chosen already, by the names of fields;
-    raises `BadArguments`.
-    """
-    arguments = read_beside(chosen, table_parser(), OPTIONS, words)
+def understood(words: Sequence[str]) -> argparse.Namespace:
+    """Returns the arguments that words are; raises `BadArguments`."""
+    arguments = table_parser().parse_args(words)
     if arguments.code is None:
         raise BadArguments(Text("the following arguments are required: --code"))
     check_arguments(arguments)
@@ -346,35 +343,21 @@ def understood(
 
 def check_arguments(arguments: argparse.Namespace) -> None:
     """Raises `BadArguments` for arguments that are wrong, or do not go together."""
-    rules = record_of_arguments(CodeRules, arguments)
-    is_free = rules.is_free and arguments.symbology_column is None
-    given = [
-        remedy
-        for is_given, remedy in (
-            (rules.fill_zeros, NO_ZEROS),
-            (rules.without_check_digit, HAS_DIGIT),
-            (is_free, replace(kind_remedy(AUTO), value=rules.symbology, is_less=True)),
-        )
-        if is_given
-    ]
-    refuse_together(len(given) > 1, NOT_TOGETHER, given)
+    rules = code_rules(arguments)
+    if rules.is_free and rules.digits:
+        as_they_are = NO_ZEROS if rules.digits == ZEROS_ARE_LOST else HAS_DIGIT
+        number = replace(kind_remedy(AUTO), value=rules.symbology, is_less=True)
+        raise BadArguments(NOT_TOGETHER, remedies=(as_they_are, number))
     if arguments.variants_of and not arguments.title:
-        raise BadArguments(Text("--variants-of needs --title"))
-    given = [Remedy("price-text", says=Text("Every price is a number"), is_less=True), AS_IN_TABLE]
-    refuse_together(arguments.price_text and arguments.price_as, AS_TEXT_AND_PATTERN, given)
-    is_priced = arguments.price or arguments.unit_price or arguments.old_price
-    refuse_together(arguments.price_as and not is_priced, NO_PRICES, [AS_IN_TABLE])
-    if arguments.symbology_column is None:
+        what = Text("variants have one title, and there is none")
+        raise BadArguments(what, Text("name its column"), (Remedy("title"),))
+    if arguments.price_as and not any(getattr(arguments, name) for name in OF_PRICES):
+        raise BadArguments(NO_PRICES, remedies=(AS_IN_TABLE,))
+    if symbology_column(arguments) is None:
         kind = SYMBOLOGIES[EAN13.name if rules.symbology == AUTO else rules.symbology]
         wrong = TableOptions(settings=arguments.settings or "").wrong_setting(kind.name)
         if wrong:
             raise BadArguments(Text("{} has no setting {}", kind.title, wrong))
-
-
-def refuse_together(is_wrong: object, what: Text, given: Sequence[Remedy]) -> None:
-    """Raises `BadArguments` where arguments do not go together: one of those given may go."""
-    if is_wrong:
-        raise BadArguments(what, Text("leave out {}", either(given)))
 
 
 def propose(words: Sequence[str], arguments: argparse.Namespace) -> None:
@@ -383,38 +366,72 @@ def propose(words: Sequence[str], arguments: argparse.Namespace) -> None:
     """
     name, data = read_input(arguments.table, TABLE)
     options = TableOptions(file=record_of_arguments(FileOptions, arguments))
-    budget = Budget(name, len(data))
-    old = None if arguments.encoding else old_encoding(data, name, options, budget)
+    old, sheet, guess = read_apart(found_in, data, name, options, CommandTalk(TOOL))
     if old:
-        write_message(TOOL, sentence(old.text, old.hint))
         words = ["--encoding", old.name, *words]
-        options = replace(options, file=replace(options.file, encoding=old.name))
-    sheet, guess = guess_of_sheets(data, options, budget)
     if sheet:
         words = ["--sheet", sheet, *words]
     if not guess.codes:
         what = Text("no column of {} seems to have codes", name)
-        raise BadArguments(what, Text("give {} and the column that has them", Remedy("code")))
+        raise BadArguments(what, Text("name the column that has them"), (Remedy("code"),))
     say_what_is_found(guess, arguments)
     commands = commands_for(guess, words, arguments)
     single, several = Text("this command makes the labels:"), Text("one of these makes the labels:")
     write_message(TOOL, several if len(commands) > 1 else single)
-    for command in commands:
-        print(visible(command), file=sys.stderr)
+    show_commands(commands, guess, data, name)
+
+
+def show_commands(commands: Sequence[Sequence[str]], guess: Guess, data: bytes, name: str) -> None:
+    """Writes commands, each with the first labels that it makes; and the columns of amounts that
+    none of them uses, as they are beside the first label. Raises `ToolError` for a wrong command.
+    """
+    ways = [table_options(understood(command)) for command in commands]
+    asked = {column for options in ways for column in options.columns.asked}
+    words = {place: column_word(guess.names, place) for place in guess.amounts}
+    unused = [place for place, word in words.items() if asked.isdisjoint((word, str(place + 1)))]
+    proposed = Proposed(ways, [words[place] for place in unused])
+    labels = read_apart(first_labels, data, name, proposed, Silence())
+    for command, shown in zip(commands, labels.of_ways):
+        print(visible(shell_line([TOOL, *command])), file=sys.stderr)
+        for label in shown:
+            print(f"    {visible(translated(line_of_label(label)))}", file=sys.stderr)
+    if labels.problem:
+        none = Text("the first rows give no label: {}", labels.problem.what)
+        write_message(TOOL, replace(labels.problem, what=none).line)
+    if not unused:
+        return
+    first = next(iter(chain(*labels.of_ways)), Record())
+    texts = dict(zip(first.names, first.text))
+    cells = [texts.get(guess.names[place]) or guess.examples[place] for place in unused]
+    pairs = [f"{shell_word(words[place])} {cell}" for place, cell in zip(unused, cells)]
+    is_priced = any(options.columns.price for options in ways)
+    write_message(TOOL, said_of_unused(pairs, is_priced).line)
+
+
+def found_in(
+    data: bytes, name: str, options: TableOptions, talk: Talk
+) -> tuple[OldEncoding | None, str, Guess]:
+    """Returns the encoding of a table, if that is guessed, the sheet that is meant, where there are
+    several, and a guess of it; raises `ToolError`.
+    """
+    old = None if options.file.encoding else old_encoding(data, name, options, talk)
+    if old:
+        talk.say(old.problem)
+        options = replace(options, file=replace(options.file, encoding=old.name))
+    return old, *guess_of_sheets(data, name, options)
 
 
 def is_given(arguments: argparse.Namespace) -> bool:
     """Returns whether it was said how the codes are read."""
-    rules = record_of_arguments(CodeRules, arguments)
-    return rules != CodeRules() or arguments.symbology_column is not None
+    return code_rules(arguments) != CodeRules() or symbology_column(arguments) is not None
 
 
 def commands_for(
     guess: Guess, words: Sequence[str], arguments: argparse.Namespace
-) -> Sequence[str]:
-    """Returns the commands that may be meant, each with the words that were given: one for each way
-    of reading the codes, and for each answer to what only the keeper knows, as long as they are
-    not too many.
+) -> Sequence[Sequence[str]]:
+    """Returns the words of the commands that may be meant, each with those that were given: one for
+    each way of reading the codes, and for each answer to what only the keeper knows, as long as
+    they are not too many.
     """
     ways = [
         (place, rules)
@@ -433,32 +450,32 @@ def commands_for(
     ]
 
 
-def guess_of_sheets(data: bytes, options: TableOptions, budget: Budget) -> tuple[str, Guess]:
+def guess_of_sheets(data: bytes, name: str, options: TableOptions) -> tuple[str, Guess]:
     """Returns a guess of a table, and the sheet that alone has EAN or UPC, where there are several;
     raises `ToolError`, which offers only those that have some.
     """
     try:
-        return "", guess_of(data, budget.name, options, Silence(), budget)
+        return "", guess_of(data, name, options, Silence())
     except ToolError as error:
-        found = guesses_of_sheets(data, options, budget, error)
+        found = guesses_of_sheets(data, name, options, error)
         if len(found) == 1:
             return found.popitem()
         if not found:
             raise
-        right = hint_of_remedies(*(Remedy("sheet", name) for name in found))
-        raise ToolError(error.what, right, error.status) from error
+        right = tuple(remedy for remedy in error.remedies if remedy.value in found)
+        raise ToolError.of(replace(error.problem, remedies=right), error.status) from error
 
 
 def guesses_of_sheets(
-    data: bytes, options: TableOptions, budget: Budget, error: ToolError
+    data: bytes, name: str, options: TableOptions, error: ToolError
 ) -> dict[str, Guess]:
     """Returns the guesses of the sheets with EAN or UPC, by their names, which an error has."""
     found = {}
-    for remedy in remedies_of(error.hint):
+    for remedy in error.remedies:
         if remedy.option == "sheet":
             file = replace(options.file, sheet=remedy.value)
             with suppress(ToolError):
-                guess = guess_of(data, budget.name, replace(options, file=file), Silence(), budget)
+                guess = guess_of(data, name, replace(options, file=file), Silence())
                 if any(reading.are_sure for reading in guess.codes.values()):
                     found[remedy.value] = guess
     return found
@@ -469,6 +486,7 @@ def say_what_is_found(guess: Guess, arguments: argparse.Namespace) -> None:
     knows.
     """
     found = {kind: [place] for kind, place in guess.columns.items() if kind != "code"}
+    found |= {kind: [*places] for kind, places in guess.doubts.items() if len(places) == 1}
     if len(guess.codes) == 1:
         found = {"code": [*guess.codes], **found}
     if "title" in guess.beside:
@@ -490,33 +508,16 @@ def say_what_is_found(guess: Guess, arguments: argparse.Namespace) -> None:
             what = Text("most codes in {} are not EAN or UPC: {}", name, reading.problem)
             write_message(TOOL, what)
     for kind, places in guess.doubts.items():
-        if len(places) > 1 or kind != "code":
+        if len(places) > 1:
             which = words_for(guess, places)
             write_message(
                 TOOL, Text("only you know which column has {}: {}", OF_KINDS[kind], which)
             )
-    if not arguments.price:
-        say_of_no_price(guess)
-
-
-def say_of_no_price(guess: Guess) -> None:
-    """Writes why no price is proposed, if a column has money."""
-    if "price" in guess.columns or "price" in guess.doubts:
-        return
-    if "price" in guess.others:
-        others = words_for(guess, guess.others["price"])
-        hint = Text("give {} and its column if they have one, as {}", PRICED, others)
-        write_message(TOOL, sentence(NO_PRICE, hint))
-    elif guess.unpaid:
-        unpaid = words_for(guess, guess.unpaid)
-        what = Text("no price is proposed, since customers seem not to pay what is in {}", unpaid)
-        write_message(TOOL, sentence(what, Text("give {} and its column if they do", PRICED)))
 
 
 def words_for(guess: Guess, places: Sequence[int]) -> str:
     """Returns the columns at some places as a command has them, the first ones of many."""
-    words = [shell_word(column_word(guess.names, place)) for place in places]
-    return ", ".join(words[:MOST_NAMED] + [".."] * (len(words) > MOST_NAMED))
+    return ", ".join(first_ones([shell_word(column_word(guess.names, at)) for at in places]))
 
 
 def command_for(
@@ -525,8 +526,8 @@ def command_for(
     rules: CodeRules,
     words: Sequence[str],
     arguments: argparse.Namespace,
-) -> str:
-    """Returns the command that has some columns, and reads the codes by rules."""
+) -> Sequence[str]:
+    """Returns the words of the command that has some columns, and reads the codes by rules."""
     options: dict[str, Any] = {
         kind: column_word(guess.names, columns[kind])
         for kind in OF_KINDS
@@ -536,13 +537,12 @@ def command_for(
         options["title"] = [options["title"], column_word(guess.names, guess.beside["title"])]
     options |= more_options(guess, arguments, columns.get("price"))
     options["symbology"] = rules.symbology if rules.is_free else ""
-    options["fill-zeros"] = rules.fill_zeros
-    options["without-check-digit"] = rules.without_check_digit
-    if arguments.header_row is None and arguments.has_header is None:
-        is_asked = guess.header > 1 or column_word(guess.names, columns["code"]).isdecimal()
-        options["header-row"] = guess.header if is_asked else 0
-        options["no-header"] = not guess.header
-    return shell_line([TOOL, *words_of(options), *words])
+    options["digits"] = rules.digits
+    if arguments.header_row is None:
+        is_number = column_word(guess.names, columns["code"]).isdecimal()
+        is_first = guess.header == 1
+        options["header-row"] = "" if is_first and not is_number else str(guess.header)
+    return [*words_of(options), *words]
 
 
 def more_options(guess: Guess, arguments: argparse.Namespace, price: int | None) -> dict[str, str]:
@@ -552,7 +552,7 @@ def more_options(guess: Guess, arguments: argparse.Namespace, price: int | None)
     found = {}
     if "variants-of" in guess.beside and not arguments.title:
         found["variants-of"] = column_word(guess.names, guess.beside["variants-of"])
-    is_said = arguments.price or arguments.price_as or arguments.price_text
+    is_said = arguments.price or arguments.price_as
     if price is not None and price in guess.formats and not (is_said or arguments.currency):
         if "currency" in guess.beside:
             found["currency"] = column_word(guess.names, guess.beside["currency"])
@@ -564,7 +564,9 @@ def older_lines(path: str) -> LinesFile:
     """Returns the lines of an older file; one that is empty has none. Raises `ToolError` for a file
     that is not of label-table, such as an older table.
     """
-    lines = read_lines(read_file(path), path)
+    data = read_file(path)
+    source = Input(path, len(data), LINES)
+    lines = apart(source, lambda _: read_lines(data, path), Talk())
     if any(record.symbology not in SYMBOLOGIES for record in lines.records):
         hint = Text("give the file that label-table made of a table")
         raise ToolError(Text("{} has lines that are not of label-table", path), hint)
@@ -584,9 +586,9 @@ def run() -> int:
     options = table_options(arguments)
     name, data = read_input(arguments.table, TABLE)
     talk = TableTalk()
-    lines = lines_of_table(data, name, options, talk)
+    lines = read_apart(lines_of_table, data, name, options, talk)
     talk.report_rest()
     if arguments.is_summed or sys.stderr.isatty():
-        talk.say(summary_line(lines.totals))
+        talk.say(Problem(summary_line(lines.totals)))
     output.write(lines.output)
     return 1 if lines.left_out else 0

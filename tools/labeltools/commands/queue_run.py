@@ -3,16 +3,15 @@
 from dataclasses import replace
 
 from labeltools.commands.label_print import check_given, labels_in, TOOL
-from labeltools.common.messages import write_message
+from labeltools.common.messages import Problem, Remedy, ToolError, write_message
 from labeltools.common.process import CommandTalk
 from labeltools.common.signals import hold_signals
 from labeltools.common.text import joined, Text
 from labeltools.paper.stock import forget_glabels
 from labeltools.printing.job import form_of, planned, PrintOptions
-from labeltools.sending.job import SentJob, Unseen
-from labeltools.sending.marks import unmark
-from labeltools.sending.on_queue import print_by_cups
+from labeltools.sending.job import print_by_cups, SentJob
 from labeltools.sending.queue import queue_of
+from labeltools.sending.sender import labels_text
 
 
 def print_on_queue(options: PrintOptions) -> int:
@@ -29,8 +28,13 @@ def print_on_queue(options: PrintOptions) -> int:
     queue.options(job)  # which refuses a job before its labels are laid out
     talk = CommandTalk(TOOL)
     found = labels_in(job, talk)
-    is_printed = report_until_over(*print_by_cups(found, queue, talk, is_once=True), talk)
-    return 1 if found.left_out or not is_printed else 0
+    sent, sender = print_by_cups(found, queue, talk)
+    labels = labels_text(sender.progress.taken)
+    text = Text("{} sent to {}, at {} dpi: job {}", labels, queue.name, job.plan.dpi, sent.number)
+    doubt = queue.resolution_doubt(job)
+    is_printed = report_until_over(sent, joined("; ", filter(None, (text, doubt))), talk)
+    is_left_out = found.left_out or sender.progress.wrong
+    return 1 if is_left_out or not is_printed else 0
 
 
 def report_until_over(sent: SentJob, text: Text, talk: CommandTalk) -> bool:
@@ -40,13 +44,14 @@ def report_until_over(sent: SentJob, text: Text, talk: CommandTalk) -> bool:
     with hold_signals() as came:
         try:
             state = sent.follow(talk.show_waiting, came)
-        except Unseen as error:
+        except ToolError as error:
             write_message(TOOL, joined("; ", (text, error.what, error.hint)))
             return False
         told = state.told
-        if state.is_over:
-            unmark(sent)
-        elif came:
+        if state.way and state.is_printed:
+            hint = Text("printed without the queue, labels that get lost are named")
+            told = Problem(told, hint, (Remedy("print", state.way),)).line
+        if came and not state.is_over:
             told = Text("it goes on: cancel {} ends it", sent.number)
         write_message(TOOL, joined("; ", (text, told)))
-    return state.is_printed
+    return state.is_printed and not state.is_repeated

@@ -4,17 +4,15 @@ import argparse
 from typing import Any, Callable, Mapping, NamedTuple, NoReturn, Sequence
 
 from labeltools import RELEASE
-from labeltools.common.messages import BadArguments
+from labeltools.common.messages import BadArguments, Remedy
 from labeltools.common.text import Text, translated
 
 AS_WRITTEN = argparse.RawDescriptionHelpFormatter  # what is around the options
 # what argparse says of bad arguments; it looks for them where language.py has the translations
-ABOUT_ARGUMENT = Text("argument %(argument_name)s: %(message)s")
-NOT_ALLOWED = Text("not allowed with argument %s")
 OF_ARGPARSE = (
-    ABOUT_ARGUMENT,
+    Text("argument %(argument_name)s: %(message)s"),
     Text("unrecognized arguments: %s"),
-    NOT_ALLOWED,
+    Text("not allowed with argument %s"),
     Text("ignored explicit argument %r"),
     Text("the following arguments are required: %s"),
     Text("one of the arguments %s is required"),
@@ -69,11 +67,6 @@ class Option(NamedTuple):
         """The field that it sets."""
         return self.target or self.name.removeprefix("--").replace("-", "_")
 
-    def is_given_by(self, values: Mapping[str, Any]) -> bool:
-        """Returns whether the values of fields are such that it was given."""
-        value = values.get(self.field)
-        return value is not None if self.value else value == self.sets
-
     def add_to(self, group: Any) -> None:
         """Adds it to a group of a parser."""
         how: dict[str, Any] = {"help": self.help, "dest": self.target, "default": self.default}
@@ -99,27 +92,6 @@ def add_options(parser: Parser, groups: Mapping[str, Sequence[Option]]) -> None:
             option.add_to(apart[option.apart])
 
 
-def read_beside(
-    chosen: Mapping[str, Any],
-    parser: Parser,
-    groups: Mapping[str, Sequence[Option]],
-    words: Sequence[str] | None = None,
-) -> argparse.Namespace:
-    """Returns what words ask for, beside what is chosen already, by the names of fields; words
-    count more. Raises `BadArguments`, as for two options of which only one may be given.
-    """
-    found = parser.parse_args(words, argparse.Namespace(**chosen))
-    apart = [option for options in groups.values() for option in options if option.apart]
-    before = {option.apart: option for option in apart if option.is_given_by(chosen)}
-    for option in apart:
-        other = before.get(option.apart, option)
-        if option.is_given_by(vars(found)) and option.name != other.name:
-            message = translated(NOT_ALLOWED) % other.name
-            names = {"argument_name": option.name, "message": message}
-            parser.error(translated(ABOUT_ARGUMENT) % names)
-    return found
-
-
 def wrong_argument(what: Text) -> argparse.ArgumentTypeError:
     """Returns the error of an argument, which argparse says behind its name."""
     return argparse.ArgumentTypeError(translated(what))
@@ -141,10 +113,5 @@ def words_of(options: Mapping[str, Any]) -> list[str]:
         elif isinstance(value, list):
             found += [word for part in value for word in (f"--{name}", part)]
         elif value:
-            found += option_of(name, value if isinstance(value, str) else f"{value:g}")
+            found += Remedy(name, value if isinstance(value, str) else f"{value:g}").words
     return found
-
-
-def option_of(name: str, value: str) -> list[str]:
-    """Returns the words of an option with its value, which may begin like another option."""
-    return [f"--{name}={value}"] if value.startswith("-") else [f"--{name}", value]

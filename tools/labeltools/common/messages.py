@@ -5,10 +5,13 @@ writes a message.
 import sys
 import unicodedata
 from contextlib import suppress
+from copy import copy
+from dataclasses import dataclass, replace
+from functools import reduce
 from pathlib import Path
-from typing import NamedTuple
+from typing import Iterable, NamedTuple, Self
 
-from labeltools.common.text import joined, NOTHING, Text, translated, UNSEEN
+from labeltools.common.text import joined, NOTHING, shell_word, Text, translated, UNSEEN
 
 BAD_ARGUMENTS = 2
 UNEXPECTED = 4  # the status of a tool that ends by an exception which nobody expected
@@ -27,42 +30,155 @@ NAMES = {
 }
 
 
-class ToolError(Exception):
-    """Why a tool cannot go on.
+@dataclass(frozen=True)
+class Remedy:
+    """A choice that helps: a command writes its option, a window has a button for it.
 
-    `what` is the reason, and `hint` what to do; options that help are remedies in them. A command
-    ends with `status`.
+    `value` is empty for an option without one; `says` is what the choice does, nothing where only
+    the user knows the value; `is_less` is whether it helps to leave the option out.
+
+    >>> print(Remedy("sheet", "Old ones"), Remedy("hidden"), Remedy("edge", "-2"))
+    --sheet 'Old ones' --hidden --edge=-2
     """
 
-    def __init__(self, what: Text, hint: Text = NOTHING, status: int = 1) -> None:
-        super().__init__(sentence(what, hint))
-        self.what = what
-        self.hint = hint
+    option: str
+    value: str = ""
+    says: Text = NOTHING
+    is_less: bool = False
+
+    @property
+    def words(self) -> tuple[str, ...]:
+        """The words of a command; a value like `-2` would be another option, but for a sign."""
+        if self.value.startswith("-"):
+            return (f"--{self.option}={self.value}",)
+        return (f"--{self.option}", self.value) if self.value else (f"--{self.option}",)
+
+    @property
+    def shown(self) -> Text:
+        """What a command says of it."""
+        option = Text("leave out {}", Remedy(self.option)) if self.is_less else self
+        return Text("{} ({})", self.says, option) if self.says else Text("{}", option)
+
+    def __str__(self) -> str:
+        sign = "=" if self.value.startswith("-") else " "
+        return f"--{self.option}{sign}{shell_word(self.value)}" if self.value else self.words[0]
+
+
+Remedies = tuple[Remedy, ...]  # each of which helps
+
+
+@dataclass(frozen=True)
+class Problem:
+    """What is wrong, what to do, and choices of which each helps.
+
+    Neither text names an option: a command writes those of the remedies behind them, and a window
+    has a button for each that has words.
+
+    >>> hidden = Remedy("hidden", says=Text("print hidden rows too"))
+    >>> Problem(Text("2 rows are hidden"), remedies=(hidden,)).line
+    '2 rows are hidden: print hidden rows too (--hidden)'
+    >>> Problem(Text("too many"), Text("print some"), (Remedy("only"), Remedy("after"))).line
+    'too many: print some (--only, --after)'
+    """
+
+    what: Text
+    hint: Text = NOTHING
+    remedies: Remedies = ()
+
+    @property
+    def line(self) -> Text:
+        """What a command says: options whose values only the user knows are behind the hint, or
+        else behind the reason, and then the remedies that say what they do.
+        """
+        texts = [text for text in (self.what, self.hint) if text]
+        if known := joined(", ", (way.shown for way in self.remedies if not way.says)):
+            texts[-1] = Text("{} ({})", texts[-1], known)
+        if said := [way.shown for way in self.remedies if way.says]:
+            texts.append(either(said))
+        return reduce(sentence, texts)
+
+
+class Failure(Exception):
+    """Why something is not done."""
+
+    def __init__(self, problem: Problem) -> None:
+        super().__init__(problem)
+        self.problem = problem
+        self.what, self.hint, self.remedies = problem.what, problem.hint, problem.remedies
+
+    def __str__(self) -> str:
+        return str(self.problem.line)
+
+    def saying(self, what: Text) -> Self:
+        """Returns the same failure with another reason."""
+        found = copy(self)
+        found.problem = replace(self.problem, what=what)
+        found.what = what
+        return found
+
+
+def either(texts: Iterable[Text]) -> Text:
+    """Returns texts of which one is right, as one."""
+    return reduce(lambda text, other: Text("{} or {}", text, other), texts)
+
+
+def sentence(what: Text, hint: Text) -> Text:
+    """Returns a reason and what to do as one text.
+
+    >>> sentence(Text("there is no sheet"), Text("make one"))
+    'there is no sheet: make one'
+    >>> sentence(Text("7: it is no EAN"), Text("look at it"))
+    '7: it is no EAN; look at it'
+    >>> sentence(Text("is it a code?"), Text("else leave it out"))
+    'is it a code? else leave it out'
+    """
+    if not hint:
+        return what
+    shown = str(what)
+    if shown.endswith("?"):
+        return joined(" ", (what, hint))
+    return joined("; " if ": " in shown else ": ", (what, hint))
+
+
+class ToolError(Failure):
+    """Why a tool cannot go on; a command ends with `status`."""
+
+    def __init__(
+        self, what: Text, hint: Text = NOTHING, status: int = 1, remedies: Remedies = ()
+    ) -> None:
+        super().__init__(Problem(what, hint, remedies))
         self.status = status
+
+    @classmethod
+    def of(cls, problem: Problem, status: int = 1) -> Self:
+        """Returns the error of a problem."""
+        return cls(problem.what, problem.hint, status, problem.remedies)
 
 
 class BadArguments(ToolError):
     """Words that a tool does not understand."""
 
-    def __init__(self, what: Text, hint: Text = NOTHING) -> None:
-        super().__init__(what, hint, BAD_ARGUMENTS)
+    def __init__(self, what: Text, hint: Text = NOTHING, remedies: Remedies = ()) -> None:
+        super().__init__(what, hint, BAD_ARGUMENTS, remedies)
 
 
 class Cancelled(ToolError):
     """The user has stopped the work; a `Talk` raises it in `go_on`."""
 
 
-class RowError(Exception):
-    """Why a row of a table, or a label, is left out.
-
-    `what` and `hint` are as in `ToolError`; `column` is the place of the column, from 0, where the
-    reason is one cell.
+class RowError(Failure):
+    """Why a row of a table, or a label, is left out; `column` is the place of the column, from 0,
+    where the reason is one cell.
     """
 
-    def __init__(self, what: Text, hint: Text = NOTHING, column: int | None = None) -> None:
-        super().__init__(sentence(what, hint))
-        self.what = what
-        self.hint = hint
+    def __init__(
+        self,
+        what: Text,
+        hint: Text = NOTHING,
+        column: int | None = None,
+        remedies: Remedies = (),
+    ) -> None:
+        super().__init__(Problem(what, hint, remedies))
         self.column = column
 
 
@@ -87,12 +203,10 @@ class Talk:
     shows it.
     """
 
-    def note(self, origin: Origin, cell: str, reason: Text, hint: Text) -> None:
-        """A row or line is left out: the text of its cell, why, and what to do, which may be
-        empty.
-        """
+    def note(self, origin: Origin, cell: str, problem: Problem) -> None:
+        """A row or line is left out: the text of its cell, and why."""
 
-    def say(self, text: Text, hint: Text = NOTHING) -> None:
+    def say(self, problem: Problem) -> None:
         """Something about the whole that leaves nothing out, and what to do about it."""
 
     def go_on(self, done: int, total: int) -> None:
@@ -135,24 +249,6 @@ def fault_of(error: Exception) -> Text:
         return Text("this is a fault of the program: report it as {}", type(error).__name__)
     where = (type(error).__name__, own[-1].lineno, Path(own[-1].filename).name)
     return Text("this is a fault of the program: report it as {} in line {} of {}", *where)
-
-
-def sentence(what: Text, hint: Text) -> Text:
-    """Returns a reason and what to do as one text.
-
-    >>> sentence(Text("there is no sheet"), Text("give --sheet"))
-    'there is no sheet: give --sheet'
-    >>> sentence(Text("7: it is no EAN"), Text("look at it"))
-    '7: it is no EAN; look at it'
-    >>> sentence(Text("is it a code?"), Text("else leave it out"))
-    'is it a code? else leave it out'
-    """
-    if not hint:
-        return what
-    shown = str(what)
-    if shown.endswith("?"):
-        return joined(" ", (what, hint))
-    return Text("{}; {}", what, hint) if ": " in shown else Text("{}: {}", what, hint)
 
 
 def visible(text: str) -> str:

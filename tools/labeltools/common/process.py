@@ -10,12 +10,13 @@ from importlib import import_module
 from io import RawIOBase, TextIOWrapper
 from typing import Any, BinaryIO, Callable, NoReturn
 
-from labeltools.common.budget import Budget, Kind, LINES
+from labeltools.common.budget import check_size, Kind, LINES
 from labeltools.common.messages import (
     BadArguments,
     fault_of,
     of_system,
     Origin,
+    Problem,
     sentence,
     Talk,
     ToolError,
@@ -24,7 +25,7 @@ from labeltools.common.messages import (
     write_message,
 )
 from labeltools.common.signals import on_signals
-from labeltools.common.text import NOTHING, Text, translated
+from labeltools.common.text import Text, translated
 
 STANDARD_ERROR = 2
 SHOWN = 60  # letters of what is waited for
@@ -41,13 +42,13 @@ class CommandTalk(Talk):
         self.tool = tool
         self.next_time = time.monotonic() + QUIET
 
-    def note(self, origin: Origin, cell: str, reason: Text, hint: Text) -> None:
+    def note(self, origin: Origin, cell: str, problem: Problem) -> None:
         """Writes why a row or line is left out."""
-        write_message(self.tool, Text("{}: {}", origin.text, sentence(reason, hint)))
+        write_message(self.tool, Text("{}: {}", origin.text, problem.line))
 
-    def say(self, text: Text, hint: Text = NOTHING) -> None:
+    def say(self, problem: Problem) -> None:
         """Writes something about the whole."""
-        write_message(self.tool, sentence(text, hint))
+        write_message(self.tool, problem.line)
 
     def go_on(self, done: int, total: int) -> None:
         """Shows on a terminal how many of the labels are done, or how many rows, until another
@@ -79,8 +80,9 @@ def read_input(path: str | None, kind: Kind = LINES) -> tuple[str, bytes]:
     else:
         data = read_file(str(path), kind)
     if not data:
-        hint = Text("did the command that wrote it report an error?")
-        hint = hint.in_window(Text("is it the right file?"))
+        hint = Text("is it the right file?")
+        if is_standard:
+            hint = Text("did the command that wrote it report an error?")
         raise ToolError(Text("{} is empty: nothing is printed", name), hint)
     return name, data
 
@@ -104,13 +106,13 @@ def read_all(file: BinaryIO, name: str, kind: Kind) -> bytes:
     of a file before it is read: one with holes has bytes that nobody sent.
     """
     with suppress(OSError):  # it is no file of the system
-        Budget(name, os.fstat(file.fileno()).st_size, kind)
+        check_size(name, os.fstat(file.fileno()).st_size, kind)
     found = []
     size = 0
     while data := file.read(BLOCK):
         found.append(data)
         size += len(data)
-        Budget(name, size, kind)
+        check_size(name, size, kind)
     return b"".join(found)
 
 
@@ -193,14 +195,15 @@ def status_of(tool: str, function: Callable[[], int | None]) -> int:
         return status
     except BadArguments as error:
         help_words = f"{tool} --help"
-        what = sentence(error.what, error.hint or Text("try {}", help_words))
+        has_hint = error.hint or error.remedies
+        what = error.problem.line if has_hint else sentence(error.what, Text("try {}", help_words))
         write_message(tool, Text("error: {}", what))
         return error.status
     except ToolError as error:
-        write_message(tool, error.args[0])
+        write_message(tool, error.problem.line)
         return error.status
     except OSError as error:
-        write_message(tool, of_system(error).args[0])
+        write_message(tool, of_system(error).problem.line)
         return 1
     except Exception as error:
         write_message(tool, fault_of(error))

@@ -4,8 +4,8 @@ from dataclasses import dataclass
 from itertools import groupby, islice
 from typing import Iterable, Iterator, Sequence
 
-from labeltools.common.messages import Origin, sentence
-from labeltools.common.text import joined, NOTHING, Text
+from labeltools.common.messages import Origin, Problem
+from labeltools.common.text import joined, Text
 
 MOST_REASONS = 8  # that have a message of their own
 MOST_RANGES = 10  # of rows that a message names
@@ -14,12 +14,11 @@ Ranges = Sequence[tuple[int, int]]  # the first and the last number of each
 
 @dataclass(frozen=True, slots=True)
 class LeftOut:
-    """A label that is not printed: its origin if that is known, its data, why, and what to do."""
+    """A label that is not printed: its origin if that is known, its data, and why."""
 
     origin: Origin | None
     data: str
-    reason: Text
-    hint: Text = NOTHING
+    problem: Problem
 
 
 def left_out_messages(left_out: Sequence[LeftOut], tables: Iterable[str]) -> Iterator[Text]:
@@ -29,7 +28,7 @@ def left_out_messages(left_out: Sequence[LeftOut], tables: Iterable[str]) -> Ite
     has_tables = len(set(tables)) > 1
     places: dict[Text, list[Origin]] = {}
     for label in left_out:
-        named = places.setdefault(sentence(label.reason, label.hint), [])
+        named = places.setdefault(label.problem.line, [])
         if label.origin is not None:
             named.append(label.origin)
     reasons = sorted(places, key=lambda reason: -len(places[reason]))

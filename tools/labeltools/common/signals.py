@@ -2,8 +2,9 @@
 
 import os
 import signal
+from collections.abc import Callable, Iterator
 from contextlib import contextmanager
-from typing import Any, Iterator
+from typing import Any
 
 ENDING = (signal.SIGHUP, signal.SIGINT, signal.SIGTERM)
 
@@ -15,6 +16,7 @@ class Signals:
 
     def __init__(self) -> None:
         self.came: list[int] | None = None
+        self.usual: Any = signal.SIG_DFL
 
     @contextmanager
     def hold(self) -> Iterator[list[int]]:
@@ -32,7 +34,7 @@ class Signals:
         finally:
             # one that comes meanwhile waits: it would be lost between these steps
             blocked = signal.pthread_sigmask(signal.SIG_BLOCK, ENDING)
-            on_signals()
+            on_signals(self.usual)
             self.came = None
             for number in came:
                 os.kill(os.getpid(), number)
@@ -44,6 +46,25 @@ class Signals:
             self.came.append(number)
         on_signals()
 
+    @contextmanager
+    def end_with(self, act: Callable[[], object]) -> Iterator[None]:
+        """Has something done at the end, or before a signal ends the tool."""
+
+        def end(number: int, _: object) -> None:
+            """Lets the signal end the tool then."""
+            on_signals()
+            act()
+            os.kill(os.getpid(), number)
+
+        self.usual = end
+        on_signals(end)
+        try:
+            yield
+        finally:
+            self.usual = signal.SIG_DFL
+            on_signals()
+            act()
+
 
 def on_signals(action: Any = signal.SIG_DFL) -> None:
     """Sets what the signals do that end a tool, but for those that it was started to ignore."""
@@ -52,4 +73,5 @@ def on_signals(action: Any = signal.SIG_DFL) -> None:
             signal.signal(number, action)
 
 
-hold_signals = Signals().hold
+SIGNALS = Signals()
+hold_signals, end_with = SIGNALS.hold, SIGNALS.end_with

@@ -7,7 +7,7 @@ import re
 import shlex
 import unicodedata
 from dataclasses import dataclass
-from typing import Iterable, Iterator
+from typing import Iterable
 
 from labeltools.common.language import ngettext, one_text
 
@@ -21,8 +21,7 @@ class Text:
     """A text in English: its template, and what it has in the place of each `{}`. It never changes.
 
     A field that is a `Text` is translated too; any other one is a number, or the user's own words.
-    `many` is the template for other counts than 1, where there is one; `instead` is what a window
-    says in its place, beside buttons for its remedies.
+    `many` is the template for other counts than 1, where there is one.
 
     >>> Text("row {} has {}", 2, Text("no price"))
     'row 2 has no price'
@@ -31,12 +30,9 @@ class Text:
     template: str
     fields: tuple[object, ...]
     many: str
-    instead: "Text | None"
 
-    def __init__(
-        self, template: str, *fields: object, many: str = "", instead: "Text | None" = None
-    ) -> None:
-        self.__dict__.update(template=template, fields=fields, many=many, instead=instead)
+    def __init__(self, template: str, *fields: object, many: str = "") -> None:
+        self.__dict__.update(template=template, fields=fields, many=many)
 
     def __str__(self) -> str:
         template = self.many if self.many and self.fields[0] != 1 else self.template
@@ -55,13 +51,7 @@ class Text:
 
     def with_fields(self, *fields: object) -> "Text":
         """Returns the text with other fields."""
-        return Text(self.template, *fields, many=self.many, instead=self.instead)
-
-    def in_window(self, instead: "Text") -> "Text":
-        """Returns the text, with what a window says in its place: that may be nothing, since the
-        remedies in it are buttons there.
-        """
-        return Text(self.template, *self.fields, many=self.many, instead=instead)
+        return Text(self.template, *fields, many=self.many)
 
 
 NOTHING = Text("")
@@ -85,39 +75,6 @@ def joined(sign: str, parts: Iterable[object]) -> Text:
     """
     found = list(parts)
     return Text(sign.join(["{}"] * len(found)), *found)
-
-
-@dataclass(frozen=True)
-class Remedy:
-    """A choice that helps, in a text: a command says its option, a window has a button for it.
-
-    `value` is empty for an option without one; `says` is what the button shows, nothing where only
-    the user knows the value; `is_less` is whether it helps to leave the option out.
-
-    >>> sheets = Remedy("sheet", "Bread"), Remedy("sheet", "Old ones")
-    >>> text = hint_of_remedies(*sheets, Remedy("hidden"))
-    >>> text, [remedy.value for remedy in remedies_of(text)]
-    ("give --sheet Bread or 'Old ones' or --hidden", ['Bread', 'Old ones', ''])
-    """
-
-    option: str
-    value: str = ""
-    says: Text = NOTHING
-    is_less: bool = False
-
-    @property
-    def words(self) -> tuple[str, ...]:
-        """The words of a command; a value like `-2` would be another option, but for a sign."""
-        if self.value.startswith("-"):
-            return (f"--{self.option}={self.value}",)
-        return (f"--{self.option}", self.value) if self.value else (f"--{self.option}",)
-
-    def __str__(self) -> str:
-        sign = "=" if self.value.startswith("-") else " "
-        return f"--{self.option}{sign}{self:value}" if self.value else f"--{self.option}"
-
-    def __format__(self, form: str) -> str:
-        return shell_word(self.value) if form == "value" else str(self)
 
 
 def shell_word(value: str) -> str:
@@ -148,57 +105,6 @@ def bash_escape(sign: str) -> str:
         return sign
     known = "surrogateescape" if "\udc80" <= sign <= "\udcff" else "surrogatepass"
     return "".join(f"\\x{byte:02x}" for byte in sign.encode("utf-8", known))
-
-
-def either(remedies: Iterable[Remedy]) -> Text:
-    """Returns remedies of which one helps, as a part of a text; an option is named once for values
-    side by side.
-    """
-    before, *rest = remedies
-    text = Text("{}", before)
-    for remedy in rest:
-        is_same = remedy.option == before.option and remedy.value
-        text = Text("{} or {:value}", text, remedy) if is_same else Text("{} or {}", text, remedy)
-        before = remedy
-    return text
-
-
-def hint_of_remedies(*remedies: Remedy) -> Text:
-    """Returns what to do where one of some remedies helps."""
-    return Text("give {}", either(remedies))
-
-
-def remedies_of(text: object) -> Iterator[Remedy]:
-    """Yields the remedies in a text."""
-    if isinstance(text, Remedy):
-        yield text
-    elif isinstance(text, Text):
-        for field in text.fields:
-            yield from remedies_of(field)
-
-
-def windowed(text: Text) -> Text:
-    """Returns a text as a window says it. Of a remedy there is a button, so words around one say
-    nothing unless the text has others for a window; signs between texts go with those.
-
-    >>> hint = Text("enter it, or {}", hint_of_remedies(Remedy("hidden")))
-    >>> hint = hint.in_window(Text("enter it"))
-    >>> windowed(joined("; ", (hint_of_remedies(Remedy("hidden")), hint)))
-    'enter it'
-    """
-    if text.instead is not None:
-        return windowed(text.instead)
-    shown = tuple(windowed(field) if isinstance(field, Text) else field for field in text.fields)
-    has_remedy = any(isinstance(field, Remedy) for field in shown)
-    if shown == text.fields and not has_remedy:
-        return text
-    between = text.template.split("{}")
-    if len(shown) > 1 and not any(map(str.isalnum, "".join(between))):
-        return joined(between[1], (field for field in shown if str(field) != ""))
-    is_emptied = any(str(new) == "" != str(old) for old, new in zip(text.fields, shown))
-    if has_remedy or is_emptied:
-        return NOTHING
-    return text.with_fields(*shown)
 
 
 @dataclass(frozen=True)
@@ -237,10 +143,14 @@ def whole_sentence(text: Text) -> str:
     >>> whole_sentence(Text("{}: {}", "a.csv", Text("is it one?")))
     'a.csv: is it one?'
     """
-    shown = translated(text)
-    if begins_with_word(text):
-        shown = shown[:1].upper() + shown[1:]
+    shown = capitalized(text)
     return shown if shown[-1:] in (*".?!", "") else f"{shown}."
+
+
+def capitalized(text: Text) -> str:
+    """Returns a text in the language of the user as it begins a sentence."""
+    shown = translated(text)
+    return shown[:1].upper() + shown[1:] if begins_with_word(text) else shown
 
 
 def begins_with_word(text: object) -> bool:

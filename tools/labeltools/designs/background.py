@@ -7,7 +7,7 @@ from typing import Any
 import cairo
 
 from labeltools.designs.design import Below
-from labeltools.designs.svg_design import lightness, SvgDesign
+from labeltools.designs.svg_design import SvgDesign
 from labeltools.layout.layout import Page
 from labeltools.layout.medium import Medium
 from labeltools.layout.place import Place, Sides
@@ -24,7 +24,7 @@ class Background(Below):
         self.medium = medium
         # dots of a unit of the drawing: in points Cairo does not scale it for each label of a PDF,
         # and loses no gradients, but what librsvg makes pictures of has as few dots
-        is_in_points = medium.is_pdf and not design.page.has("filter", "mask")
+        is_in_points = medium.is_pdf and design.page.tags.isdisjoint(("filter", "mask"))
         self.unit = medium.dpi / POINTS if is_in_points else 1.0
         self.size = tuple(max(1, int(side * medium.dpi / MILLIMETRES)) for side in design.label)
         if medium.is_dots:
@@ -33,7 +33,7 @@ class Background(Below):
         self.recorded = cache(self.new_recorded)
         self.dots = cache(self.new_dots)
         # Ghostscript and MuPDF show a pattern in all places as it is in the first one
-        self.has_patterns = medium.is_pdf and design.page.has("pattern")
+        self.has_patterns = medium.is_pdf and "pattern" in design.page.tags
 
     def new_recorded(self, absent: frozenset[str], _: Dots | None) -> cairo.RecordingSurface | None:
         """Returns the drawing without some parts as it is, up to the edges of a label, which a file
@@ -56,7 +56,7 @@ class Background(Below):
 
         wide, high = self.size
         scale = wide / self.design.label[0]
-        light = lightness(lambda canvas: self.design.draw(canvas, scale, absent), wide, high)
+        light = self.design.light(scale, absent, wide, high)
         ends = {place: ends_of(place, scale) for place in self.design.places}
         drawing = BlackDots(light, (wide, high), [ends[place] for place in ends if place.is_symbol])
         self.tinted.update(place.sides for place in ends if drawing.is_tinted(ends[place]))

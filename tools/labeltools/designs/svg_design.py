@@ -15,22 +15,20 @@ else the id. Lengths are in millimetres from the left upper corner of the label 
 import math
 import re
 from collections import Counter
-from dataclasses import dataclass, replace
-from functools import lru_cache
-from typing import Any, Callable, Iterable, Iterator, Mapping, NamedTuple
+from dataclasses import dataclass, field, replace
+from typing import Any, Iterator, Mapping, NamedTuple
 from xml.etree.ElementTree import Element
 
-import cairo
-
-from labeltools.common.messages import BAD_ARGUMENTS, ToolError
-from labeltools.common.text import Remedy, Text
+from labeltools.common.messages import BAD_ARGUMENTS, Problem, Remedy, ToolError
+from labeltools.common.text import Text
+from labeltools.designs.drawer import ask, Drawing, PageArea, places_in
 from labeltools.designs.place_names import place_of, title_of
 from labeltools.designs.svg_page import (
-    handle_of,
+    drawing_of,
     HOLDERS,
     MOST_SEEN,
+    OpenPage,
     read_page,
-    rsvg,
     SvgPage,
     tag_of,
 )
@@ -39,13 +37,13 @@ from labeltools.layout.place import key_of, part_of, PARTS, Place
 from labeltools.paper.plan import Edges
 from labeltools.paper.stock import Size, size_text
 
+OF_EDGE = (Remedy("edge"),)
 SUFFIXES = (".svg", ".svgz")
 MODE = "{http://www.inkscape.org/namespaces/inkscape}groupmode"  # of layers
 NEAR = 1.0  # millimetres by which a page may differ from a label
 ALIKE = 0.015  # by which the proportions of a page without millimetres may
 MOST_PLACES = 400
 KEPT = 16  # drawings
-BLOCK = 1 << 22  # bytes of dots
 SHAPES = ("path", "circle", "ellipse", "polygon", "polyline", "line", "image", "use", "text")
 FILLED = re.compile(r"(?<![\w-])fill:\s*url\(")  # by a picture, or a gradient
 THIN = "1e-7px"  # the height of what shows the upper edge of a place
@@ -87,7 +85,7 @@ class SvgDesign:
     """A design that suits a label: its page, the sides of a label as it is read, whether labels are
     turned to the right, its places, its groups, by the parts or columns with which they are drawn,
     each with what it is without a number behind it, what other shapes with a name are, by its key,
-    and what is said of it.
+    what is said of it, and its drawing as it was looked at, without some parts.
     """
 
     page: SvgPage
@@ -96,29 +94,38 @@ class SvgDesign:
     groups: Mapping[str, str]
     shapes: Mapping[str, str]
     places: tuple[Place, ...] = ()
-    remarks: tuple[Text, ...] = ()
+    remarks: tuple[Problem, ...] = ()
+    looked_at: dict[frozenset[str], Seen] = field(default_factory=dict)
 
-    def area(self, scale: float) -> Any:
+    def area(self, scale: float) -> PageArea:
         """Returns where its page is on a label, in so many units a millimetre."""
         size = self.page.size if self.page.is_real else self.label
         corner = ((room - side) / 2 for room, side in zip(self.label, size))
-        area = rsvg().Rectangle()
-        area.x, area.y, area.width, area.height = (side * scale for side in (*corner, *size))
-        return area
+        return PageArea(*(side * scale for side in (*corner, *size)))
 
-    def draw(self, canvas: Any, scale: float, absent: frozenset[str] = frozenset()) -> None:
-        """Draws what is alike on labels without some parts, in so many units a millimetre."""
+    def sheet(self, absent: frozenset[str]) -> str:
+        """Returns the style sheet that hides what is not alike on labels without some parts."""
         hidden = [f"#place-{number}" for number in range(len(self.places))]
         hidden += [f".group-{number}" for number, key in enumerate(self.groups) if key in absent]
-        self.page.draw(canvas, self.area(scale), f"{','.join(hidden)}{{display:none!important}}")
+        return f"{','.join(hidden)}{{display:none!important}}"
 
-    @lru_cache(KEPT)
+    def draw(self, canvas: Any, scale: float, absent: frozenset[str]) -> None:
+        """Draws what is alike on labels without some parts, in so many units a millimetre."""
+        self.page.draw(canvas, self.area(scale), self.sheet(absent))
+
+    def light(self, scale: float, absent: frozenset[str], wide: int, high: int) -> bytes:
+        """Returns how light each of some dots of it is, so many a millimetre."""
+        return self.page.light(self.area(scale), self.sheet(absent), wide, high)
+
     def seen(self, absent: frozenset[str]) -> Seen:
         """Returns the drawing without some parts as it is looked at."""
-        scale = min(CHECKED, math.sqrt(MOST_SEEN / (self.label[0] * self.label[1])))
-        wide, high = (math.ceil(side * scale) for side in self.label)
-        light = lightness(lambda canvas: self.draw(canvas, scale, absent), wide, high)
-        return Seen(light, wide, scale)
+        if absent not in self.looked_at:
+            scale = min(CHECKED, math.sqrt(MOST_SEEN / (self.label[0] * self.label[1])))
+            wide, high = (math.ceil(side * scale) for side in self.label)
+            if len(self.looked_at) == KEPT:
+                self.looked_at.clear()
+            self.looked_at[absent] = Seen(self.light(scale, absent, wide, high), wide, scale)
+        return self.looked_at[absent]
 
     def colours(self, absent: frozenset[str]) -> dict[Place, Colour]:
         """Returns the colours of letters in places on the drawing without some parts."""
@@ -143,27 +150,40 @@ def is_file(design: str) -> bool:
 
 def size_of_page(file: str) -> Size:
     """Returns the size of a page; raises `ToolError` if that is not in millimetres."""
-    page = read_page(file)
-    if not page.is_real:
-        hint = Text("name the paper with {}, {} or {}", *map(Remedy, ("paper", "stock", "cell")))
-        hint = hint.in_window(Text("choose its paper"))
-        raise ToolError(Text("{} has no size in millimetres", file), hint, BAD_ARGUMENTS)
-    return page.size
+    size = ask(size_in_millimetres, drawing_of(file))
+    if size is None:
+        what = Text("{} has no size in millimetres", file)
+        remedies = tuple(map(Remedy, ("paper", "stock", "cell")))
+        raise ToolError(what, Text("choose its paper"), BAD_ARGUMENTS, remedies)
+    return size
+
+
+def size_in_millimetres(drawing: Drawing) -> Size | None:
+    """Returns the size of a page; None if that is not in millimetres."""
+    page = read_page(drawing)
+    return page.size if page.is_real else None
 
 
 def read_design(file: str, cell: Size, white: Edges, turn: bool | None) -> SvgDesign:
     """Returns the design of a file for cells of a size, of which `white` takes no ink; raises
-    `ToolError` where it does not suit them, or is no design.
+    `ToolError` where it does not suit them, or is no design. The process that draws reads it.
     """
-    page = read_page(file)
+    return ask(design_in, drawing_of(file), cell, white, turn)
+
+
+def design_in(drawing: Drawing, cell: Size, white: Edges, turn: bool | None) -> SvgDesign:
+    """Returns the design of the bytes of a file, as `read_design`."""
+    page = read_page(drawing)
+    file = page.file
     is_turned = fitting_turn(page, cell, turn)
     label = cell[::-1] if is_turned else cell
     edges = (white[1], white[2], white[3], white[0]) if is_turned else white
     drawn = filter(is_drawn, page.root.iter())
     shapes = {key_of(title_of(element)): tag_of(element) for element in drawn}
     groups = marked_groups(page.root)
-    design = SvgDesign(page, label, is_turned, groups, shapes)
-    placed = tuple(located(design, marked_places(page)))
+    places = marked_places(page)
+    design = SvgDesign(page.as_drawn(), label, is_turned, groups, shapes)
+    placed = tuple(located(design, places))
     check_places(file, placed, label)
     cut = tuple(inside(file, place, label, edges) for place in placed)
     lost = (
@@ -176,11 +196,11 @@ def read_design(file: str, cell: Size, white: Edges, turn: bool | None) -> SvgDe
         check_white(design, design.seen(absent))
     said = tuple(design_remarks(design, smaller, edges))
     colours = design.colours(frozenset())
-    places = (replace(place, colour=colours.get(place, BLACK)) for place in cut)
-    return replace(design, places=tuple(places), remarks=said)
+    coloured = (replace(place, colour=colours.get(place, BLACK)) for place in cut)
+    return replace(design, places=tuple(coloured), remarks=said)
 
 
-def fitting_turn(page: SvgPage, cell: Size, turn: bool | None) -> bool:
+def fitting_turn(page: OpenPage, cell: Size, turn: bool | None) -> bool:
     """Returns whether labels of a page are turned; raises `ToolError` where it does not suit."""
     for is_turned in (False, True):
         label = cell[::-1] if is_turned else cell
@@ -197,7 +217,7 @@ def fitting_turn(page: SvgPage, cell: Size, turn: bool | None) -> bool:
     raise ToolError(Text("{} is {}, and a label is {}", page.file, taken, size_text(label)), hint)
 
 
-def is_fitting(page: SvgPage, label: Size) -> bool:
+def is_fitting(page: OpenPage, label: Size) -> bool:
     """Returns whether a page has the size of a label, or its proportions if it is in pixels."""
     if page.is_real:
         return all(abs(side - room) <= NEAR for side, room in zip(page.size, label))
@@ -229,7 +249,7 @@ def marked_groups(root: Element) -> dict[str, str]:
     return groups
 
 
-def marked_places(page: SvgPage) -> list[Place]:
+def marked_places(page: OpenPage) -> list[Place]:
     """Returns the rectangles that are places, and gives these an id; raises `ToolError` for a wrong
     name. But for parts, what a picture or a gradient fills is drawn, as is what stands for others.
     """
@@ -257,21 +277,12 @@ def located(design: SvgDesign, places: list[Place]) -> Iterator[Place]:
     asks librsvg where they are, and where their upper and left edges are.
     """
     names = [f"#place-{number}" for number in range(len(places))]
-    edges = (f"{','.join(names)}{{{side}:{THIN}!important}}" for side in ("height", "width"))
-    area = design.area(1.0)
-    # one after the other: each keeps all of the page in memory
-    file, data = design.page.file, design.page.data
-    upper, left = (rectangles_of(handle_of(file, data, sheet), names, area) for sheet in edges)
-    handle = handle_of(file, data)
-    whole = rectangles_of(handle, names, area)
-    for name, place, *rectangles in zip(names, places, whole, upper, left):
-        placed = located_place(file, place, *rectangles)
-        yield replace(placed, colour=colour_of(handle, name, area, placed))
-
-
-def rectangles_of(handle: Any, names: Iterable[str], area: Any) -> list[Any]:
-    """Returns the rectangles of some elements."""
-    return [handle.get_geometry_for_layer(name, area).out_logical_rect for name in names]
+    edges = [f"{','.join(names)}{{{side}:{THIN}!important}}" for side in ("height", "width")]
+    page = design.page
+    drawing = Drawing(page.file, page.data, area=design.area(1.0))
+    colours, rectangles = places_in(drawing, names, edges)
+    for colour, *found in zip(colours, places, *rectangles):
+        yield replace(located_place(page.file, *found), colour=colour)
 
 
 def located_place(file: str, place: Place, whole: Any, upper: Any, left: Any) -> Place:
@@ -293,21 +304,6 @@ def located_place(file: str, place: Place, whole: Any, upper: Any, left: Any) ->
         raise ToolError(Text("{}: the place {} is askew", file, place.title), hint)
     sides = {"left": whole.x, "top": whole.y, "width": whole.width, "height": whole.height}
     return replace(place, quarters=quarters, **sides)
-
-
-def colour_of(handle: Any, name: str, area: Any, place: Place) -> Colour | None:
-    """Returns the colour in the middle of a place; None where it is not filled, or more than half
-    transparent.
-    """
-    surface = cairo.ImageSurface(cairo.FORMAT_ARGB32, 1, 1)
-    canvas = cairo.Context(surface)
-    dot = min(place.width, place.height) / 2  # so large that what has a filter takes little time
-    canvas.scale(1 / dot, 1 / dot)
-    canvas.translate((dot - place.width) / 2 - place.left, (dot - place.height) / 2 - place.top)
-    handle.render_layer(canvas, name, area)
-    surface.flush()
-    blue, green, red, alpha = bytes(surface.get_data())[:4]
-    return (red / alpha, green / alpha, blue / alpha) if alpha >= 128 else None
 
 
 def check_places(file: str, places: tuple[Place, ...], label: Size) -> None:
@@ -340,12 +336,11 @@ def inside(file: str, place: Place, label: Size, edges: Edges) -> Place:
             file,
             place.title,
         )
-        hint = Text("move it, or give another {}", Remedy("edge")).in_window(Text("move it"))
-        raise ToolError(what, hint)
+        raise ToolError(what, Text("move it, or make the edge smaller"), remedies=OF_EDGE)
     return replace(place, left=left, top=top, width=wide, height=high)
 
 
-def design_remarks(design: SvgDesign, smaller: list[str], edges: Edges) -> Iterator[Text]:
+def design_remarks(design: SvgDesign, smaller: list[str], edges: Edges) -> Iterator[Problem]:
     """Yields what is said of a design and its drawing, of which some places are smaller than drawn,
     since an edge takes no ink.
     """
@@ -354,11 +349,10 @@ def design_remarks(design: SvgDesign, smaller: list[str], edges: Edges) -> Itera
     counts = Counter(place.key for place in design.places)
     if again := [key for key, count in counts.items() if count > 1]:
         what = Text("{}: several rectangles are named {}", file, ", ".join(again))
-        yield Text("{}: {}", what, Text("name the second one {}-2, or remove one", again[0]))
+        yield Problem(what, Text("name the second one {}-2, or remove one", again[0]))
     if smaller:
-        why = Text("the printer does not print there, at the edge of the page ({})", Remedy("edge"))
-        why = why.in_window(Text("the printer does not print there, at the edge of the page"))
-        yield Text("{}: smaller than drawn: {}: {}", file, ", ".join(smaller), why)
+        why = Text("the printer does not print there, at the edge of the page")
+        yield Problem(Text("{}: smaller than drawn: {}", file, ", ".join(smaller)), why, OF_EDGE)
     inner = NEAR / 2 + 1 / seen.scale  # a dot may be in part beyond an edge
     left, top, right, bottom = (max(0.0, edge - inner) for edge in edges)
     wide, high = design.label
@@ -367,10 +361,9 @@ def design_remarks(design: SvgDesign, smaller: list[str], edges: Edges) -> Itera
         whole, within = (seen.behind(Place("", *sides), 0.0) for sides in areas)
         if len(whole.translate(None, LIGHT)) > len(within.translate(None, LIGHT)):
             what = Text("{}: the drawing is cut at the edge", file)
-            hint = Text("move it in, or give another {} or {}", Remedy("edge"), Remedy("shift"))
-            yield Text("{}: {}", what, hint.in_window(Text("move it in")))
+            yield Problem(what, Text("move it in"), (*OF_EDGE, Remedy("shift")))
     if spotted := design.mixed(frozenset(), SPOTTED, UNREAD):
-        yield mixed_text(file, ", ".join(place.title for place in spotted))
+        yield Problem(mixed_text(file, ", ".join(place.title for place in spotted)))
 
 
 def mixed_text(file: str, places: str) -> Text:
@@ -417,40 +410,3 @@ def light_of(colour: Colour) -> float:
 def is_light(colour: Colour) -> bool:
     """Returns whether a colour is white in dots."""
     return light_of(colour) >= 0.5
-
-
-def lightness(paint: Callable[[Any], None], wide: int, high: int) -> bytes:
-    """Returns how light each of some dots is with what is painted there: a byte, 0 for black."""
-    surface = cairo.ImageSurface(cairo.FORMAT_RGB24, wide, high)
-    canvas = cairo.Context(surface)
-    canvas.set_source_rgb(1, 1, 1)
-    canvas.paint()
-    paint(canvas)
-    surface.flush()
-    grey = greys(surface)
-    if grey is None:  # colours, which take longer to be
-        canvas.set_operator(cairo.Operator.HSL_COLOR)  # grey, as light as they are
-        canvas.set_source_rgb(1, 1, 1)
-        canvas.paint()
-        surface.flush()
-        data = surface.get_data()
-        return b"".join(part[::4] for part in blocks_of(data))
-    return grey
-
-
-def greys(surface: cairo.ImageSurface) -> bytes | None:
-    """Returns how light the dots of a surface are; None where some are of a colour. It goes on part
-    by part: of a whole large page each copy would take much.
-    """
-    data = surface.get_data()
-    found = []
-    for part in blocks_of(data):
-        found.append(part[0::4])
-        if not found[-1] == part[1::4] == part[2::4]:
-            return None
-    return b"".join(found)
-
-
-def blocks_of(data: memoryview) -> Iterator[bytes]:
-    """Yields bytes in parts, of which the last one may be shorter."""
-    return (bytes(data[start : start + BLOCK]) for start in range(0, len(data), BLOCK))

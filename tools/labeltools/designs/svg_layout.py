@@ -4,19 +4,22 @@ module that their place takes. Lengths are in dots.
 
 import math
 from collections import Counter
-from dataclasses import dataclass, field, replace
+from dataclasses import replace
 from functools import cache, lru_cache
 from itertools import combinations, compress, repeat
 from typing import Iterator, Mapping, NamedTuple, Sequence
 
-from labeltools.common.messages import sentence, Talk, ToolError
-from labeltools.common.text import Remedy, Text
+from labeltools.common.messages import Problem, Remedy, Talk, ToolError
+from labeltools.common.text import Text
+from labeltools.designs.background import Background
+from labeltools.designs.design import Below, Setting
 from labeltools.designs.fit import ENLARGE, NoRoom, Room
 from labeltools.designs.svg_design import mixed_text, NEAR, SvgDesign, UNREAD
-from labeltools.layout.area import Area, LARGEST_MODULE
-from labeltools.layout.frame import DIGITS_ROOM, LOWEST
+from labeltools.layout.area import LARGEST_MODULE
 from labeltools.layout.layout import ASKED, LaidOut, LaidOutFile, PlacedSymbol, short
 from labeltools.layout.letters import Letters
+from labeltools.layout.medium import Medium
+from labeltools.layout.needs import DIGITS_ROOM, LOWEST
 from labeltools.layout.place import key_of, PARTS, Place
 from labeltools.layout.symbol_room import SymbolRoom
 from labeltools.lines.engine import drawn, Modules
@@ -82,23 +85,39 @@ def keys_of_columns(
     return keys, names
 
 
-@dataclass
+class SvgLabels:
+    """What the design of a file does with labels: its drawing, and then what differs."""
+
+    def __init__(self, design: SvgDesign) -> None:
+        self.design = design
+
+    def lay_out(self, labels: Sequence[Record], on: Setting, talk: Talk) -> LaidOutFile:
+        """Returns labels with their layouts, why others are left out, and what is said of all."""
+        return SvgLayouts(self.design, on).lay_out(labels, talk)
+
+    def printed(self, labels: Sequence[Record], on: Setting) -> Mapping[int, Sequence[str]]:
+        """Returns the texts of labels in places of letters."""
+        return SvgLayouts(self.design, on).texts_in_places(labels)
+
+    def below(self, medium: Medium) -> Below:
+        """Returns the drawing."""
+        return Background(self.design, medium)
+
+
 class SvgLayouts:
-    """Lays out labels in a design; `empty` are columns of which no label has a text."""
+    """Lays out labels in a design; labels are turned as that is."""
 
-    design: SvgDesign
-    area: Area
-    letters: Letters
-    note: str
-    empty: frozenset[str]
-    left_out: dict[int, Text] = field(default_factory=dict)
-
-    def __post_init__(self) -> None:
+    def __init__(self, design: SvgDesign, on: Setting) -> None:
+        self.design = design
+        self.area = on.area.turned() if design.is_turned else on.area
+        self.letters = on.letters
+        self.note = on.note
+        self.left_out: dict[int, Problem] = {}
         self.places = self.design.places
         groups = self.design.groups
         self.own = frozenset(key for place in self.places for key in (place.key, place.part))
         self.known = self.own | {*groups, *groups.values()}.difference(PARTS)
-        self.asked = frozenset(PARTS).union(map(key_of, self.empty))
+        self.asked = frozenset(PARTS).union(map(key_of, on.empty))
         self.boxes = {place: place.box_in(self.area) for place in self.places}
         self.boxes_of = cache(self.new_boxes)
         self.unread = cache(lambda absent: self.design.mixed(absent, UNREAD, 0.5))
@@ -123,7 +142,7 @@ class SvgLayouts:
             try:
                 placed.append(self.laid_out(label, rows[number], absent, rooms, symbols))
             except NoRoom as problem:
-                self.left_out[label.number] = sentence(problem.what, problem.hint)
+                self.left_out[label.number] = problem.problem
         said = ((labels[0].origin, text) for text in self.said(labels, values, rows, rooms))
         return LaidOutFile(tuple(placed), self.area, self.left_out, tuple(said if labels else ()))
 
@@ -192,7 +211,8 @@ class SvgLayouts:
             if place.symbology:
                 second = made[place, text]
                 if isinstance(second, Refused):
-                    raise NoRoom(Text("place {}: {}", place.title, second.what), second.hint)
+                    what = Text("place {}: {}", place.title, second.problem.what)
+                    raise NoRoom(what, second.problem.hint)
                 symbology, (modules, data) = SYMBOLOGIES[place.symbology], second
             module, boxes = self.boxes_of(place, symbology.name, modules.width, modules.height)
             how = (data, modules, symbology, module, boxes)
@@ -254,7 +274,7 @@ class SvgLayouts:
         values: Sequence[Values],
         rows: Sequence[Sequence[str]],
         rooms: Mapping[Place, Room],
-    ) -> Iterator[Text]:
+    ) -> Iterator[Problem]:
         """Yields what is said of the design, of texts over each other, of parts without a place,
         and of places for which no label has anything. Raises `ToolError` where a shape that is no
         rectangle has the name of a column.
@@ -266,22 +286,21 @@ class SvgLayouts:
             if is_common and any(row[one] and row[two] for row in rows):
                 titles = place.title, other.title
                 what = Text("{}: the places {} and {} overlap", file, *titles)
-                yield Text("{}: {}", what, Text("a label has a text for each: move them apart"))
+                yield Problem(what, Text("a label has a text for each: move them apart"))
         names = {key: value.names[key] for value in values for key in value.texts}
         columns = {key_of(name) for label in labels for name in label.names}
         for key in sorted(self.design.shapes.keys() & columns.union(PARTS)):
             what = Text("{}: {} is not a rectangle ({})", file, key, self.design.shapes[key])
             raise ToolError(what, Text("draw a rectangle for its place"))
         if lost := [name for key, name in names.items() if key not in self.known]:
-            yield Text("{} has no rectangle for {}: not on the labels", file, ", ".join(lost))
+            what = Text("{} has no rectangle for {}: not on the labels", file, ", ".join(lost))
+            yield Problem(what)
         known = {*names, *self.asked}
         empty = [place.title for place in self.places if not known & {place.key, place.part}]
         if empty:
-            hint = Text(
-                "give such a column with label-table {}, or remove the name",
-                Remedy("text", empty[0]),
-            ).in_window(Text("choose such a column as a text, or remove the name"))
-            yield Text("{}: no label has anything for {}: {}", file, ", ".join(empty), hint)
+            what = Text("{}: no label has anything for {}", file, ", ".join(empty))
+            hint = Text("choose such a column as a text of the table, or remove the name")
+            yield Problem(what, hint, (Remedy("text", empty[0]),))
 
 
 def line_of(place: Place, text: str) -> bytes:

@@ -3,39 +3,44 @@
 What a page may be made of is listed here. An element that is not in the list is refused, since
 librsvg would leave it out. All else is as the preview shows it, alike on all labels. Nothing of a
 page is rewritten: what is not to be seen is hidden by a style sheet.
+
+A page is read in the process that draws it (`read_page`). Ours only has its bytes.
 """
 
 import os
 import re
-import subprocess
-import sys
 import zlib
 from base64 import b64decode
 from dataclasses import dataclass
-from functools import cached_property, lru_cache
 from io import BytesIO
-from math import ceil, prod
-from pathlib import Path
-from typing import Any
+from typing import Any, NamedTuple
 from xml.etree import ElementTree
 from xml.etree.ElementTree import Element
 
-import cairo
-
-from labeltools.common.budget import Budget, DOTS, PAGE, PAGE_MEMORY, PAGE_SECONDS, PIXELS
-from labeltools.common.messages import OF_SYSTEM, ToolError
-from labeltools.common.text import NOTHING, Remedy, Text
-from labeltools.layout.pango import gi_library
+from labeltools.common.budget import check_size, DOTS, PAGE
+from labeltools.common.messages import OF_SYSTEM, Remedy, ToolError
+from labeltools.common.text import NOTHING, Text
+from labeltools.designs.drawer import (
+    ask,
+    DPI,
+    Drawer,
+    Drawing,
+    light,
+    lines,
+    PageArea,
+    PageSides,
+    PLAIN,
+    SAVE_AGAIN,
+    sides,
+)
 from labeltools.paper.stock import Size
 
 SPACE = "{http://www.w3.org/2000/svg}"
+INCLUDED = "{http://www.w3.org/2001/XInclude}"  # what is of another address
 BEGIN = '<svg xmlns="http://www.w3.org/2000/svg"'
 LINKS = ("href", "{http://www.w3.org/1999/xlink}href")
-DPI = 96.0  # of CSS, in which lengths without a unit are; librsvg takes 90 where nothing is said
 PX = 25.4 / DPI  # millimetres
-TRIAL = str(Path(__file__).with_name("trial.py"))
-MOST_SEEN = 4_000_000  # dots of a page that is looked at, on which each is drawn first
-KEPT = 4  # drawings that are known to take little
+MOST_SEEN = 4_000_000  # dots of a page that is looked at
 LARGEST = 4000.0  # millimetres of a page
 PACKED = b"\x1f\x8b"  # what .svgz begins with
 WITHIN = re.compile("#|data:image/(?:png|jpeg);base64,")
@@ -54,56 +59,63 @@ ELEMENTS = frozenset(
 )
 # what stands in a rectangle of its own, or of others, and is no place
 HOLDERS = ("clipPath", "defs", "marker", "mask", "pattern", "symbol")
-PLAIN = Text("export it as a picture, or with texts as paths")
-SAVE_AGAIN = Text("save it as SVG once more")
 
 
 @dataclass(frozen=True, eq=False)
 class SvgPage:
-    """A page of SVG: its file, its elements, its sides, and whether these are in millimetres."""
+    """A page of SVG as it is drawn: its file, its bytes, its sides, whether these are in
+    millimetres, and the tags of its elements.
+    """
+
+    file: str
+    data: bytes
+    size: Size
+    is_real: bool
+    tags: frozenset[str]
+
+    def light(self, area: PageArea, sheet: str, wide: int, high: int) -> bytes:
+        """Returns how light each of some dots is with all of it in an area: a byte, 0 for black.
+        Raises `ToolError` where that takes too much.
+        """
+        return ask(light, Drawing(self.file, self.data, sheet, area), wide, high)
+
+    def draw(self, canvas: Any, area: PageArea, sheet: str) -> None:
+        """Draws all of it as lines; raises `ToolError` where that takes too much: the other process
+        draws the same first.
+        """
+        drawing = Drawing(self.file, self.data, sheet, area)
+        ask(lines, drawing, area.x + area.width, area.y + area.height)
+        Drawer(drawing).draw(canvas)
+
+    def check_dots(self, wide: int, high: int) -> None:
+        """Raises `ToolError` for a drawing in more dots than any printer's label has."""
+        if wide * high > DOTS.most(len(self.data)):
+            what = Text("{} has {} by {} dots, which are too many to draw", self.file, wide, high)
+            remedies = (Remedy("dpi"), Remedy("to", "pdf"))
+            raise ToolError(what, Text("make it smaller"), remedies=remedies)
+
+
+class OpenPage(NamedTuple):
+    """A page that is read: its file, its elements, and what `SvgPage` has of its sides."""
 
     file: str
     root: Element
     size: Size
     is_real: bool
 
-    @cached_property
-    def data(self) -> bytes:
-        """Its bytes, once its places and groups are marked."""
-        return ElementTree.tostring(self.root)
-
-    def draw(self, canvas: Any, area: Any, sheet: str) -> None:
-        """Draws all of it into an area, in a style sheet of its own, which can only hide something.
-        Raises `ToolError` where that takes too much: a larger area than any before is drawn by
-        another process first.
-        """
-        way = "dots" if isinstance(canvas.get_target(), cairo.ImageSurface) else "lines"
-        wide, high = ceil(area.width), ceil(area.height)
-        if wide * high > MOST_SEEN:
-            check_cost(self.file, self.data, way, wide, high)
-        try:
-            handle_of(self.file, self.data, sheet).render_document(canvas, area)
-        except gi_library("GLib", "2.0").Error as error:
-            raise ToolError(
-                Text("{} cannot be drawn: {}", self.file, error.message), PLAIN
-            ) from error
-
-    def check_dots(self, wide: int, high: int) -> None:
-        """Raises `ToolError` for a drawing in more dots than any printer's label has."""
-        if wide * high > DOTS.most(len(self.data)):
-            what = Text("{} has {} by {} dots, which are too many to draw", self.file, wide, high)
-            hint = Text("give a smaller {}, or {}", Remedy("dpi"), Remedy("to", "pdf"))
-            raise ToolError(what, hint.in_window(Text("make it smaller")))
-
-    def has(self, *tags: str) -> bool:
-        """Returns whether it has an element of one of some tags."""
-        return any(tag_of(element) in tags for element in self.root.iter())
+    def as_drawn(self) -> SvgPage:
+        """Returns the page with its bytes, once its places and groups are marked."""
+        tags = frozenset(map(tag_of, self.root.iter()))
+        data = ElementTree.tostring(self.root, "utf-8")
+        return SvgPage(self.file, data, self.size, self.is_real, tags)
 
 
-def read_page(file: str) -> SvgPage:
-    """Returns the page of a file; raises `ToolError` where that is none, or would not be drawn."""
-    data = data_of(file)
-    check_cost(file, data, "dots")
+def read_page(drawing: Drawing) -> OpenPage:
+    """Returns the page of the bytes of a file; raises `ToolError` where that is none, or would not
+    be drawn.
+    """
+    file = drawing.file
+    data = unzipped(file, drawing.data)
     try:
         root = ElementTree.fromstring(data)
     except (ElementTree.ParseError, LookupError, ValueError) as error:
@@ -111,65 +123,56 @@ def read_page(file: str) -> SvgPage:
     if root.tag != f"{SPACE}svg":
         raise ToolError(Text("{} is not SVG", file), Text("it begins with {}", BEGIN))
     check_elements(file, root)
-    return sized_page(file, root, handle_of(file, data))
+    return sized_page(file, root, sides(Drawing(file, data)))
 
 
-def data_of(file: str) -> bytes:
-    """Returns the bytes of a file; raises `ToolError`. A FIFO is empty, and is not waited for."""
+def drawing_of(file: str) -> Drawing:
+    """Returns the bytes of a file, as they are to be drawn; raises `ToolError`. A FIFO is empty,
+    and is not waited for.
+    """
     most = PAGE.bytes.most(0)
     try:
         with open(
             file, "rb", opener=lambda name, how: os.open(name, how | os.O_NONBLOCK)
         ) as opened:
             data = opened.read(most + 1) or b""
-        if data.startswith(PACKED):
-            data = zlib.decompressobj(zlib.MAX_WBITS + 16).decompress(data, most + 1)
     except OSError as error:
-        what = Text("{}: {}", Remedy("design", file), error.strerror)
-        what = what.in_window(Text("{}: {}", file, error.strerror))
+        what = Text("{}: {}", file, error.strerror)
         raise ToolError(what, OF_SYSTEM.get(type(error), NOTHING)) from error
+    check_size(file, len(data), PAGE)
+    return Drawing(file, data)
+
+
+def unzipped(file: str, data: bytes) -> bytes:
+    """Returns the bytes of a page, which may be packed; raises `ToolError`."""
+    if not data.startswith(PACKED):
+        return data
+    most = PAGE.bytes.most(0)
+    try:
+        found = zlib.decompressobj(zlib.MAX_WBITS + 16).decompress(data, most + 1)
     except zlib.error as error:
         raise ToolError(Text("{} is not SVG: {}", file, error), SAVE_AGAIN) from error
-    Budget(file, len(data), PAGE)
-    return data
+    check_size(file, len(found), PAGE)
+    return found
 
 
-@lru_cache(KEPT)
-def check_cost(file: str, data: bytes, way: str, *sides: int) -> None:
-    """Raises `ToolError` for a page that takes too much: another process draws it once, in dots or
-    lines, on an area with such sides, or without them on as many dots as it is looked at. That is
-    no fork, in which librsvg waits for threads that this process has, and it has not.
-    """
-    rsvg()
-    seconds, memory = (share.most(len(data)) for share in (PAGE_SECONDS, PAGE_MEMORY))
-    command = (sys.executable, "-I", TRIAL, *map(str, (seconds, memory)), way, *map(str, sides))
-    if subprocess.run(command, input=data, stderr=subprocess.DEVNULL, check=False).returncode:
-        most = (seconds, memory // PAGE_MEMORY.unit)
-        raise ToolError(Text("{} cannot be drawn in {} seconds and {} MB", file, *most), PLAIN)
-
-
-def sized_page(file: str, root: Element, handle: Any) -> SvgPage:
+def sized_page(file: str, root: Element, found: PageSides) -> OpenPage:
     """Returns a page, which takes all of what it is drawn on from here on; raises `ToolError` where
     it has no size.
     """
-    found = handle.get_intrinsic_dimensions()
-    units = {side.unit.value_nick for side in (found.out_width, found.out_height)}
-    is_sized, *sides = handle.get_intrinsic_size_in_pixels()
-    box = found.out_viewbox
-    if not is_sized:
-        sides = [box.width, box.height]
-    if not found.out_has_viewbox:
-        root.set("viewBox", "0 0 {:.6f} {:.6f}".format(*sides))
-    elif not min(box.width, box.height) > 0:
-        sides = [0.0, 0.0]
-    is_real = is_sized and units != {"px"}
-    width, height = (round(side * (PX if is_real else 1.0), 3) for side in sides)
+    size = found.pixels if found.is_sized else found.box or (0.0, 0.0)
+    if found.box is None:
+        root.set("viewBox", "0 0 {:.6f} {:.6f}".format(*size))
+    elif not min(found.box) > 0:
+        size = (0.0, 0.0)
+    is_real = found.is_sized and found.units != {"px"}
+    width, height = (round(side * (PX if is_real else 1.0), 3) for side in size)
     if not 0 < min(width, height) <= max(width, height) < LARGEST:
         example = 'width="60mm" height="40mm" viewBox="0 0 60 40"'
         hint = Text("give it width, height and viewBox, as {}", example)
         raise ToolError(Text("{} has no size", file), hint)
     root.set("style", f"{root.get('style', '')};width:auto;height:auto")
-    return SvgPage(file, root, (width, height), is_real)
+    return OpenPage(file, root, (width, height), is_real)
 
 
 def tag_of(element: Element) -> str:
@@ -186,9 +189,9 @@ def check_elements(file: str, root: Element) -> None:
             switch.tag = f"{SPACE}g"
     filled = (element for element in root.iter() if not is_left_out(element))
     tags = dict.fromkeys(map(tag_of, filled))
-    if unknown := [tag for tag in tags if not tag.startswith("{") and tag not in ELEMENTS]:
+    of_svg = (tag for tag in tags if not tag.startswith("{") or tag.startswith(INCLUDED))
+    if unknown := [tag.removeprefix(INCLUDED) for tag in of_svg if tag not in ELEMENTS]:
         raise ToolError(Text("{}: {} cannot be drawn", file, ", ".join(unknown)), PLAIN)
-    budget = Budget(file, 0, PAGE)
     for element in root.iter():
         links = [*filter(None, map(element.get, LINKS))]
         sheets = [element.text or ""] * (tag_of(element) == "style")
@@ -198,8 +201,8 @@ def check_elements(file: str, root: Element) -> None:
         elif not all(map(WITHIN.match, links)) or any(map(OUTSIDE.search, styles)):
             raise refused_link(file, tag_of(element), any(map(DRAWING.match, links)))
         elif tag_of(element) == "image":
-            pixels = sum(pixels_of(file, link.partition(",")[2]) for link in links)
-            budget.take_share(PIXELS, pixels)
+            for link in links:
+                check_picture(file, link.partition(",")[2])
 
 
 def refused_link(file: str, tag: str, is_drawing: bool) -> ToolError:
@@ -213,14 +216,14 @@ def refused_link(file: str, tag: str, is_drawing: bool) -> ToolError:
     return ToolError(what, Text("embed it, in Inkscape by Extensions, Images, Embed Images"))
 
 
-def pixels_of(file: str, data: str) -> int:
-    """Returns how many pixels a picture has; raises `ToolError` for one that is broken."""
+def check_picture(file: str, data: str) -> None:
+    """Raises `ToolError` for a picture that is broken, which would be left out."""
     from PIL import Image  # it takes 40 ms, also of built-in designs
 
     Image.MAX_IMAGE_PIXELS = None  # its own limit is a warning
     try:
-        picture = Image.open(BytesIO(b64decode(data)), formats=KINDS) if data else None
-        return int(prod(picture.size)) if picture else 0
+        if data:
+            Image.open(BytesIO(b64decode(data)), formats=KINDS)
     except (OSError, ValueError) as error:
         raise ToolError(Text("{}: a picture is broken", file), Text("embed it again")) from error
 
@@ -231,27 +234,3 @@ def is_left_out(element: Element) -> bool:
     """
     is_empty_flow = tag_of(element).startswith("flow") and not "".join(element.itertext()).strip()
     return is_empty_flow or bool(element.get("requiredExtensions"))
-
-
-def rsvg() -> Any:
-    """Returns librsvg; raises `ToolError` where it is not there."""
-    try:
-        return gi_library("Rsvg", "2.0")
-    except (ImportError, ValueError) as error:
-        hint = Text("apt-get install gir1.2-rsvg-2.0")
-        raise ToolError(Text("{}: a design of SVG needs it", error), hint) from error
-
-
-def handle_of(file: str, data: bytes, sheet: str = "") -> Any:
-    """Returns what draws SVG; without the name of a file it reads no other one. Raises
-    `ToolError`.
-    """
-    stream = gi_library("Gio", "2.0").MemoryInputStream.new_from_data(data)
-    try:
-        flags = rsvg().HandleFlags.FLAGS_NONE
-        handle = rsvg().Handle.new_from_stream_sync(stream, None, flags, None)
-        handle.set_dpi(DPI)
-        handle.set_stylesheet(sheet.encode())
-    except gi_library("GLib", "2.0").Error as error:
-        raise ToolError(Text("{} is not SVG: {}", file, error.message), SAVE_AGAIN) from error
-    return handle

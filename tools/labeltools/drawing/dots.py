@@ -5,8 +5,8 @@ import zlib
 
 import cairo
 
-from labeltools.common.messages import ToolError
-from labeltools.common.text import Remedy, Text
+from labeltools.common.messages import Remedy, ToolError
+from labeltools.common.text import Text
 from labeltools.drawing.pen import Pen, REVERSED
 from labeltools.layout.layout import Page
 from labeltools.lines.engine import bytes_a_row
@@ -34,15 +34,15 @@ def drawn_page(size: Dots, pen: Pen, page: Page, turn: int = 0) -> Picture:
 def drawn_surface(size: Dots, pen: Pen, page: Page, turn: int = 0) -> cairo.ImageSurface:
     """Returns a page of labels as a surface with a bit for each dot; raises as `drawn_page`."""
     width, height = size
-    hint = Text("give a smaller page, or a lower {}", Remedy("dpi"))
-    hint = hint.in_window(Text("choose a smaller page, or fewer dots an inch"))
+    hint, dpi = Text("choose a smaller page, or fewer dots an inch"), (Remedy("dpi"),)
     if max(size) > MOST_DOTS or width * height > MOST_OF_PAGE:
-        raise ToolError(Text("{} by {} dots are too many for a page", width, height), hint)
+        what = Text("{} by {} dots are too many for a page", width, height)
+        raise ToolError(what, hint, remedies=dpi)
     try:
         surface = cairo.ImageSurface(cairo.FORMAT_A1, width, height)
     except (cairo.Error, MemoryError) as error:
         what = Text("{} by {} dots cannot be drawn: {}", width, height, error)
-        raise ToolError(what, hint) from error
+        raise ToolError(what, hint, remedies=dpi) from error
     canvas = cairo.Context(surface)
     canvas.set_antialias(cairo.Antialias.NONE)
     pen.draw(canvas, page, turn)

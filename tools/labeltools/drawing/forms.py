@@ -5,20 +5,20 @@ from dataclasses import dataclass
 
 @dataclass(frozen=True)
 class Form:
-    """A form of output: whether it is a drawing (else dots), whether a file of it has one page, and
-    whether each label is a page.
+    """A form of output: whether it is a drawing (else dots), whether each label is a page,
+    and how a file of it begins, if others are added to it.
     """
 
     name: str
     is_drawn: bool = False
-    is_one_page: bool = False
     is_roll: bool = False
+    begin: bytes = b""
 
 
 PDF = Form("pdf", is_drawn=True)
-SVG = Form("svg", is_drawn=True, is_one_page=True)
-PNG = Form("png", is_one_page=True)
+PNG = Form("png")
 PBM = Form("pbm")
-ZPL = Form("zpl", is_roll=True)
-ESCPOS = Form("escpos", is_roll=True)
-FORMS = {form.name: form for form in (PDF, SVG, PNG, PBM, ZPL, ESCPOS)}
+ZPL = Form("zpl", is_roll=True, begin=b"^XA")
+ESCPOS = Form("escpos", is_roll=True, begin=b"\x1b@")
+FORMS = {form.name: form for form in (PDF, PNG, PBM, ZPL, ESCPOS)}
+SHOWN_FORMS = [name for name in FORMS if name != PBM.name]  # which is for tests

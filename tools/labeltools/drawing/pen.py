@@ -4,6 +4,7 @@ import re
 from collections import defaultdict
 from functools import cache, lru_cache
 from itertools import accumulate, islice, repeat
+from operator import itemgetter
 from typing import Any, Iterable, Iterator, Sequence
 
 import cairo
@@ -11,21 +12,29 @@ import cairo
 from labeltools.common.messages import FAULT, ToolError
 from labeltools.common.text import Text
 from labeltools.designs.design import Design
-from labeltools.designs.svg_design import is_light
-from labeltools.drawing.texts import fitted_texts
-from labeltools.layout.fitting import Fitted, Fitter, MIDDLE, Placed, Style
-from labeltools.layout.glyphs import LINE_END
+from labeltools.designs.svg_design import BLACK, is_light
+from labeltools.layout.fitting import (
+    Colour,
+    Fitted,
+    Fitter,
+    ink_of,
+    LINE_END,
+    MIDDLE,
+    Placed,
+    Style,
+)
 from labeltools.layout.layout import LaidOut, Page, PlacedSymbol, PlacedText
 from labeltools.layout.letters import DATA_FONT, digits_face, Letters
 from labeltools.layout.medium import Medium
-from labeltools.layout.pango import asked_size, font_options, PangoCairo
+from labeltools.layout.pango import font_options, PangoCairo
+from labeltools.layout.price import fitted_price
 from labeltools.lines.engine import bytes_a_row, LABELS_FAILED, Modules
 from labeltools.lines.symbologies import Digits, Span, SYMBOLOGIES, Symbology
 from labeltools.paper.box import Box
 from labeltools.paper.plan import Dots
 
 DARK = re.compile("1+")
-INSET = 0.01  # of a dot: what touches a dot paints it
+INSET = 0.001  # of a dot: a program that draws a PDF takes each dot that a picture touches
 SHOWN = {code: 0x2400 + code for code in range(32)} | {127: 0x2421}  # control characters
 UPRIGHT = (1, 0, 0, 1)  # of a matrix that neither turns nor scales
 REVERSED = bytes(int(f"{byte:08b}"[::-1], 2) for byte in range(256))
@@ -38,13 +47,10 @@ DIGITS_HIGH = 7.7
 LARGE = 1000  # dots: the size in which digits are measured
 DIGITS = "0123456789"
 EDGE = 4.0  # dots: white around letters on a tint, of which letters cover half
-KNOWN = 1024  # boxes that are kept
+LIGHTEST = 0.999  # a part of a colour that is white in 255 steps
+KNOWN = 1024  # boxes, and pictures of parts of prices, that are kept
+Glyph = tuple[int, float, int]  # of a font: its number, and where it is
 Whites = Sequence[tuple[Sequence[Box], Dots]]  # boxes of labels, with those of their areas
-
-
-# glyphs of many labels that are drawn together, by their faces and sizes: a call of Cairo takes as
-# long as a line of glyphs
-GlyphRuns = defaultdict[tuple[Any, int], list[tuple[int, float, float]]]
 
 
 class Pen:
@@ -63,6 +69,7 @@ class Pen:
         self.digit_height = -extents.y_bearing / LARGE
         self.digits_of_size = cache(self.new_digits)
         self.digit_places = cache(self.new_digit_places)
+        self.picture = lru_cache(KNOWN)(new_picture)
         self.recorded_white = cache(self.new_recorded_white)  # Cairo empties one that is let go
 
     def digits_in_size(self, options: cairo.FontOptions, size: int) -> Any:
@@ -79,14 +86,13 @@ class Pen:
             canvas.transform(upright_from(turn))
             page = [(item, (top, -left)) for item, (left, top) in page]
         self.below.draw(canvas, page)
-        runs: GlyphRuns = defaultdict(list)
-        codes = [(symbol, place) for item, place in page for symbol in item.symbols]
-        for symbol, place in codes:
-            if "digits" in symbol.boxes:
-                self.draw_digits(canvas, symbol, place, runs)
+        symbols = [item.symbols for item, _ in page]
+        codes = [
+            (symbol, place) for several, (_, place) in zip(symbols, page) for symbol in several
+        ]
+        self.draw_digits(canvas, codes)
         whites: Whites = [(white_boxes(symbol), place) for symbol, place in codes]
-        self.draw_texts(canvas, page, whites, runs)
-        self.show_runs(canvas, runs)
+        self.draw_texts(canvas, page, whites, map(len, symbols))
         turned = canvas.get_matrix()
         if codes and not self.medium.is_dots:
             canvas.set_matrix(whole)
@@ -99,22 +105,39 @@ class Pen:
                 canvas.set_matrix(turned)
         canvas.set_matrix(whole)
 
-    def draw_texts(self, canvas: Any, page: Page, whites: Whites, runs: GlyphRuns) -> None:
-        """Draws the texts of labels, with the boxes of all their symbols, one behind another;
-        raises as `draw`.
+    def draw_texts(self, canvas: Any, page: Page, whites: Whites, counts: Iterable[int]) -> None:
+        """Draws the texts of labels: the first one of each, then the second ones, so that a PDF
+        changes its font less often. The boxes of all symbols are given, one behind another, and how
+        many symbols each label has; raises as `draw`.
         """
         rest = iter(whites)
-        for item, place in page:
-            taken = [box for boxes, _ in islice(rest, len(item.symbols)) for box in boxes]
-            for text in self.texts(item):
+        found: list[tuple[int, Placed, Dots]] = []
+        for (item, place), count in zip(page, counts):
+            taken = [box for boxes, _ in islice(rest, count) for box in boxes]
+            for number, text in enumerate(self.texts(item)):
                 if is_over(text.box, taken):
                     what = Text("{}: a text is over its code", item.record.origin.text)
                     raise ToolError(what, FAULT, LABELS_FAILED)
-                self.draw_text(canvas, text, place, runs)
+                found.append((number, text, place))
+        for _, text, place in sorted(found, key=itemgetter(0)):
+            self.draw_text(canvas, text, place)
 
     def texts(self, item: LaidOut) -> Iterator[Placed]:
         """Yields the texts of a label as they fit their boxes."""
-        return fitted_texts(item, self.fitter, self.below)
+        for text in item.texts:
+            if text.place.price_style:
+                yield from fitted_price(text, self.fitter)
+            else:
+                yield self.fitted_text(text)
+
+    def fitted_text(self, text: PlacedText) -> Placed:
+        """Returns a text as it fits its box on what is below it."""
+        place, words, box, style = text
+        colour = place.colour
+        shown = off_white(colour) if colour and colour != BLACK else None
+        is_edged = shown is None and self.below.is_tinted(place)
+        found = self.fitter.found(words, style, *place.as_read(box))
+        return Placed(found, style, box, place.quarters, shown, is_edged)
 
     def is_shortened(self, item: LaidOut) -> bool:
         """Returns whether a text of a label ends in an ellipsis."""
@@ -130,18 +153,18 @@ class Pen:
         """Returns a text as it is seen."""
         return self.fitter.shown(text.text, text.style, *text.place.as_read(text.box))
 
-    def draw_digits(self, canvas: Any, symbol: PlacedSymbol, place: Dots, runs: GlyphRuns) -> None:
-        """Draws what is below the bars of a symbol of a label whose area begins at a place; digits
-        that are not turned are shown with those of other labels.
-        """
-        quarters = symbol.place.quarters
+    def draw_digits(self, canvas: Any, codes: Sequence[tuple[PlacedSymbol, Dots]]) -> None:
+        """Draws what is below the bars of symbols of labels whose areas begin at places."""
         whole = canvas.get_matrix()
-        corner = turn_to(canvas, symbol.box, quarters, place)
-        own: GlyphRuns = defaultdict(list) if quarters else runs
-        self.draw_data(canvas, symbol, corner, own)
-        if quarters:
-            self.show_runs(canvas, own)
-            canvas.set_matrix(whole)
+        upright = []
+        for symbol, place in codes:
+            corner = turn_to(canvas, symbol.box, symbol.place.quarters, place)
+            if symbol.place.quarters:
+                self.draw_data(canvas, [(symbol, corner)])
+                canvas.set_matrix(whole)
+            else:
+                upright.append((symbol, corner))
+        self.draw_data(canvas, upright)
 
     def draw_white(self, canvas: Any, whites: Whites, turn: int) -> None:
         """Draws what is white below the codes of a page, so that nothing is over them, and makes
@@ -177,15 +200,14 @@ class Pen:
         canvas.set_matrix(whole)
         canvas.fill()
 
-    def draw_text(self, canvas: Any, placed: Placed, place: Dots, runs: GlyphRuns) -> None:
+    def draw_text(self, canvas: Any, placed: Placed, place: Dots) -> None:
         """Draws a text of a label whose area begins at a place; in dots it is black, or takes black
         dots away.
         """
         text, style, box, quarters, colour, is_edged = placed
         if not quarters and colour is None and not is_edged:
-            self.show_text(canvas, text, style, (place[0] + box.left, place[1] + box.top), runs)
+            self.show_black(canvas, text, style, (place[0] + box.left, place[1] + box.top))
             return
-        own: GlyphRuns = defaultdict(list)
         canvas.save()
         corner = turn_to(canvas, box, quarters, place)
         if is_edged:
@@ -196,41 +218,28 @@ class Pen:
             canvas.set_source_rgb(*colour)
         elif colour and is_light(colour):
             canvas.set_operator(cairo.Operator.DEST_OUT)
-        self.show_text(canvas, text, style, corner, own)
-        self.show_runs(canvas, own)
+        self.show_text(canvas, text, style, corner)
         canvas.restore()
 
-    def show_text(
-        self, canvas: Any, text: Fitted, style: Style, corner: Dots, runs: GlyphRuns
-    ) -> None:
-        """Shows a text in a box that begins at a corner, as shapes where its font needs that;
-        glyphs are shown with those of other texts.
+    def show_black(self, canvas: Any, text: Fitted, style: Style, corner: Dots) -> None:
+        """Shows a black text in a box that begins at a corner. Parts of prices in dots, many of
+        which are the same, are pictures.
         """
-        left, top = corner
-        if text.glyphs:
-            found = runs[text.glyphs.face, text.size]
-            for row, x, y in text.lines():
-                found += row.glyphs(left + x, top + y)
+        if style.base is None or not self.medium.is_dots or not is_upright(canvas):
+            self.show_text(canvas, text, style, corner)
             return
-        canvas.move_to(left + text.x, top + text.y)
+        picture, room = self.picture(text)
+        left, top = corner[0] + text.x, corner[1] + text.y
+        add_picture(canvas, picture, (left + room.left, top + room.top))
+
+    def show_text(self, canvas: Any, text: Fitted, style: Style, corner: Dots) -> None:
+        """Shows a text in a box that begins at a corner, as shapes if its font needs that."""
+        canvas.move_to(corner[0] + text.x, corner[1] + text.y)
         if style.family in self.medium.outlines:
             PangoCairo.layout_path(canvas, text.layout)
             canvas.fill()
         else:
             show_layout(canvas, text.layout)
-
-    def show_runs(self, canvas: Any, runs: GlyphRuns) -> None:
-        """Shows glyphs, as shapes if their font needs that."""
-        canvas.set_font_options(self.options)
-        for (face, size), glyphs in runs.items():
-            family = face.get_family() if isinstance(face, cairo.ToyFontFace) else ""
-            canvas.set_font_face(face)
-            canvas.set_font_size(asked_size(family, size))
-            if family.strip() in self.medium.outlines:
-                canvas.glyph_path(glyphs)
-                canvas.fill()
-            else:
-                canvas.show_glyphs(glyphs)
 
     def draw_modules(
         self, canvas: Any, modules: Modules, layout: PlacedSymbol, corner: Dots
@@ -240,7 +249,7 @@ class Pen:
         box = Box(corner[0] + bars.left, corner[1] + bars.top, bars.width, bars.height)
         module = layout.module
         has_rows = len(modules.packed) > modules.row_size  # bars have one, whatever their height
-        if self.medium.is_dots and has_rows and tuple(canvas.get_matrix())[:4] == UPRIGHT:
+        if self.medium.is_dots and has_rows and is_upright(canvas):
             draw_dots(canvas, modules, box, module)
             return
         if self.medium.is_smooth or self.medium.is_dots:  # in dots that is quicker, too
@@ -255,27 +264,44 @@ class Pen:
         mask.set_matrix(picture_matrix(place, modules.width, high))
         canvas.mask(mask)
 
-    def draw_data(self, canvas: Any, symbol: PlacedSymbol, corner: Dots, runs: GlyphRuns) -> None:
-        """Draws what is below the bars of a symbol whose box begins at a corner: digits in their
-        places, or all data in the middle.
+    def draw_data(self, canvas: Any, symbols: Iterable[tuple[PlacedSymbol, Dots]]) -> None:
+        """Draws what is below the bars of symbols whose boxes begin at corners: all data in the
+        middle, or digits in their places, all that have a size at once.
         """
-        box = symbol.boxes["digits"]
-        left = corner[0] + box.left
-        top = corner[1] + box.top
-        data = symbol.data.decode("ascii", "replace")
+        digits: dict[int, list[Glyph]] = defaultdict(list)
+        for symbol, corner in symbols:
+            box = symbol.boxes.get("digits")
+            if box is None:
+                continue
+            left, top = corner[0] + box.left, corner[1] + box.top
+            if symbol.symbology.is_number:
+                for size, glyphs in self.digits_of(symbol, left, top):
+                    digits[size] += glyphs
+            else:
+                data = symbol.data.decode("ascii", "replace").translate(SHOWN)
+                size = round(DIGITS_SIZE * symbol.module)
+                style = Style(DATA_FONT, False, size, 0, MIDDLE, 0.3, 0)
+                text = self.fitter.found(data, style, box.width, box.height)
+                self.show_text(canvas, text, style, (left, top))
+        canvas.set_font_options(self.options)
+        canvas.set_font_face(self.digits_face)
+        show = canvas.glyph_path if DATA_FONT in self.medium.outlines else canvas.show_glyphs
+        for size, glyphs in digits.items():
+            canvas.set_font_size(size)
+            show(glyphs)
+        canvas.fill()
+
+    def digits_of(
+        self, symbol: PlacedSymbol, left: int, top: int
+    ) -> Iterator[tuple[int, Iterable[Glyph]]]:
+        """Yields the digits of a symbol, whose room below the bars begins there, by their size."""
         module = symbol.module
-        if not symbol.symbology.is_number:
-            size = round(DIGITS_SIZE * module)
-            style = Style(DATA_FONT, False, size, 0, MIDDLE, 0.3, 0)
-            text = self.fitter.found(data.translate(SHOWN), style, box.width, box.height)
-            self.show_text(canvas, text, style, (left, top), runs)
-            return
+        data = symbol.data.decode("ascii", "replace")
         base = top + round((DIGITS_TOP + DIGITS_HIGH) * module)
         for first, last, size, start in self.digit_places(symbol.symbology.name, module):
             glyphs, wide = self.digits_of_size(size)
             places = accumulate(repeat(wide), initial=left + start)
-            numbers = map(glyphs.__getitem__, data[first:last])
-            runs[self.digits_face, size] += zip(numbers, places, repeat(base))
+            yield size, zip(map(glyphs.__getitem__, data[first:last]), places, repeat(base))
 
     def new_digits(self, size: int) -> tuple[dict[str, int], float]:
         """Returns the glyphs of digits in a size, and how far each one is from the next."""
@@ -307,6 +333,38 @@ class Pen:
 
 
 show_layout = PangoCairo.show_layout
+
+
+def off_white(colour: Colour) -> Colour:
+    """Returns a colour of letters that is not all white: Cairo names the white below codes only
+    where it is another colour than before.
+    """
+    red, green, blue = (min(part, LIGHTEST) for part in colour)
+    return red, green, blue
+
+
+def is_upright(canvas: Any) -> bool:
+    """Returns whether a canvas is neither turned nor scaled."""
+    return tuple(canvas.get_matrix())[:4] == UPRIGHT
+
+
+def new_picture(text: Fitted) -> tuple[cairo.ImageSurface, Box]:
+    """Returns the dots of a text, and where they are from the place on where it begins."""
+    room = ink_of(text.layout)
+    picture = cairo.ImageSurface(cairo.FORMAT_A1, max(1, room.width), max(1, room.height))
+    canvas = cairo.Context(picture)
+    canvas.move_to(-room.left, -room.top)
+    show_layout(canvas, text.layout)
+    return picture, room
+
+
+def add_picture(canvas: Any, picture: cairo.ImageSurface, corner: Dots) -> None:
+    """Adds the black dots of a picture that begins at a corner."""
+    canvas.save()
+    canvas.set_operator(cairo.Operator.ADD)
+    canvas.set_source_surface(picture, *corner)
+    canvas.paint()
+    canvas.restore()
 
 
 def edge_letters(canvas: Any, text: Fitted) -> None:
@@ -358,7 +416,7 @@ def bar_boxes(bars: Box, module: int, symbology: str, room: Box, quarters: int) 
         boxes.append(Box(left, bars.bottom, width, GUARD * module))
     wide, high = (room.width, room.height)[:: -1 if quarters % 2 else 1]
     for down in (high, wide, high)[:quarters]:
-        boxes = [Box(down - box.bottom, box.left, box.height, box.width) for box in boxes]
+        boxes = [box.turned(down) for box in boxes]
     moved = (box._replace(left=room.left + box.left, top=room.top + box.top) for box in boxes)
     return tuple(moved)
 
@@ -422,16 +480,13 @@ def draw_dots(canvas: Any, modules: Modules, box: Box, module: int) -> None:
     data = memoryview(bytearray().join(rows))
     high = len(data) // stride
     picture = cairo.ImageSurface.create_for_data(data, cairo.FORMAT_A1, wide, high, stride)
-    canvas.save()
-    canvas.set_operator(cairo.Operator.ADD)
-    canvas.set_source_surface(picture, box.left, box.top)
-    canvas.paint()
-    canvas.restore()
+    add_picture(canvas, picture, (box.left, box.top))
 
 
 def picture_matrix(box: Box, width: int, height: int) -> cairo.Matrix:
-    """Returns from where in a picture the dots of a box are, which it fills but for an inset: a
-    program that draws a PDF takes each dot that the picture touches.
+    """Returns from where in a picture the dots of a box are, which it fills but for an inset. The
+    inset makes modules narrower: with more of it some would lose a dot, where a printer's page is
+    moved by half a dot.
     """
     across = width / (box.width - 2 * INSET)
     down = height / (box.height - 2 * INSET)
@@ -465,13 +520,10 @@ def draw_rectangles(
 
 
 def fill_bars(canvas: Any, row: bytes, spans: Iterable[Span], module: int, box: Box) -> None:
-    """Draws dark modules in spans of a row as rectangles, a bit less than their dots: what touches
-    a dot paints it.
-    """
+    """Draws dark modules in spans of a row as rectangles."""
     modules = bits_of(row)
     for span in spans:
         for bar in DARK.finditer(modules, span.left, span.right):
-            left = box.left + bar.start() * module + INSET
-            width = (bar.end() - bar.start()) * module - 2 * INSET
-            canvas.rectangle(left, box.top, width, box.height - INSET)
+            width = (bar.end() - bar.start()) * module
+            canvas.rectangle(box.left + bar.start() * module, box.top, width, box.height)
     canvas.fill()

@@ -42,12 +42,13 @@ class Block(NamedTuple):
 def zpl(picture: Picture, copies: int) -> bytes:
     """Returns a label, which is printed `copies` times.
 
-    It is not turned (^PON), and begins at the left upper corner (^LH, ^LS), whatever the job before
-    has set. Its dots are a graphic field for each block between white rows and columns, so that a
+    Its numbers are dots (^MUD), it is not turned (^PON) or mirrored (^PMN), has all dots of the
+    printer (^JMA), and begins at the left upper corner (^LH, ^LS), whatever the job before has set.
+    Its dots are a graphic field for each block between white rows and columns, so that a
     row of bars is that above it once more, whatever is beside them. They are in run lengths, which
     each printer and clone reads.
     """
-    head = b"^XA^PON^LH0,0^LS0^PW%d^LL%d\n" % (picture.width, picture.height)
+    head = b"^XA^MUD^PON^PMN^JMA^LH0,0^LS0^PW%d^LL%d\n" % (picture.width, picture.height)
     count = b"^PQ%d\n" % copies if copies > 1 else b""
     return head + b"".join(graphic_fields(picture)) + count + b"^XZ\n"
 

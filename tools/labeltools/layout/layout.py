@@ -3,11 +3,11 @@ Lengths are in dots.
 """
 
 import re
+import unicodedata
 from dataclasses import dataclass
 from typing import Iterator, Mapping, NamedTuple, Sequence
 
-from labeltools.common.messages import Origin
-from labeltools.common.text import Text
+from labeltools.common.messages import Origin, Problem
 from labeltools.layout.area import Area
 from labeltools.layout.fitting import Style
 from labeltools.layout.place import Place, PRICES
@@ -17,9 +17,10 @@ from labeltools.lines.symbologies import Symbology
 from labeltools.paper.box import Box
 from labeltools.paper.plan import Dots
 
-# marks above or below a letter, of which so many are drawn
-MARKS = "[\u0300-\u036f\u0483-\u0489\u1ab0-\u1aff\u1dc0-\u1dff\u20d0-\u20ff\ufe20-\ufe2f]"
-STACK = re.compile(f"({MARKS}{{8}}){MARKS}+")
+# classes of Unicode whose signs are above, below or beside a letter, or not seen
+MARKS = ("Mn", "Me", "Mc", "Cf")
+MOST_MARKS = 8  # of a letter: more cannot be read
+BEYOND_LATIN = re.compile("[^\0-\u02ff]{9,}")  # more signs in a row than that: some may be marks
 MOST_LETTERS = 1000  # of a line of a text: no paper takes more
 ASKED = 256  # labels between two calls of `go_on`
 
@@ -87,16 +88,22 @@ class LaidOutFile:
 
     labels: tuple[LaidOut, ...]
     area: Area
-    left_out: Mapping[int, Text]
-    said: tuple[tuple[Origin, Text], ...] = ()
+    left_out: Mapping[int, Problem]
+    said: tuple[tuple[Origin, Problem], ...] = ()
 
 
 def as_printed(record: Record, note: str) -> Record:
-    """Returns a label with its title and text as they are printed; `note` is one more line of the
-    text.
+    """Returns a label with its texts as they are printed; `note` is one more line of its text. A
+    price that is shortened fits no paper.
     """
     texts = (*record.text, note) if note else record.text
-    return record._replace(head=short(record.title), body=short("\n".join(texts)))
+    return record._replace(
+        head=short(record.title),
+        body=short("\n".join(texts)),
+        price=short(record.price),
+        unit=short(record.unit),
+        was=short(record.was),
+    )
 
 
 def short(text: str) -> str:
@@ -105,7 +112,22 @@ def short(text: str) -> str:
     """
     if text.isascii() and len(text) <= MOST_LETTERS:
         return text
-    text = STACK.sub(r"\1", text)
+    text = BEYOND_LATIN.sub(lambda found: without_marks(found[0]), text)
     if len(text) <= MOST_LETTERS:
         return text
     return "\n".join(line[:MOST_LETTERS] for line in text.split("\n"))
+
+
+def without_marks(text: str) -> str:
+    """Returns a text without the marks that no letter can have, of any script.
+
+    >>> without_marks("\u0e01" + "\u0e35" * 100) == "\u0e01" + "\u0e35" * MOST_MARKS
+    True
+    """
+    found = []
+    marks = 0
+    for sign in text:
+        marks = marks + 1 if unicodedata.category(sign) in MARKS else 0
+        if marks <= MOST_MARKS:
+            found.append(sign)
+    return "".join(found)

@@ -10,17 +10,27 @@ import cairo
 
 from labeltools.common.messages import ToolError
 from labeltools.common.text import Text
-from labeltools.layout.digits_font import digits_font
-from labeltools.layout.frame import Extent
-from labeltools.layout.glyphs import Memo, OTHER_SCRIPTS, OTHERS
 from labeltools.layout.pango import new_layout, Pango, pango_context, PangoCairo, UNIT
 
-KEPT = 2048  # words of which the extent is kept
+KEPT = 16384  # lines and words of which the extent is kept
 MEASURED = 200  # dots: the size of letters in which they are measured
 SCALE = MEASURED * UNIT
 DIGITS = "0123456789"
 MOST_NAMED = 9  # letters that a message names
-SPACED = re.compile("[^ ]+ *| +")
+# parts behind which a line may end, with the spaces behind them
+SPACED = re.compile(
+    r"""
+    [^ ]*?[^\W\d_]{2}-(?=[^\W\d_]{2})  # up to a hyphen between two words
+    | \d[\d.,]*[ ](?:%|[^\W\d_]{1,3})(?![^ ])[ ]*  # a number and its unit
+    | [^ ]+(?:[ ][A-Z](?![^ ]))?[ ]*  # a word, and a single capital behind it
+    | [ ]+
+    """,
+    re.VERBOSE,
+)
+# letters that stand one behind another: Latin, Greek, Cyrillic; punctuation; currencies
+SIMPLE = ((0x20, 0x2FF), (0x370, 0x482), (0x48A, 0x52F), (0x2010, 0x2027), (0x20A0, 0x20CF))
+OTHERS = re.compile("[^" + "".join(f"{chr(first)}-{chr(last)}" for first, last in SIMPLE) + "]")
+OTHER_SCRIPTS = re.compile(OTHERS.pattern.replace("[^", "[^\n"))  # in several lines
 FONT = "Liberation Sans"  # of titles and texts
 PRICE_FONT = "Liberation Sans Narrow"  # of prices beside FONT
 OTHER_FONT = "DejaVu Sans"  # of texts with letters of other scripts, and of all where FONT is not
@@ -42,9 +52,13 @@ class Sign(NamedTuple):
     top: float
     bottom: float
 
+    @property
+    def width(self) -> float:
+        """The width of its ink."""
+        return max(0.0, self.advance - self.left - self.right)
+
 
 BLANK = Sign(0.0, 0.0, 0.0, 0.0, 0.0)
-NOTHING = Extent(0.0, 0.0)
 
 
 def together(signs: Sequence[Sign], spaces: float = 0.0) -> Sign:
@@ -57,13 +71,6 @@ def together(signs: Sequence[Sign], spaces: float = 0.0) -> Sign:
         if below > bottom:
             bottom = below
     return Sign(advance + spaces, left, right, top, bottom)
-
-
-def extent_of(sign: Sign) -> Extent:
-    """Returns the extent of the ink of a word; zeros where it has none."""
-    width = sign.advance - sign.left - sign.right
-    height = sign.bottom - sign.top
-    return Extent(width, height) if width > 0 and height > 0 else NOTHING
 
 
 def font_for(family: str) -> str:
@@ -85,7 +92,7 @@ def digits_face(is_dots: bool) -> cairo.FontFace:
     """Returns the font of digits below bars, in dots or in a drawing."""
     if is_dots and is_there(DIGITS_FONT):
         return cairo.ToyFontFace(DIGITS_FONT + " ")  # Cairo keeps a face as it was first used
-    return digits_font() or cairo.ToyFontFace(DATA_FONT + " " * is_dots)
+    return cairo.ToyFontFace(DATA_FONT + " " * is_dots)
 
 
 def fonts_of(family: str) -> tuple[str, str, str]:
@@ -111,6 +118,11 @@ def require_fonts(*families: str) -> None:
             raise ToolError(Text("there is no font {}", family), Text("{}, {}", hint, usual))
 
 
+def is_simple(text: str) -> bool:
+    """Returns whether the letters of a text stand one behind another."""
+    return not OTHERS.search(text)
+
+
 class Letters:
     """Measures texts in a font, with the letters of prices and of other scripts beside it."""
 
@@ -118,11 +130,11 @@ class Letters:
         self.family, self.of_prices, self.of_others = fonts_of(wanted)
         require_fonts(self.family, self.of_others, DATA_FONT)
         self.has_others = self.of_others != self.family
-        self.extent = lru_cache(KEPT)(self.new_extent)
+        self.whole = lru_cache(KEPT)(self.new_whole)
         self.is_missing = cache(self.is_in_no_font)
         self.layout = cache(self.new_measuring_layout)
         self.sign = cache(self.whole_sign)
-        self.steps = [Memo(partial(self.step, is_bold)) for is_bold in (False, True)]
+        self.steps = [cache(partial(self.step, is_bold)) for is_bold in (False, True)]
         self.word = lru_cache(KEPT)(self.new_word)
 
     @cached_property
@@ -170,11 +182,14 @@ class Letters:
         """Returns how far a letter is from the next one."""
         return self.sign(letter, is_bold).advance
 
-    def new_extent(self, text: str, is_bold: bool) -> Extent:
-        """Returns the extent of a line of text; zeros for one without ink."""
-        if not text:
-            return NOTHING
-        return extent_of(self.line(text, is_bold) or self.whole_sign(text, is_bold))
+    def new_whole(self, text: str, is_bold: bool) -> Sign:
+        """Returns what a line of text takes, also where letters change beside others."""
+        if not text.strip():
+            return BLANK
+        if OTHERS.search(text):
+            return self.whole_sign(text, is_bold)
+        words = [*map(self.word, text.split(" "), repeat(is_bold))]
+        return together(words, (len(words) - 1) * self.steps[is_bold](" "))
 
     def width(self, text: str, is_bold: bool) -> float:
         """Returns the width of the ink of a line of text: the sum of its letters, but where these
@@ -183,20 +198,10 @@ class Letters:
         if not text:
             return 0.0
         if OTHERS.search(text):
-            return self.extent(text, is_bold).width
-        whole = sum(map(self.steps[is_bold].__getitem__, text))
+            return self.whole(text, is_bold).width
+        whole = sum(map(self.steps[is_bold], text))
         left, right = self.sign(text[0], is_bold).left, self.sign(text[-1], is_bold).right
         return max(0.0, whole - left - right)
-
-    def line(self, text: str, is_bold: bool) -> Sign | None:
-        """Returns what a line of text takes, letter by letter; None where letters change beside
-        others.
-        """
-        parts = text.split(" ")
-        found = [sign for sign in map(self.word, parts, repeat(is_bold)) if sign]
-        if len(found) < len(parts):
-            return None
-        return together(found, (len(found) - 1) * self.steps[is_bold][" "])
 
     def wrapping_parts(self, line: str) -> list[str]:
         """Returns the parts of a line behind which it may be wrapped, with the spaces behind them:
@@ -210,10 +215,8 @@ class Letters:
         ends = [found.start_index + found.length for found in lines]
         return [written[start:end].decode() for start, end in zip([0, *ends], ends)]
 
-    def new_word(self, word: str, is_bold: bool) -> Sign | None:
-        """Measures a word, letter by letter; None where letters change beside others."""
-        if OTHERS.search(word):
-            return None
+    def new_word(self, word: str, is_bold: bool) -> Sign:
+        """Measures a word, letter by letter."""
         return together([*map(self.sign, word, repeat(is_bold))]) if word else BLANK
 
     def whole_sign(self, text: str, is_bold: bool) -> Sign:

@@ -14,6 +14,7 @@ def gi_library(name: str, version: str) -> Any:
 
 
 Pango = gi_library("Pango", "1.0")
+Pango.Rectangle = Pango.Rectangle  # kept by its name, which each number of one looks for
 PangoCairo = gi_library("PangoCairo", "1.0")
 UNIT: int = Pango.SCALE
 # how much larger the letters of a font are asked for, so that its capitals are as high as those of

@@ -27,7 +27,8 @@ class Place:
     the right; how its letters are written, and their colour (None: what can be read on the
     drawing); the symbology and settings of a symbol that is made of its text; its module, the
     largest and the least letters in millimetres, the most lines: 0 for what suits; in which of
-    `PRICE_STYLES` a price is written, if not as other texts.
+    `PRICE_STYLES` a price is written, if not as other texts; behind which part's last line it
+    begins, if that has fewer lines than its place.
     """
 
     title: str
@@ -48,6 +49,7 @@ class Place:
     least: float = 0.0
     lines: float = 0.0
     price_style: str = ""
+    follows: str = ""
 
     @property
     def is_symbol(self) -> bool:

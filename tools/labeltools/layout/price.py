@@ -12,14 +12,18 @@ import unicodedata
 from functools import lru_cache
 from typing import NamedTuple, Sequence
 
-from labeltools.layout.frame import PRICE_STYLES
+from labeltools.layout.fitting import Fitter, LEFT, Placed, RIGHT, Style
+from labeltools.layout.layout import PlacedText
 from labeltools.layout.letters import Letters
+from labeltools.layout.needs import HINTING, PRICE_STYLES, rounded_up, styles_from
+from labeltools.paper.box import Box
 
 KEPT = 512  # shapes of prices of which the extent is kept
 ROUNDED_PRICE = 32  # parts of the size of letters to which widths are rounded up
 CENTS = 0.57  # letters of cents
 CURRENCY = 0.33  # letters of a currency
 BETWEEN = 0.07  # white between two parts
+BESIDE_LAST = 0.05  # room at the left of the last part, in sizes of its letters
 LEAST_RAISED = 5.4  # millimetres: the smallest letters with raised cents, then 2.3 mm high
 SHORT = frozenset({"kr", "Kč", "zł", "Ft", "lei", "лв", "лв.", "din", "Fr.", "KM", "ден"})
 AMOUNT = re.compile(
@@ -137,15 +141,97 @@ def width_in_style(style: str, shape: str, letters: Letters) -> float:
 @lru_cache(KEPT)
 def price_widths(shape: str, letters: Letters) -> tuple[float, ...]:
     """Returns the width of prices of a shape in each style, a bit rounded up."""
-    return tuple(rounded_up(width_in_style(style, shape, letters)) for style in PRICE_STYLES)
+    widths = (width_in_style(style, shape, letters) for style in PRICE_STYLES)
+    return tuple(rounded_up(width, ROUNDED_PRICE) for width in widths)
 
 
 @lru_cache(KEPT)
 def price_height(shape: str, letters: Letters) -> float:
     """Returns the height of the ink of prices of a shape, a bit rounded up."""
-    return rounded_up(letters.of(shape).extent(shape, True).height)
+    whole = letters.of(shape).whole(shape, True)
+    return rounded_up(whole.bottom - whole.top, ROUNDED_PRICE)
 
 
-def rounded_up(width: float) -> float:
-    """Returns a width rounded up, so that there are few different ones."""
-    return math.ceil(width * ROUNDED_PRICE) / ROUNDED_PRICE
+class PricePlace(NamedTuple):
+    """Where a part of prices of a shape is in their texts, how it is written, and its box."""
+
+    first: int
+    last: int
+    style: Style
+    box: Box
+
+    def placed(self, price: str, fitter: Fitter) -> Placed:
+        """Returns the part of a price of the shape in its place."""
+        text = price[self.first : self.last]
+        fitted = fitter.found(text, self.style, self.box.width, self.box.height)
+        return Placed(fitted, self.style, self.box)
+
+
+def fitted_price(price: PlacedText, fitter: Fitter) -> list[Placed]:
+    """Returns a price as it fits its box, or its parts where cents are raised: the currency too is
+    one by itself.
+    """
+    place, text, box, style = price
+    shape = shape_of(text, fitter.letters)
+    parts = price_places(shape, place.price_style, style, box, fitter.letters)
+    return [part.placed(text, fitter) for part in parts]
+
+
+@lru_cache(KEPT)
+def price_places(
+    shape: str, wanted: str, style: Style, box: Box, letters: Letters
+) -> Sequence[PricePlace]:
+    """Returns where prices of a shape are in a box: in the first of their styles that has room.
+    Prices with raised cents have several parts: the currency too is one by itself.
+    """
+    chosen = style_with_room(shape, wanted, style.size, box, letters)
+    own = letters_in_style(chosen, shape, letters)
+    if own.family != style.family:
+        style = style._replace(family=own.family)
+    parts = parts_in_style(chosen, shape, letters)
+    if not parts:
+        return [PricePlace(0, len(shape), style, box)]
+    wide = width_of_parts(parts)
+    size = min(style.size, math.floor(box.width / wide / HINTING))
+    style = style._replace(size=size)
+    most = math.ceil(wide * size)
+    start = box.left + (box.width - most) * (style.across + 1) // 2
+    room = box._replace(left=start, width=min(most, box.right - start))
+    return [part_place(part, part.right >= wide, style, room) for part in parts]
+
+
+def base_of_price(shape: str, wanted: str, style: Style, box: Box, letters: Letters) -> int:
+    """Returns the base line of prices of a shape in their box."""
+    parts = price_places(shape, wanted, style, box, letters)
+    bases = [part.style.base for part in parts if part.style.base is not None]
+    if bases:
+        return max(bases)
+    own = letters.of(shape, parts[0].style.family != style.family)
+    ink = own.whole(shape, True)
+    middle = (box.height - own.sign("0", True).top * style.size) / 2
+    lowest = box.height - math.ceil(ink.bottom * style.size)  # so that all ink is in the box
+    return min(round(middle), lowest)
+
+
+def style_with_room(shape: str, wanted: str, size: int, box: Box, letters: Letters) -> str:
+    """Returns the first style of prices that has room in a box, or else the last one."""
+    styles = styles_from(wanted)
+    widths = {style: HINTING * width_in_style(style, shape, letters) * size for style in styles}
+    most = box.width + size / ROUNDED_PRICE
+    return next((style for style in styles if widths[style] <= most), styles[-1])
+
+
+def part_place(part: PricePart, is_last: bool, style: Style, box: Box) -> PricePlace:
+    """Returns the place of a part of prices that fill a box."""
+    size = style.size
+    left = box.left + math.floor(part.left * size)
+    width = math.ceil(HINTING * part.width * size) + 1
+    if is_last:  # its digits may be wider than those of the shape
+        left -= math.floor(BESIDE_LAST * size)
+        width = box.right - left
+    own = style._replace(
+        size=round(part.size * size),
+        across=RIGHT if is_last else LEFT,
+        base=round(part.base * size),
+    )
+    return PricePlace(part.first, part.last, own, box._replace(left=left, width=width))

@@ -2,6 +2,10 @@
 
 from typing import NamedTuple
 
+from labeltools.layout.area import Area
+from labeltools.layout.needs import DIGITS_ROOM
+from labeltools.layout.place import Place
+from labeltools.lines.symbologies import SYMBOLOGIES
 from labeltools.paper.box import Box
 from labeltools.paper.plan import Dots
 
@@ -49,3 +53,29 @@ class SymbolRoom(NamedTuple):
         if self.below:
             boxes["digits"] = bars._replace(top=bars.bottom, height=self.below * module)
         return module, boxes
+
+
+def symbol_boxes(
+    place: Place, area: Area, code: tuple[str, int, int]
+) -> tuple[int, dict[str, Box]] | None:
+    """Returns the module of a symbol of a size in modules, and where its bars and digits are in its
+    place; None where it has no room there. Bars of all symbologies end on one line.
+    """
+    name, width, height = code
+    kind, box = SYMBOLOGIES[name], place.box_in(area)
+    if not kind.nominal:
+        modules = area.dots(kind.module), area.most_of_qr
+        room = SymbolRoom(*box[2:], place.across, 0.5, *modules, 1, box.height, 0)
+        return room.boxes(width, height)
+    largest = round(place.module / area.dot)
+    digits = DIGITS_ROOM * largest
+    high = box.height - digits
+    allowed = area.modules[name]
+    modules = min(allowed, default=1), min(largest, max(allowed, default=0))
+    found = SymbolRoom(box.width, high, place.across, 1.0, *modules, 1, high, 0).boxes(
+        width, height
+    )
+    if found:
+        bars = found[1]["bars"]
+        found[1]["digits"] = bars._replace(top=bars.bottom, height=digits)
+    return found

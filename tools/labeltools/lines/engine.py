@@ -1,7 +1,6 @@
 """Draws lines as labels(1) does, by the proved library liblabels in this process."""
 
-from dataclasses import dataclass
-from typing import Any, Callable, Iterable, Iterator
+from typing import Any, Callable, Iterable, Iterator, NamedTuple
 
 from labeltools.common.messages import Talk
 from labeltools.lines.library import labels_library
@@ -11,8 +10,7 @@ LABELS_FAILED = 3  # the status of a tool that is not in order
 ASKED = 256  # lines between two calls of `go_on`
 
 
-@dataclass(frozen=True, slots=True)
-class Modules:
+class Modules(NamedTuple):
     """The modules of a code with its quiet zones.
 
     `width` and `height` are in modules; `packed` are its rows, each of whole bytes from the left,

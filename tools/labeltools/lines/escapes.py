@@ -4,7 +4,7 @@ import re
 
 ESCAPE = re.compile(rb"\\(?:x([0-9A-Fa-f]{2})|([n\\]))")
 ESCAPED = {b"n": b"\n", b"\\": b"\\"}
-STRANGE = re.compile(rb"[^ -\[\]-~]| (?= *\Z)")  # what is written as escapes: blanks at the end too
+STRANGE = re.compile(rb"[^ -\[\]-~]")  # what is written as escapes, but for blanks at the end
 ESCAPES = {bytes([byte]): b"\\x%02X" % byte for byte in range(256)} | {b"\\": b"\\\\"}
 
 
@@ -15,7 +15,9 @@ def escaped(data: bytes) -> bytes:
     >>> escaped(b"a\\\\b\\nc ")
     b'a\\\\\\\\b\\\\x0Ac\\\\x20'
     """
-    return STRANGE.sub(lambda byte: ESCAPES[byte[0]], data)
+    inner = data.rstrip(b" ")
+    blanks = ESCAPES[b" "] * (len(data) - len(inner))
+    return STRANGE.sub(lambda byte: ESCAPES[byte[0]], inner) + blanks
 
 
 def unescaped(data: bytes) -> bytes:

@@ -20,7 +20,7 @@ from itertools import count
 from typing import Any, Iterable, NamedTuple, Sequence
 
 from labeltools import VERSION
-from labeltools.common.budget import Budget, LINE, LINES
+from labeltools.common.budget import LINE, LINES, too_much
 from labeltools.common.messages import Origin, quoted, Talk, ToolError
 from labeltools.common.text import NOTHING, Text
 from labeltools.lines.engine import drawn, Modules
@@ -34,7 +34,6 @@ MOST_NUMBER = 10**12  # of a row, or a count
 OBJECT = b"#{"
 FIRST = '#{"labels"'  # how the first remark begins
 LAST = '#{"end"'  # and the last one
-LOOKED_AFTER = 1024  # lines, between two looks at the clock
 # the keys of the object before a line, and of all objects: a number, a text, a list of one of
 # these, or `NAMED`, which is a list of texts, or an object of them by their names
 NAMED = {str: str}
@@ -96,10 +95,6 @@ class Record(NamedTuple):
     drawn: Modules | Refused | None = None
     head: str = ""
     body: str = ""
-
-    def with_prices(self, price: str, unit: str, was: str) -> "Record":
-        """Returns the record of a row, which is on no line yet, with its prices."""
-        return Record(self.row, self.title, self.text, price, unit, was, self.copies, self.names)
 
     @property
     def printed_beside(self) -> tuple[str, tuple[str, ...], str, str, str]:
@@ -220,13 +215,10 @@ def read_lines(
     """
     reader = _Reader(name, has_escapes)
     is_own = data.startswith(OBJECT)
-    budget = Budget(name, len(data), LINES)
     longest = LINE.most(len(data))
     for number, ended in zip(numbers or count(1), BytesIO(data)):
-        if number % LOOKED_AFTER == 0:
-            budget.look_at_clock()
         if len(ended) > longest:
-            raise budget.refusal(LINE)
+            raise too_much(name, len(data), LINES, LINE)
         line = ended.removesuffix(b"\n")
         if is_own and line.endswith(b"\r"):
             what = Text(

@@ -11,6 +11,8 @@ from labeltools.common.text import Text
 
 MAJOR = "1"  # the version of the library that these tools know: later ones of it can do no less
 LIBRARY = "LABELS_LIBRARY"  # the variable that names another library
+NAME = f"liblabels.so.{MAJOR}"
+INSTALLED = ("share", "label-tools", "labeltools")  # behind PREFIX
 INSTALL = Text("install python3-liblabels with the tools, or name the library in $LABELS_LIBRARY")
 
 
@@ -20,17 +22,11 @@ def labels_library() -> Any:
     were installed or built with this package, or else those of the system. Raises `ToolError` where
     they are not there, or of another version.
     """
-    package = Path(__file__).resolve().parents[1]
-    sources = package.parents[1]
-    prefix = package.parents[2]  # PREFIX/share/label-tools/labeltools
-    module = first_file(sources / "lib/python", "liblabels*")
-    module = module or first_file(prefix / "lib/python3/dist-packages", "liblabels*")
-    if module is not None and str(module.parent) not in sys.path:
-        sys.path.append(str(module.parent))
-    name = f"liblabels.so.{MAJOR}*"
-    file = first_file(sources / "out/lib", name) or first_file(prefix / "lib", name)
-    if file is not None:
-        os.environ.setdefault(LIBRARY, str(file))
+    module, library = own_files(Path(__file__).resolve().parents[1])
+    if (module / "liblabels").is_dir() and str(module) not in sys.path:
+        sys.path.append(str(module))
+    if library is not None:
+        os.environ.setdefault(LIBRARY, str(library))
     try:
         import liblabels
     except (ImportError, OSError) as error:
@@ -45,6 +41,15 @@ def labels_library() -> Any:
     return liblabels
 
 
-def first_file(folder: Path, pattern: str) -> Path | None:
-    """Returns the first file of a folder that has a name as in a pattern."""
-    return min(folder.glob(pattern), default=None)
+def own_files(package: Path) -> tuple[Path, Path | None]:
+    """Returns the folder of the module and the library, if it is there, that belong to this package
+    as it is installed, or in its sources: never what lies beside the sources, where others may
+    write.
+    """
+    prefix = package.parents[2]
+    if package.parts[-3:] == INSTALLED:
+        library = prefix / "lib" / NAME
+        return prefix / "lib/python3/dist-packages", library if library.exists() else None
+    sources = package.parents[1]
+    built = sorted((sources / "out/lib").glob(f"{NAME}.*"))  # of its whole version
+    return sources / "lib/python", built[0] if built else None

@@ -1,13 +1,14 @@
-"""Why labels(1) and its library refuse a line, as texts of which there are translations.
-
-Their own messages stay English: a program reads them.
+"""Why labels(1) and its library refuse a line, as texts of which there are translations: their own
+messages stay English, since a program reads them. And of which codes scanners guess the encoding.
 """
 
 import re
 from enum import IntEnum
-from typing import NamedTuple
+from typing import Iterable, NamedTuple
 
-from labeltools.common.text import NOTHING, Text
+from labeltools.common.messages import Problem, quoted
+from labeltools.common.text import Text
+from labeltools.lines.symbologies import QR
 
 
 class LineFault(IntEnum):
@@ -27,13 +28,14 @@ class LineFault(IntEnum):
 
 
 class Refused(NamedTuple):
-    """Why a line has no code, and what to do; its fault where the library has a number for it."""
+    """Why a line has no code; its fault where the library has a number for it."""
 
-    what: Text
-    hint: Text = NOTHING
+    problem: Problem
     fault: int = 0
 
 
+# with a letter beyond ASCII
+WORD = re.compile(r"(?<![!-~])[!-~]*[^\0-\x7f][^\s]*")
 SETTINGS = Text("labels(1) lists the settings and their values")
 # what is said of each fault, and what to do; what differs in it is a number, or a level of QR
 REASONS: dict[int, dict[Text, Text]] = {
@@ -74,11 +76,29 @@ def refused_line(number: int, message: str) -> Refused:
     """Returns why a line is refused, by the number that the library has for it, and what it says.
 
     >>> found = refused_line(LineFault.WRONG_CHECK_DIGIT, "check digit is 2, should be 1")
-    >>> found.what.template, found.hint
+    >>> found.problem.what.template, found.problem.hint
     ('check digit is {}, should be {}', 'compare the number with the article')
     """
     for reason, hint in REASONS.get(number, {}).items():
         pattern = re.escape(reason.template).replace(r"\{\}", "([0-9]+|[LMQH])")
         if found := re.fullmatch(pattern, message):
-            return Refused(reason.with_fields(*found.groups()), hint, number)
-    return Refused(Text("{}", message), fault=number)
+            return Refused(Problem(reason.with_fields(*found.groups()), hint), number)
+    return Refused(Problem(Text("{}", message)), number)
+
+
+def has_accents(symbology: str, data: str | bytes) -> bool:
+    """Returns whether some scanners may show the data of a code wrongly: a QR code with letters
+    beyond ASCII does not name their encoding.
+    """
+    return symbology == QR.name and not data.isascii()
+
+
+def said_of_accents(where: Text, data: Iterable[str]) -> Text:
+    """Returns what is said of codes with such letters, which are there.
+
+    >>> said_of_accents(Text("rows 2, 5"), ["im Büro"])
+    'rows 2, 5: some scanners show "Büro" wrongly; a QR code without accents is safe'
+    """
+    found = WORD.search(next(iter(data)))
+    word = quoted(found[0] if found else "")
+    return Text("{}: some scanners show {} wrongly; a QR code without accents is safe", where, word)

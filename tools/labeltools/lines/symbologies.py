@@ -5,7 +5,7 @@ Modules are counted from the left edge of the picture that labels(1) draws, its 
 
 from dataclasses import dataclass
 from functools import cached_property
-from typing import Any, NamedTuple
+from typing import NamedTuple
 
 from labeltools.lines.library import labels_library
 
@@ -54,17 +54,12 @@ class Symbology:
     @cached_property
     def guards(self) -> tuple[Span, ...]:
         """The modules whose bars are longer, as liblabels tells."""
-        return tuple(Span(*span) for span in layout_of(self).guards)
+        return tuple(Span(*span) for span in labels_library().layout(self.name).guards)
 
     @cached_property
     def places(self) -> tuple[Digits, ...]:
         """The digits below the bars, as liblabels tells."""
-        return tuple(Digits(*digits) for digits in layout_of(self).digits)
-
-
-def layout_of(symbology: Symbology) -> Any:
-    """Returns the layout that liblabels has for a symbology; raises `ToolError` without it."""
-    return labels_library().layout(symbology.name)
+        return tuple(Digits(*digits) for digits in labels_library().layout(self.name).digits)
 
 
 # ISO/IEC 15420: the smallest module is 80 % of 0.33 mm, the height that at 100 %

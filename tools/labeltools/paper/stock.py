@@ -10,16 +10,18 @@ from pathlib import Path
 from typing import Iterator
 from xml.etree.ElementTree import Element, parse
 
-from labeltools.common.messages import BAD_ARGUMENTS, ToolError
-from labeltools.common.text import Remedy, Text
+from labeltools.common.messages import BAD_ARGUMENTS, Remedy, ToolError
+from labeltools.common.text import Text
 
+
+GRID = tuple(map(Remedy, ("grid", "cell")))
 Size = tuple[float, float]
 PartName = tuple[str, str]  # the maker and the name of a part
 
 TEMPLATES = Path("/usr/share/libglabels-3.0/templates")
 # millimetres of each unit; a length without one is in points
 UNITS = {"mm": 1.0, "cm": 10.0, "in": 25.4, "pt": 25.4 / 72, "pc": 25.4 / 6, "": 25.4 / 72}
-LENGTH = re.compile(r"\s*(-?[0-9.]+(?:[eE][+-]?[0-9]+)?)\s*(mm|cm|in|pt|pc|)\s*")
+LENGTH = re.compile(r"\s*(-?[0-9.]+(?:[eE][+-]?[0-9]+)?)(?:\s*(mm|cm|in|pt|pc))?\s*")
 MOST_BEYOND = 1.0  # by which cells may leave their page: makers round sizes
 MOST_CELLS = 10_000  # on one page
 ANOTHER_SHEET = Text("choose another sheet")
@@ -77,8 +79,8 @@ def grid_sheet(grid: Grid) -> Sheet:
         message = Text(
             "a page of {} by {} cells: the maximum is {:,}", grid.columns, grid.rows, MOST_CELLS
         )
-        hint = Text("give fewer {} and {}", Remedy("columns"), Remedy("rows"))
-        raise ToolError(message, hint, BAD_ARGUMENTS)
+        hint = Text("take fewer cells")
+        raise ToolError(message, hint, BAD_ARGUMENTS, (Remedy("grid"),))
     across = grid.cell[0] + grid.gap[0]
     down = grid.cell[1] + grid.gap[1]
     middle = (
@@ -107,13 +109,12 @@ def stock_sheet(name: str) -> Sheet:
     if len(found) == 1:
         return glabels_sheet(found[0])
     reason = Text("no such sheet")
-    hint = Text("{} lists the sheets", Remedy("list-stock", "WORD"))
-    hint = hint.in_window(Text("type a part of its name, and choose it from the list"))
+    hint = Text("look for a part of its name in the list")
     if found:
         reason = Text("several makers have it")
         hint = Text("name one of {}", ", ".join(map(" ".join, found)))
-    what = Text("{}: {}", Remedy("stock", name), reason)
-    raise ToolError(what.in_window(Text("{}: {}", name, reason)), hint, BAD_ARGUMENTS)
+    listed = () if found else (Remedy("list-stock", "WORD"),)
+    raise ToolError(Text("{}: {}", name, reason), hint, BAD_ARGUMENTS, listed)
 
 
 def parts_named(name: str) -> list[PartName]:
@@ -170,10 +171,9 @@ def glabels_parts() -> dict[PartName, Element]:
     trees = [parse(path) for path in TEMPLATES.glob("*.xml")]
     found = [part for tree in trees for part in tree.iterfind("{*}Template")]
     if not found:
-        grid = map(Remedy, ("columns", "rows", "cell"))
-        hint = Text("apt-get install glabels-data; else give {}, {} and {}", *grid)
-        hint = hint.in_window(Text("install the package glabels-data"))
-        raise ToolError(Text("names of sheets need glabels-data, which is not installed"), hint)
+        what = Text("names of sheets need glabels-data, which is not installed")
+        hint = Text("install that package, or give the grid of the sheet")
+        raise ToolError(what, hint, remedies=GRID)
     named = {(part.get("brand", ""), part.get("part", "")): part for part in found}
     return {key: named[key] for key in sorted(named)}
 
@@ -209,7 +209,7 @@ def length_of(text: str | None) -> float:
     [9.0, 25.4, 25.4, 25.4, 25.4, 25.4]
     """
     match = LENGTH.fullmatch(text or "0")
-    return float(match[1]) * UNITS[match[2]] if match else 0.0
+    return float(match[1]) * UNITS[match[2] or ""] if match else 0.0
 
 
 @cache
@@ -217,25 +217,19 @@ def glabels_sheet(key: PartName) -> Sheet:
     """Returns the sheet of a part; raises `ToolError` where no label can be laid out for it."""
     part = glabels_parts()[key]
     name = " ".join(key)
-    head = Text("{}", Remedy("stock", name)).in_window(Text("{}", name))
     if same := part.get("equiv"):
         return glabels_sheet((key[0], same))
     cell = next(child for child in part if "Label-" in child.tag)
     if not cell.tag.endswith("Label-rectangle"):
         kind = cell.tag.rpartition("Label-")[2]
-        what = Text("{}: its labels are not rectangles ({})", head, kind)
+        what = Text("{}: its labels are not rectangles ({})", name, kind)
         raise ToolError(what, ANOTHER_SHEET, BAD_ARGUMENTS)
     places = sorted(places_of(cell), key=lambda corner: corner[::-1])
     page = papers().get(part.get("size", "")) or lengths_of(part)
     sheet = Sheet(page, lengths_of(cell), tuple(places))
     if not places or not min(sheet.cell) or sheet.beyond() > MOST_BEYOND:
-        hint = Text("give {}, {}, {}", *map(Remedy, ("columns", "rows", "cell")))
-        hint = hint.in_window(ANOTHER_SHEET)
-        raise ToolError(
-            Text("{}: by the list of glabels its labels are larger than its page", head),
-            hint,
-            BAD_ARGUMENTS,
-        )
+        what = Text("{}: by the list of glabels its labels are larger than its page", name)
+        raise ToolError(what, ANOTHER_SHEET, BAD_ARGUMENTS, GRID)
     return sheet
 
 

@@ -4,23 +4,34 @@ from dataclasses import dataclass, replace
 from functools import partial
 from itertools import groupby
 from operator import attrgetter
-from typing import Any, Iterable, Iterator, Mapping, Sequence
+from typing import Any, Container, Iterable, Iterator, Mapping, Sequence
 
 from labeltools.checking.compare import Comparison, Document
+from labeltools.common.apart import apart, Input
+from labeltools.common.budget import LINES
 from labeltools.common.files import temporary
-from labeltools.common.messages import Talk, ToolError
+from labeltools.common.messages import (
+    fault_of,
+    Problem,
+    Remedy,
+    Silence,
+    Talk,
+    ToolError,
+    UNEXPECTED,
+)
 from labeltools.common.report import LeftOut, places_text
-from labeltools.common.text import NOTHING, Remedy, Text
+from labeltools.common.text import Text
 from labeltools.designs.design import Design, Setting
 from labeltools.drawing.dots import drawn_page, pbm, png
 from labeltools.drawing.escpos import escpos
-from labeltools.drawing.forms import ESCPOS, PBM, PDF, PNG, SVG, ZPL
+from labeltools.drawing.forms import ESCPOS, PBM, PDF, PNG, ZPL
 from labeltools.drawing.pdf import drawn_file, Paper
 from labeltools.drawing.pen import Pen
 from labeltools.drawing.zpl import zpl
 from labeltools.layout.layout import as_printed, LaidOut, LaidOutFile, Page
 from labeltools.layout.letters import DATA_FONT, Letters
 from labeltools.layout.medium import Medium
+from labeltools.lines.engine import LABELS_FAILED
 from labeltools.lines.file import drawn_lines, LinesFile, Record
 from labeltools.lines.reasons import LineFault, Refused
 from labeltools.paper.picture import Picture
@@ -57,6 +68,11 @@ class Prepared:
         """The labels that can be printed, once each."""
         return self.laid_out.labels
 
+    def without(self, wrong: Container[int]) -> "Prepared":
+        """Returns these without some that go out, by the numbers of their lines."""
+        right = [item for item in self.prints if item.record.number not in wrong]
+        return replace(self, prints=right)
+
     def press(self, talk: Talk) -> "Press":
         """Returns what writes them."""
         return Press(self.job, self.laid_out, self.pens, talk)
@@ -71,10 +87,11 @@ def labels_of(job: Job, name: str, data: bytes, talk: Talk) -> Prepared:
     """
     if data.startswith(WORKBOOK):
         raise ToolError(Text("{} is a workbook", name), TABLE_FIRST)
-    lines = drawn_lines(data, name, job.options.is_escaped, talk)
+    read = partial(drawn_lines, data, name, job.options.is_escaped)
+    lines = apart(Input(name, len(data), LINES), read, talk)
     *others, last = lines.records or (None,)
     if last is not None and not data.endswith(b"\n"):
-        last = last._replace(drawn=Refused(CUT_OFF))
+        last = last._replace(drawn=Refused(Problem(CUT_OFF)))
         lines = replace(lines, records=(*others, last))
     faults = {record.refused.fault if record.refused else None for record in lines.records}
     if faults == {LineFault.BAD_SYMBOLOGY}:
@@ -102,14 +119,15 @@ def prepared(
         for record in lines.records
         if not record.refused and record.copies
     ]
-    reasons = {record.number: record.refused.what for record in lines.records if record.refused}
+    reasons = {record.number: record.refused.problem for record in lines.records if record.refused}
     on = Setting(job.area, letters, options.note, lines.empty)
-    reasons.update(without_letters(labels, job.design, on))
-    if options.is_each_once:
+    lacking = without_letters(labels, job.design, on)
+    reasons.update({number: Problem(why) for number, why in lacking.items()})
+    if options.journal is not None:
         reasons.update(doubles(lines, reasons))
     if reasons:
         labels = [label for label in labels if label.number not in reasons]
-    laid_out = job.design.lay_out(labels, on, talk)
+    laid_out = laid_out_labels(job.design, labels, on, talk)
     reasons.update(laid_out.left_out)
     only = options.only
     wanted = [item for item in laid_out.labels if only.has_label(item.record)]
@@ -123,6 +141,38 @@ def prepared(
     return Prepared(job, found, prints, left_out, tuple(remarks), tables, pens, lines.records)
 
 
+def laid_out_labels(
+    design: Design, labels: Sequence[Record], on: Setting, talk: Talk
+) -> LaidOutFile:
+    """Returns labels as they are laid out, and why others are left out: also those that raise what
+    nobody foresaw, which stop no other ones.
+    """
+    try:
+        return design.lay_out(labels, on, talk)
+    except (ToolError, OSError, MemoryError):
+        raise
+    except Exception:
+        faults = faults_of(design, labels, on)
+        if not faults:
+            raise
+    right = [label for label in labels if label.number not in faults]
+    found = design.lay_out(right, on, talk)
+    return replace(found, left_out={**found.left_out, **faults})
+
+
+def faults_of(design: Design, labels: Sequence[Record], on: Setting) -> dict[int, Problem]:
+    """Returns why labels cannot be laid out even by themselves, by the numbers of their lines."""
+    found = {}
+    for label in labels:
+        try:
+            design.lay_out([label], on, Silence())
+        except (ToolError, OSError, MemoryError):
+            raise
+        except Exception as error:
+            found[label.number] = Problem(fault_of(error))
+    return found
+
+
 def without_letters(labels: Sequence[Record], design: Design, on: Setting) -> Mapping[int, Text]:
     """Returns why labels are left out that have letters which no font has, where a design prints
     them.
@@ -131,20 +181,20 @@ def without_letters(labels: Sequence[Record], design: Design, on: Setting) -> Ma
     return on.letters.missing(design.printed(labels, on)) if found else found
 
 
-def doubles(lines: LinesFile, refused: Mapping[int, Text]) -> Mapping[int, Text]:
+def doubles(lines: LinesFile, refused: Mapping[int, Problem]) -> Mapping[int, Problem]:
     """Returns why lines are left out that have the code of an earlier one, or copies."""
     first: dict[tuple[str, bytes], Record] = {}
-    found: dict[int, Text] = {}
+    found: dict[int, Problem] = {}
     for record in lines.records:
         if record.number in refused or not record.copies:
             continue
         if record.copies > 1:
-            found[record.number] = Text("has copies, and each code is printed once")
+            found[record.number] = Problem(Text("has copies, and each code is printed once"))
             continue
         earlier = first.setdefault(record.key, record)
         if earlier is not record:
             named = places_text([earlier.origin], earlier.table != record.table)
-            found[record.number] = Text("has the code of {}", named)
+            found[record.number] = Problem(Text("has the code of {}", named))
     return found
 
 
@@ -159,21 +209,20 @@ def without_line(lines: LinesFile, only: Selection) -> Iterable[LeftOut]:
     if count > len(named):
         reason = Text("{}, and {} rows more", reason, count - len(named))
     for place in named:
-        yield LeftOut(place, "", reason)
+        yield LeftOut(place, "", Problem(reason))
     if count and not named:
-        yield LeftOut(None, "", Text("{}: {}", Text("some rows"), reason))
+        yield LeftOut(None, "", Problem(Text("{}: {}", Text("some rows"), reason)))
 
 
 def refused_labels(
-    lines: LinesFile, reasons: Mapping[int, Text], only: Selection
+    lines: LinesFile, reasons: Mapping[int, Problem], only: Selection
 ) -> Iterable[LeftOut]:
     """Yields the lines that are not printed, with their reasons."""
     for record in lines.records:
-        reason = reasons.get(record.number)
-        if reason is not None and only.has_label(record):
+        problem = reasons.get(record.number)
+        if problem is not None and only.has_label(record):
             data = record.data.decode("utf-8", "backslashreplace")
-            hint = record.refused.hint if record.refused else NOTHING
-            yield LeftOut(record.origin, data, reason, hint)
+            yield LeftOut(record.origin, data, problem)
 
 
 def with_copies(items: Sequence[LaidOut], job: Job) -> Sequence[LaidOut]:
@@ -184,8 +233,7 @@ def with_copies(items: Sequence[LaidOut], job: Job) -> Sequence[LaidOut]:
     count = sum(copies)
     if count > MOST_LABELS:
         what = Text("{:,} labels with their copies: the maximum is {:,}", count, MOST_LABELS)
-        hint = Text("print some of them with {}", Remedy("only"))
-        raise ToolError(what, hint.in_window(Text("print some of them")))
+        raise ToolError(what, Text("print some of them"), remedies=(Remedy("only"),))
     every = [item for item, often in zip(items, copies) for _ in range(often)]
     return every[job.options.after :]
 
@@ -193,15 +241,12 @@ def with_copies(items: Sequence[LaidOut], job: Job) -> Sequence[LaidOut]:
 def check_count(job: Job, prints: Sequence[LaidOut]) -> None:
     """Raises `ToolError` if there are no labels, or more than one file takes."""
     if not prints:
-        hint = Text("the messages above say why, or all copies are 0").in_window(NOTHING)
+        hint = Text("all are skipped, or have 0 copies")
         raise ToolError(Text("there is no label to print"), hint)
-    if job.form.is_one_page and not job.is_each and job.pages_of(len(prints)) > 1:
-        what = Text("{} writes only one page", Remedy("to", job.form.name))
-        what = what.in_window(Text("{} has only one page", job.form.name))
-        hint = Text(
-            "print fewer labels with {}, or a file of each with {}", Remedy("only"), Remedy("each")
-        )
-        raise ToolError(what, hint.in_window(Text("print fewer labels, or choose PDF")))
+    if job.form == PNG and not job.is_each and job.pages_of(len(prints)) > 1:
+        what = Text("{} has only one page", job.form.name)
+        hint = Text("print fewer labels, or choose PDF")
+        raise ToolError(what, hint, remedies=tuple(map(Remedy, ("only", "to", "each"))))
 
 
 @dataclass(frozen=True, slots=True)
@@ -217,6 +262,17 @@ class Batch:
     def label_count(self) -> int:
         """How many labels it has."""
         return len(self.items)
+
+
+class WrongLabels(ToolError):
+    """Labels that would be drawn wrongly, or not at all, which is a fault of ours: each with why,
+    by the number of its line. They stop no other ones.
+    """
+
+    def __init__(self, errors: Mapping[int, ToolError]) -> None:
+        first = next(iter(errors.values()))
+        super().__init__(first.what, first.hint, first.status)
+        self.errors = errors
 
 
 class Press:
@@ -256,7 +312,7 @@ class Press:
         have the same dots, a label of ESC/POS, each page of another form, or all pages of a PDF.
         """
         form = self.job.form
-        if form == ZPL and not self.job.is_each:
+        if self.counts_labels:
             yield from (self.batch_of_same([*same]) for _, same in groupby(prints, DOTS_OF))
             return
         pages = [self.page(number, prints) for number in range(self.job.pages_of(len(prints)))]
@@ -265,19 +321,73 @@ class Press:
         else:
             yield from (Batch([page], [item for item, _ in page]) for page in pages)
 
+    @property
+    def counts_labels(self) -> bool:
+        """Whether labels that have the same dots go out as one, with their count."""
+        return self.job.form == ZPL and not self.job.is_each
+
     def batch_of_same(self, items: Sequence[LaidOut]) -> Batch:
         """Returns labels of a roll that have the same dots."""
-        return Batch([[(items[0], self.job.plan.places[0])]], items)
+        return Batch([[(items[0], self.job.plan.places[0])]] if items else [], items)
+
+    def without(self, part: Batch, wrong: Container[int]) -> Batch:
+        """Returns a part without some labels, by the numbers of their lines: on a page their places
+        stay empty.
+        """
+        right = [item for item in part.items if item.record.number not in wrong]
+        if self.counts_labels:
+            return self.batch_of_same(right)
+        pages = (
+            [(item, place) for item, place in page if item.record.number not in wrong]
+            for page in part.pages
+        )
+        return Batch([page for page in pages if page], right)
 
     def document(self, part: Batch, is_first: bool = True) -> bytes:
         """Returns a part in the form of the job, which is whole by itself; `is_first` is whether it
-        begins a job. Raises `ToolError` if it has not the codes of its labels.
+        begins a job. Raises `WrongLabels` if it has not the codes of some labels.
+        """
+        try:
+            return self.compared(part, is_first)
+        except (OSError, MemoryError):
+            raise
+        except Exception as error:
+            if isinstance(error, ToolError) and error.status != LABELS_FAILED:
+                raise
+            wrong = self.wrong_labels(part, error)
+            if not wrong:
+                raise
+            raise WrongLabels(wrong) from error
+
+    def wrong_labels(self, part: Batch, error: Exception) -> dict[int, ToolError]:
+        """Returns the labels of a part that raise an error even by themselves, in their places,
+        with that error, by the numbers of their lines.
+        """
+        placed = [pair for page in part.pages for pair in page]
+        if self.counts_labels:
+            placed = [(item, self.job.plan.places[0]) for item in part.items]
+        labels = {item.record.number: (item, place) for item, place in placed}
+        if len(labels) == 1:
+            return {number: wrong_label(item, error) for number, (item, _) in labels.items()}
+        found = {}
+        for number, (item, place) in labels.items():
+            try:
+                self.compared(Batch([[(item, place)]], [item]), True)
+            except (OSError, MemoryError):
+                raise
+            except Exception as own:
+                found[number] = wrong_label(item, own)
+        return found
+
+    def compared(self, part: Batch, is_first: bool) -> bytes:
+        """Returns a part in the form of the job, once it is compared with its labels; raises
+        `ToolError` if it differs.
         """
         form = self.job.form
         if form.is_drawn:
             paper = Paper(self.job.plan.sheet.page, self.job.plan.dpi, self.turn)
             pages = partial(self.pages_of_batch, part)
-            with temporary(), drawn_file(paper, self.pens, pages, form == SVG) as file:
+            with temporary(), drawn_file(paper, self.pens, pages) as file:
                 document = Document(file.read(), part.pages)
         else:
             picture = drawn_page(self.job.plan.page, self.pen, part.pages[0], self.turn)
@@ -308,11 +418,19 @@ class Press:
         return pbm(picture)
 
 
+def wrong_label(item: LaidOut, error: Exception) -> ToolError:
+    """Returns why a label is not drawn by an error, which names it if it is one of ours."""
+    if isinstance(error, ToolError):
+        return error
+    what = Text("{}: {}", item.record.origin.text, fault_of(error))
+    return ToolError(what, status=UNEXPECTED)
+
+
 def pens_of(job: Job, letters: Letters) -> list[Pen]:
     """Returns what draws a form: for PDF also pens that draw letters as shapes, for fonts that
     Cairo cannot embed.
     """
-    medium = Medium(job.plan.dpi, not job.form.is_drawn, job.form == SVG)
+    medium = Medium(job.plan.dpi, not job.form.is_drawn)
     outlines = (
         frozenset[str](),
         frozenset({DATA_FONT}),

@@ -3,13 +3,13 @@
 from collections import Counter
 from typing import Iterator, Sequence
 
-from labeltools.common.messages import quoted
+from labeltools.common.messages import Problem, quoted
 from labeltools.common.report import LeftOut, listed, places_text
 from labeltools.common.text import Text
 from labeltools.drawing.pen import Pen
 from labeltools.layout.area import Area
-from labeltools.layout.layout import LaidOut, LaidOutFile
-from labeltools.lines.accents import has_accents, said_of_accents
+from labeltools.layout.layout import LaidOut, LaidOutFile, PlacedSymbol
+from labeltools.lines.reasons import has_accents, said_of_accents
 from labeltools.printing.selection import Selection
 
 DENSE = 0.33  # millimetres: modules of QR below it are reported
@@ -36,13 +36,13 @@ def remarks_on(
         if some:
             places = [item.record.origin for item in some]
             text = Text("{}: {}", places_text(places, has_tables), what)
-            yield LeftOut(places[0], "", text)
+            yield LeftOut(places[0], "", Problem(text))
     accents = [item for item in items if is_of_accents(item)]
     if accents:
         places = [item.record.origin for item in accents]
         data = (item.record.data.decode("utf-8", "replace") for item in accents)
         text = said_of_accents(places_text(places, has_tables), data)
-        yield LeftOut(places[0], "", text)
+        yield LeftOut(places[0], "", Problem(text))
 
 
 def several(items: Sequence[LaidOut], only: Selection) -> Iterator[LeftOut]:
@@ -53,19 +53,25 @@ def several(items: Sequence[LaidOut], only: Selection) -> Iterator[LeftOut]:
     if rows:
         first = next(place for place in places if place.number == rows[0])
         reason = Text("{}: in several tables, and printed of each", listed(rows))
-        yield LeftOut(first, "", reason)
+        yield LeftOut(first, "", Problem(reason))
 
 
 def found_on(
     items: Sequence[LaidOut], area: Area, pen: Pen
 ) -> Iterator[tuple[Sequence[LaidOut], Text]]:
     """Yields labels, which may be none, and what is to be said of them."""
+    low = []
+    dense = []
+    for item in items:
+        symbol = item.finest
+        if has_low_bars(symbol):
+            low.append(item)
+        if is_dense(symbol, area.dot):
+            dense.append(item)
     if area.wishes.purpose.is_for_tills:
-        low = [item for item in items if has_low_bars(item)]
         bars = min((item.finest.boxes["bars"].height for item in low), default=0) * area.dot
         hint = Text("hand scanners read them, a till that reads in all directions may not")
         yield low, Text("bars of {:.1f} mm: {}", bars, hint)
-    dense = [item for item in items if is_dense(item, area.dot)]
     finest = min((item.finest.module for item in dense), default=0) * area.dot
     hint = Text("some phones may not read them: shorten the data, or take a larger label")
     yield dense, Text("QR with modules of {:.2f} mm: {}", finest, hint)
@@ -97,14 +103,12 @@ def is_of_accents(item: LaidOut) -> bool:
     return not record.row and has_accents(record.symbology, record.data)
 
 
-def has_low_bars(item: LaidOut) -> bool:
-    """Returns whether a label is for a till and its bars are lower than half their width."""
-    symbol = item.finest
+def has_low_bars(symbol: PlacedSymbol) -> bool:
+    """Returns whether a symbol is for a till and its bars are lower than half their width."""
     wide = (symbol.modules.width - sum(symbol.symbology.quiet)) * symbol.module
     return symbol.symbology.is_number and symbol.boxes["bars"].height < LOW_PART * wide * ALMOST
 
 
-def is_dense(item: LaidOut, dot: float) -> bool:
-    """Returns whether a label has a QR symbol of small modules."""
-    symbol = item.finest
+def is_dense(symbol: PlacedSymbol, dot: float) -> bool:
+    """Returns whether a symbol is QR of small modules."""
     return not symbol.symbology.nominal and symbol.module * dot < DENSE

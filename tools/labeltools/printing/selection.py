@@ -7,16 +7,9 @@ from dataclasses import dataclass
 from itertools import filterfalse
 from typing import Iterable, Iterator
 
-from labeltools.common.messages import Origin, ToolError
+from labeltools.common.messages import Origin, Problem, Remedy, ToolError
 from labeltools.common.process import read_file
-from labeltools.common.report import (
-    few,
-    is_in_ranges,
-    LeftOut,
-    Ranges,
-    ranges_of,
-    ranges_text,
-)
+from labeltools.common.report import few, is_in_ranges, LeftOut, Ranges, ranges_of, ranges_text
 from labeltools.common.text import Text
 from labeltools.lines.file import Record
 
@@ -56,12 +49,12 @@ class Selection:
                 codes.update(names_of_code(record))
         if lacking := ranges_of(self.lacking(rows)):
             named = ranges_text(lacking)
-            text = Text("--only names {}, which the input does not have", named)
-            yield LeftOut(None, "", text)
+            text = Text("the input does not have {}", named)
+            yield LeftOut(None, "", Problem(text, remedies=(Remedy("only"),)))
         if unknown := [code.decode("utf-8", "backslashreplace") for code in self.codes - codes]:
             some = few(sorted(unknown))
-            text = Text("--only-code names {}, which the input does not have", some)
-            yield LeftOut(None, "", text)
+            text = Text("the input does not have {}", some)
+            yield LeftOut(None, "", Problem(text, remedies=(Remedy("only-code"),)))
 
     def lacking(self, rows: set[int]) -> Iterator[int]:
         """Yields the rows that are asked for and not among some, each once; of a range without an

@@ -1,5 +1,5 @@
-"""What printers in the network answer when they are asked how they are: those of ZPL (`~HS`,
-`~HQES`) and of ESC/POS (`DLE EOT`).
+"""What printers in the network answer when they are asked how they are: those of ZPL (`~HS`) and
+of ESC/POS (`DLE EOT`).
 
 Many do not answer, and some answer something else: of these nothing is known.
 """
@@ -7,39 +7,31 @@ Many do not answer, and some answer something else: of these nothing is known.
 import re
 from collections.abc import Callable, Mapping, Sequence
 from dataclasses import dataclass
-from typing import NamedTuple
 
+from labeltools.common.messages import Problem
 from labeltools.common.text import Text
 from labeltools.drawing.forms import ESCPOS, ZPL
 
 
-class Trouble(NamedTuple):
-    """What keeps a printer from printing, and what to do about it."""
-
-    what: Text
-    cure: Text
-
-
-NO_PAPER = Trouble(Text("it has no paper"), Text("put some in: it goes on by itself"))
-NO_RIBBON = Trouble(Text("it has no ribbon"), Text("put one in"))
-OPEN_HEAD = Trouble(Text("its head is open"), Text("close it"))
-OPEN_COVER = Trouble(Text("a cover is open"), Text("close it"))
-PAUSED = Trouble(Text("it is paused"), Text("press its pause button"))
-CUTTER = Trouble(Text("its cutter is stuck"), Text("free it"))
-TOO_HOT = Trouble(Text("its head is too hot"), Text("let it cool: it goes on by itself"))
-TOO_COLD = Trouble(Text("its head is too cold"), Text("let it warm up: it goes on by itself"))
-WORN = Trouble(Text("its head is worn out"), Text("let a new one be put in"))
-FAULT = Trouble(Text("it reports an error"), Text("look at its display"))
+NO_PAPER = Problem(Text("it has no paper"), Text("put some in: it goes on by itself"))
+NO_RIBBON = Problem(Text("it has no ribbon"), Text("put one in"))
+OPEN_HEAD = Problem(Text("its head is open"), Text("close it"))
+OPEN_COVER = Problem(Text("a cover is open"), Text("close it"))
+PAUSED = Problem(Text("it is paused"), Text("press its pause button"))
+TOO_HOT = Problem(Text("its head is too hot"), Text("let it cool: it goes on by itself"))
+TOO_COLD = Problem(Text("its head is too cold"), Text("let it warm up: it goes on by itself"))
+FAULT = Problem(Text("it reports an error"), Text("look at its display"))
 
 
 @dataclass(frozen=True)
 class Reply:
-    """What a printer says: what keeps it from printing, and how many labels it still has (None: it
-    does not say).
+    """What a printer says: what keeps it from printing, how many labels it still has (None: it does
+    not say), and its dots a millimetre (0: it does not say).
     """
 
-    troubles: Sequence[Trouble] = ()
+    troubles: Sequence[Problem] = ()
     left: int | None = None
+    dots: int = 0
 
     @property
     def is_empty(self) -> bool:
@@ -60,7 +52,7 @@ STATUS = re.compile(rb"\x02([0-9,]+)\x03\s*\x02([0-9,]+)\x03\s*\x02([0-9,]+)\x03
 LEAST_FIELDS = 12, 11, 2
 MOST_DIGITS = 9  # of a count
 # the fields that are 1 where something is wrong, by their line and place
-FLAGS: Mapping[tuple[int, int], Trouble] = {
+FLAGS: Mapping[tuple[int, int], Problem] = {
     (0, 1): NO_PAPER,
     (1, 2): OPEN_HEAD,
     (1, 3): NO_RIBBON,
@@ -69,21 +61,13 @@ FLAGS: Mapping[tuple[int, int], Trouble] = {
     (0, 11): TOO_HOT,
 }
 LEFT = (0, 4), (1, 8)  # labels that wait, and those of the count of the label that is printed
-# `~HQES` answers the errors as bits
-ERRORS = re.compile(rb"ERRORS:\s+[01]\s+[0-9A-F]{8}\s+([0-9A-F]{8})")
-BITS: Mapping[int, Trouble] = {
-    0x01: NO_PAPER,
-    0x02: NO_RIBBON,
-    0x04: OPEN_HEAD,
-    0x08: CUTTER,
-    0x10: TOO_HOT,
-    0x40: WORN,
-}
+# `~HI` answers its model, its version, and its dots a millimetre
+HOST = re.compile(rb"\x02[^,\x03]*,[^,\x03]*,([0-9]{1,2}),[^\x03]*\x03")
 # ESC/POS: `DLE EOT n` answers a byte whose bits of FIXED are those of SET
 DLE_EOT = b"\x10\x04"
 ASKED = b"\x02\x04"  # why it does not print, and its paper
 FIXED, SET = 0x93, 0x12
-CAUSES: Sequence[Mapping[int, Trouble]] = (
+CAUSES: Sequence[Mapping[int, Problem]] = (
     {0x04: OPEN_COVER, 0x20: NO_PAPER, 0x40: FAULT},
     {0x60: NO_PAPER},
 )
@@ -107,18 +91,14 @@ def read_status(heard: bytes) -> Reply | None:
     return Reply(troubles, sum(int(lines[line][field] or 0) for line, field in LEFT))
 
 
-def read_errors(heard: bytes) -> Reply | None:
-    """Reads what ~HQES answers.
+def read_host(heard: bytes) -> Reply | None:
+    """Reads what ~HI answers.
 
-    >>> heard = b"\\x02 PRINTER STATUS\\r\\n ERRORS: 1 00000000 00000008\\r\\n WARNINGS: 0 .. \\x03"
-    >>> [str(trouble.what) for trouble in read_errors(heard).troubles]
-    ['its cutter is stuck']
+    >>> read_host(b"\\x02GK420d-200dpi,V61.17.16Z,8,2104KB\\x03\\r\\n").dots
+    8
     """
-    found = ERRORS.search(heard)
-    if not found:
-        return None
-    bits = int(found[1], 16)
-    return Reply([told for bit, told in BITS.items() if bits & bit])
+    found = HOST.search(heard)
+    return Reply(dots=int(found[1])) if found else None
 
 
 def read_causes(heard: bytes) -> Reply | None:
@@ -135,7 +115,7 @@ def read_causes(heard: bytes) -> Reply | None:
     return Reply([*dict.fromkeys(found)])
 
 
-MORE = Query(b"~HQES", read_errors)
+DOTS = Query(b"~HI", read_host)
 QUERIES: Mapping[str, Query] = {
     ZPL.name: Query(b"~HS", read_status),
     ESCPOS.name: Query(b"".join(DLE_EOT + bytes([question]) for question in ASKED), read_causes),

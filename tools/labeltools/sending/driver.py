@@ -18,8 +18,9 @@ COMMAND_DOTS = re.compile(r"-r(\d+)(?:x(\d+))?")  # of a program that a driver r
 UNKNOWN = 0, 0
 RESOLUTION = "Resolution"  # the options of drivers for it, and for paper
 PAPER = ("PageSize", "PageRegion")
-COPIES = "copies"  # how often each page is printed, in any case of letters
-ONE_COPY = "1"
+# what CUPS keeps as a queue has it, whatever a job asks for: how often each page is printed, for
+# which CUPS has a place of its own where filters take 1 for a job that does not say it
+UNASKED = ("copies", "mirrorprint")
 INSTALLED = "InstallableOptions"  # the group of what a printer is made of
 # What the keeper of a queue decides, and what is not on a page: its way through the printer, who
 # may print, how dark and fine it is, and its colours. Found in the name of an option or its text.
@@ -79,54 +80,34 @@ def options_of(driver: Any) -> Iterator[Any]:
                 yield from part.options
 
 
-def page_options(driver: Any, set_dots: Container[str], is_office: bool) -> Iterator[Any]:
-    """Yields the options of a driver that could change a page."""
-    for option in options_of(driver):
-        is_own = option.keyword in (*PAPER, RESOLUTION) or option.keyword in set_dots
-        if not is_own and len(option.choices) > 1 and not is_kept(option, is_office):
-            yield option
-
-
-def neutral_options(driver: Any, set_dots: Container[str], is_office: bool) -> Mapping[str, str]:
+def page_options(
+    driver: Any, set_dots: Container[str], is_office: bool
+) -> tuple[Mapping[str, str], Mapping[str, str]]:
     """Returns the options of a driver that could change a page, each with its choice that does
     nothing, and those that set its dots, each as it is marked: the quality of a job, which a queue
-    may have by another name, would change them.
+    may have by another name, would change them. Returns also what is set to change pages, and for
+    which no job can ask for such a choice: what it is called, and the choice that is marked.
     """
-    found = {}
+    plain, changing = {}, {}
     for option in options_of(driver):
-        if option.keyword in set_dots and option.keyword != RESOLUTION:
-            found.update({option.keyword: choice["choice"] for choice in marked_of(option)})
-    for option in page_options(driver, set_dots, is_office):
+        marked = marked_of(option)
+        if option.keyword in (*PAPER, RESOLUTION):
+            continue
+        if option.keyword in set_dots:
+            plain.update({option.keyword: choice["choice"] for choice in marked})
+            continue
+        if len(option.choices) < 2 or is_kept(option, is_office):
+            continue
+        is_asked_for = str(option.keyword).lower() not in UNASKED
         neutral = neutral_of([choice["choice"] for choice in option.choices])
-        if not is_for_copies(option):
-            found.update({option.keyword: name for name in neutral})
-    return found
-
-
-def changing_options(driver: Any, set_dots: Container[str], is_office: bool) -> Mapping[str, str]:
-    """Returns the options of a driver that are set to change pages, and for which no job can ask
-    for a choice that does nothing: what each is called, and the choice that is marked.
-    """
-    found = {}
-    for option in page_options(driver, set_dots, is_office):
-        is_asked_for = neutral_of([choice["choice"] for choice in option.choices])
-        for choice in marked_of(option):
-            if is_for_copies(option):
-                changes = choice["choice"] != ONE_COPY
-            else:
-                words = f"{spaced(choice['choice'])} {choice['text']}"
-                changes = not is_asked_for and bool(CHANGES.search(words))
-            if changes:
-                found[option.text] = choice["text"]
-    return found
-
-
-def is_for_copies(option: Any) -> bool:
-    """Returns whether an option says how often each page is printed. CUPS has that number in a
-    place of its own, where filters take 1 for a job that does not say it, and then the choice of
-    the queue.
-    """
-    return str(option.keyword).lower() == COPIES
+        if is_asked_for:
+            plain.update({option.keyword: name for name in neutral})
+        for choice in marked:
+            words = f"{spaced(choice['choice'])} {choice['text']}"
+            is_other = not is_asked_for and choice["choice"] not in neutral
+            if is_other if neutral else CHANGES.search(words):
+                changing[option.text] = choice["text"]
+    return plain, changing
 
 
 def marked_of(option: Any) -> Sequence[Mapping[str, Any]]:
@@ -210,10 +191,8 @@ def resolution_of(driver: Any) -> str:
     Those of foomatic all say 600dpi there, whatever they print.
     """
     option = driver.findOption(RESOLUTION)
-    marked = (
-        [choice["choice"] for choice in option.choices if choice.get("marked")] if option else []
-    )
+    marked = marked_of(option) if option else []
     default = driver.findAttr("DefaultResolution")
     if marked or driver.findAttr("FoomaticIDs") or not default:
-        return "".join(marked)
+        return "".join(choice["choice"] for choice in marked)
     return str(default.value)

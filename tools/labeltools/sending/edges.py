@@ -3,21 +3,21 @@
 import math
 from itertools import cycle, islice
 
-from labeltools.common.messages import BAD_ARGUMENTS, ToolError
-from labeltools.common.text import counted, hint_of_remedies, Remedy, Text
+from labeltools.common.messages import BAD_ARGUMENTS, Remedy, ToolError
+from labeltools.common.text import counted, Text
 from labeltools.paper.box import Box
 from labeltools.paper.plan import Dots
 from labeltools.printing.job import AS_GIVEN
 from labeltools.printing.press import Prepared
-from labeltools.sending.papers import PrinterPaper, Unsaid
+from labeltools.sending.papers import PrinterPaper
 
 HIDDEN = 0.2  # of a label that may be on the white edge: drivers round to points
-KEEP_AWAY = Text("Keep labels away from the edge")
+KEEP_AWAY = Text("keep labels away from the edge")
 
 
 def check_edges(printer: str, paper: PrinterPaper, found: Prepared) -> None:
     """Raises `ToolError` where codes or letters are on the edges of a paper on which a printer
-    prints nothing; `Unsaid` where these are general ones.
+    prints nothing, or where these are general ones and not taken as given.
     """
     if paper.is_general and found.job.options.is_paper_as_given:
         return
@@ -46,13 +46,13 @@ def check_edges(printer: str, paper: PrinterPaper, found: Prepared) -> None:
 
 def cut_error(printer: str, count: int, edges: str, is_general: bool) -> ToolError:
     """Returns that a printer would cut labels at its edges, or may if it does not say its own."""
+    edge = Remedy("edge", edges, KEEP_AWAY)
     if not is_general:
         cut = counted("{} label would be cut", "{} labels would be cut", count)
         where = Text("{} prints nothing on the edge of this paper", printer)
-        hint = hint_of_remedies(Remedy("edge", edges, KEEP_AWAY))
-        return ToolError(Text("{}: {}", where, cut), hint, BAD_ARGUMENTS)
+        what = Text("{}: {}", where, cut)
+        return ToolError(what, status=BAD_ARGUMENTS, remedies=(edge,))
     may = counted("{} label may be cut", "{} labels may be cut", count)
     where = Text("{} does not say how near to the edge it prints", printer)
-    edge = Remedy("edge", edges, KEEP_AWAY)
-    hint = Text("give {} if it prints up to the edge, or {}", AS_GIVEN, edge)
-    return Unsaid(Text("{}: {}", where, may), hint, BAD_ARGUMENTS)
+    what = Text("{}: {}", where, may)
+    return ToolError(what, status=BAD_ARGUMENTS, remedies=(AS_GIVEN, edge))

@@ -17,15 +17,7 @@ from contextlib import suppress
 from labeltools.common.messages import BAD_ARGUMENTS, ToolError
 from labeltools.common.text import Text
 from labeltools.sending.answers import Query, Reply
-from labeltools.sending.outlets import (
-    Broken,
-    events_of,
-    LOOK,
-    Outlet,
-    Patience,
-    STUCK,
-    Unreachable,
-)
+from labeltools.sending.outlets import Broken, events_of, LOOK, Outlet, Patience, STUCK, Unreachable
 
 SCHEME = "tcp://"
 NAME = re.compile(r"tcp://(\[[0-9A-Fa-f:.%]+\]|[^\s/:\[\]]+)(?::([0-9]{1,5}))?/?", re.ASCII)

@@ -16,14 +16,16 @@ from pathlib import Path
 from typing import Any, IO
 
 from labeltools.common.files import save_file, temporary, Unwritten, write_whole
-from labeltools.common.messages import Silence, ToolError
+from labeltools.common.messages import Problem, Remedy, Silence, ToolError
 from labeltools.common.process import standard_output
 from labeltools.common.signals import hold_signals
 from labeltools.common.text import NOTHING, Text
 from labeltools.sending.answers import Query, Reply
 
+OF_EACH = (Remedy("each"),)
 OUTPUT = "standard output"
 STUCK = 60.0  # seconds in which a printer takes nothing
+LONGEST = 900.0  # seconds that it may take for one label, however much it takes at a time
 QUIET = 5.0  # seconds of these before it is said
 STOPPED = 2.0  # seconds of these if somebody has stopped the work
 LOOK = 0.1  # seconds between two looks at a file that takes nothing
@@ -60,7 +62,7 @@ class Outlet:
     is_kept = False
     is_collected = False
     came: Sized = ()
-    say: Callable[[Text, Text], object] = Silence().say
+    say: Callable[[Problem], object] = Silence().say
 
     def open(self) -> Any:
         """Returns the way out, which is another one once it was made again after a good end; raises
@@ -73,6 +75,9 @@ class Outlet:
         if a part of it may have gone out.
         """
         raise NotImplementedError
+
+    def leave_out(self) -> None:
+        """Leaves out the next label, which cannot be sent."""
 
     def ask(self, _question: Query) -> Reply | None:
         """Returns what a printer answers to a question; None if it does not. Raises `Broken`."""
@@ -87,7 +92,7 @@ class Outlet:
 
 class Patience:
     """The time of a printer that takes nothing of a label: a minute, but only moments if somebody
-    stops the work then. One that takes something, however slowly, has all the time.
+    stops the work then. One that takes something has a quarter of an hour for the label.
     """
 
     def __init__(self, outlet: Outlet, seconds: float) -> None:
@@ -95,6 +100,7 @@ class Patience:
         self.seconds = seconds
         self.left = -1  # bytes, at the last look
         self.since = 0.0
+        self.end = time.monotonic() + LONGEST
         self.is_said = False
 
     def check_progress(self, left: int) -> None:
@@ -113,10 +119,12 @@ class Patience:
             seconds = f"{self.seconds:.0f}"
             what = Text("{}: the printer has taken nothing for {} seconds", name, seconds)
             raise TimeoutError(what)
+        if now > self.end:
+            raise TimeoutError(Text("{}: the printer takes the label too slowly", name))
         if waited > QUIET and not self.is_said:
             self.is_said = True
             what = Text("{}: the printer takes nothing: it is waited for", name)
-            self.outlet.say(what, Text("is it switched on, and has it paper?"))
+            self.outlet.say(Problem(what, Text("is it switched on, and has it paper?")))
 
 
 class OpenFile(Outlet):
@@ -158,12 +166,13 @@ class StandardOutput(OpenFile):
 
 class Device(OpenFile):
     """A printer named by a path, such as /dev/usb/lp0, or a file that is there, to which labels are
-    added. A label counts as taken once the system has all of its bytes; a printer without paper
-    takes none, and is waited for as one in the network is.
+    added if it is empty or begins as they do. A label counts as taken once the system has all of
+    its bytes; a printer without paper takes none, and is waited for as one in the network is.
     """
 
-    def __init__(self, name: str, stuck: float = STUCK) -> None:
+    def __init__(self, name: str, begin: bytes, stuck: float = STUCK) -> None:
         self.name = name
+        self.begin = begin
         self.stuck = stuck
         self.file: int | None = None
 
@@ -177,7 +186,20 @@ class Device(OpenFile):
                 if error.errno == errno.ENXIO:  # of a FIFO
                     what = Text("{}: no program reads it", self.name)
                 raise Unreachable(what, HINTS.get(type(error), NOTHING)) from error
+            self.require_labels(self.file)
         return self.file
+
+    def require_labels(self, file: int) -> None:
+        """Raises `Unreachable` if a file on a disk has something else than labels."""
+        found = os.fstat(file)
+        if not stat.S_ISREG(found.st_mode) or not found.st_size:
+            return
+        with open(self.name, "rb") as labels:
+            is_ours = labels.read(len(self.begin)) == self.begin
+        if not is_ours:
+            self.drop()
+            what = Text("{} is a file that has no labels", self.name)
+            raise Unreachable(what, Text("name a printer, or a new file that is empty"))
 
     def send(self, data: bytes) -> None:
         """Sends what is whole; raises `Broken`, and what `open` does."""
@@ -236,6 +258,10 @@ class Files(Outlet):
         self.name = name
         self.paths = enumerate(paths_of(name, data, first), first)
 
+    def leave_out(self) -> None:
+        """Leaves out the file of the next label."""
+        next(self.paths)
+
     def send(self, data: bytes) -> None:
         """Writes the file of the next label, for which a signal waits; raises `OSError`."""
         number, path = next(self.paths)
@@ -270,10 +296,6 @@ class Collected(Outlet):
                 self.file.seek(0)
             self.given = self.give(self.file)
 
-    def drop(self) -> None:
-        """Forgets what was collected."""
-        self.file.close()
-
 
 def events_of(file: int, wanted: int, seconds: float = 0.0) -> int:
     """Returns which of some events an open file has, or its break or end, in some seconds at most;
@@ -297,18 +319,19 @@ def paths_of(name: str, data: Sequence[bytes], first: int) -> list[Path]:
     """
     folder = Path(name).parent
     if folder == Path() or "%" in str(folder):
-        raise ToolError(Text("--each"), Text("name a folder for the files, as in labels/%s.png"))
+        what = Text("the files of labels need a folder")
+        raise ToolError(what, Text("name one, as in labels/%s.png"), remedies=OF_EACH)
     paths: dict[str, Path] = {}
     for number, label in enumerate(data, first):
         path = Path(file_name(name, number, label))
         if paths.setdefault(path.name.lower(), path) is not path:
-            raise ToolError(
-                Text("--each: two labels would be the file {}", path), Text("put %d into the name")
-            )
+            what = Text("two labels would be the file {}", path)
+            raise ToolError(what, Text("put %d into the name"), remedies=OF_EACH)
     folder.mkdir(parents=True, exist_ok=True)
     if any(folder.iterdir()):
-        what = Text("--each: the folder {} is not empty", folder)
-        raise ToolError(what, Text("old labels would be among the new ones"))
+        what = Text("the folder {} is not empty", folder)
+        hint = Text("old labels would be among the new ones: name another one")
+        raise ToolError(what, hint, remedies=OF_EACH)
     return list(paths.values())
 
 

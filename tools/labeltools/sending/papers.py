@@ -1,15 +1,14 @@
-"""The papers of a printer, as the file of its driver (PPD) or IPP says them. Lengths are in
-millimetres.
+"""The papers of a printer, as the file of its driver (PPD) has them. Lengths are in millimetres.
 """
 
 import math
 import re
-from collections.abc import Iterable, Mapping, Sequence
+from collections.abc import Iterable, Sequence
 from dataclasses import dataclass
 from typing import NamedTuple
 
-from labeltools.common.messages import BAD_ARGUMENTS, ToolError
-from labeltools.common.text import joined, Remedy, Text
+from labeltools.common.messages import BAD_ARGUMENTS, Remedy, ToolError
+from labeltools.common.text import Text
 from labeltools.paper.plan import Edges, MILLIMETRES, POINTS
 from labeltools.paper.sizes import A4, is_near, LETTER
 from labeltools.paper.stock import Size, size_text
@@ -36,21 +35,7 @@ HEAD_DPI = re.compile(r"-r(\d+)")
 BITS = 8
 SLACK = 1.5  # by which a paper may be wider than the head: labels are white there
 GENERAL = (18.0, 36.0, 18.0, 36.0)  # points: foomatic writes these edges where nobody told any
-# a name of PWG 5101.1, such as na_letter_8.5x11in; custom_min_ and custom_max_ have the ends
-PWG = re.compile(r"(custom_min|custom_max|.*)_([0-9.]+)x([0-9.]+)(mm|in)", re.ASCII)
-UNITS = {"mm": 1.0, "in": MILLIMETRES}
-SIDES = ("left", "top", "right", "bottom")
-SHEETS = Text(
-    "for labels on sheets give {}, or {} with {} and {}",
-    *map(Remedy, ("stock", "cell", "columns", "rows")),
-)
-HUNDREDTHS = 100.0
-
-
-class Unsaid(ToolError):
-    """What a driver does not say, and the user may know: whether labels fit on a paper. They are
-    printed with `is_paper_as_given` in the options.
-    """
+OF_SHEETS = (Remedy("stock"), Remedy("cell"))
 
 
 class PrinterPaper(NamedTuple):
@@ -120,8 +105,8 @@ class Papers:
 
     def paper(self, printer: str, page: Size, is_given: bool = False) -> PrinterPaper:
         """Returns the paper of a page; raises `ToolError` where a printer has none. One of which
-        nothing is known has each; one that says it is too small, where it takes any other size, is
-        taken if it `is_given`, else that is `Unsaid`.
+        nothing is known has each; a paper below its least, where it takes any other size, is taken
+        if it `is_given`.
         """
         if not self.known:
             return PrinterPaper("", page, NO_EDGES)
@@ -141,11 +126,13 @@ class Papers:
         if self.is_below(page):
             if is_given:
                 return PrinterPaper("", page, self.white, self.is_general)
-            raise self.unsaid(printer, page)
-        near = min((paper.size for paper in self.known), key=lambda size: apart(size, page))
-        nearest = Text("the nearest that it has is {}", size_text(near))
-        hint = joined("; ", (nearest, SHEETS)).in_window(nearest)
-        raise ToolError(what, hint, BAD_ARGUMENTS)
+            raise self.below_least(printer)
+        near = min((paper.size for paper in self.known), key=lambda size: distance(size, page))
+        hint = Text(
+            "the nearest that it has is {}; labels on sheets need the name of their sheet",
+            size_text(near),
+        )
+        raise ToolError(what, hint, BAD_ARGUMENTS, OF_SHEETS)
 
     def is_below(self, page: Size) -> bool:
         """Returns whether a page is too small for a printer that takes others of any size. Such
@@ -153,14 +140,16 @@ class Papers:
         """
         return self.find((max(page[0], self.least[0]), max(page[1], self.least[1]))) is not None
 
-    def unsaid(self, printer: str, page: Size) -> Unsaid:
-        """Returns that a page is smaller than what a driver says that a printer takes."""
+    def below_least(self, printer: str) -> ToolError:
+        """Returns that a page is smaller than what a driver says that a printer takes. The user may
+        know better.
+        """
         what = Text("{} says that it takes no paper below {}", printer, size_text(self.least))
-        given = Text("if it takes {} all the same give {}", size_text(page), AS_GIVEN)
-        return Unsaid(what, joined("; ", (given, SHEETS)), BAD_ARGUMENTS)
+        hint = Text("labels on sheets need the name of their sheet")
+        return ToolError(what, hint, BAD_ARGUMENTS, (*OF_SHEETS, AS_GIVEN))
 
 
-def apart(size: Size, other: Size) -> float:
+def distance(size: Size, other: Size) -> float:
     """Returns by how much two sizes differ."""
     return abs(size[0] - other[0]) + abs(size[1] - other[1])
 
@@ -183,14 +172,18 @@ def papers_of_driver(text: str) -> Papers:
         is_general = has_general and are_general(white)
         known.append(PrinterPaper(found[1], (width, height), white, is_general))
     sides = {found[1]: in_millimetres(found.groups()[1:]) for found in SIDE.finditer(text)}
+    narrowest = min((paper.size[0] for paper in known), default=0.0)
+    head = head_width(text)
+    if head + SLACK < narrowest:  # one file of ptouch has such a head
+        head = math.inf
     if not CUSTOM.search(text) or len(sides) < len(("Width", "Height")):
-        return Papers(known, head=head_width(text))
+        return Papers(known, head=head)
     ends = tuple(zip(sides["Width"], sides["Height"]))
     margins = MARGINS.search(text)
     left, bottom, right, top = in_millimetres(margins.groups()) if margins else NO_EDGES
     white = (left, top, right, bottom)
     is_general = has_general and are_general(white)
-    return Papers(known, ends[0], ends[1], white, is_general, head_width(text))
+    return Papers(known, ends[0], ends[1], white, is_general, head)
 
 
 def head_width(text: str) -> float:
@@ -202,36 +195,6 @@ def head_width(text: str) -> float:
     """
     size, dots = HEAD_BYTES.search(text), HEAD_DPI.search(text)
     return BITS * int(size[1]) / int(dots[1]) * MILLIMETRES if size and dots else math.inf
-
-
-def papers_of_ipp(attributes: Mapping[str, object]) -> Papers:
-    """Returns the papers that a printer names by IPP. Its edges are for all papers the least that
-    are some: of those without any it enlarges what it prints.
-    """
-    white = []
-    for side in SIDES:
-        found = ipp_values(attributes.get(f"media-{side}-margin-supported"))
-        numbers = (float(edge) / HUNDREDTHS for edge in found if isinstance(edge, int) and edge)
-        white.append(min(numbers, default=0.0))
-    edges = white[0], white[1], white[2], white[3]
-    known, least, most = [], (0.0, 0.0), (0.0, 0.0)
-    for name in ipp_values(attributes.get("media-supported")):
-        match = PWG.fullmatch(str(name))
-        if not match:
-            continue
-        size = float(match[2]) * UNITS[match[4]], float(match[3]) * UNITS[match[4]]
-        if match[1] == "custom_min":
-            least = size
-        elif match[1] == "custom_max":
-            most = size
-        else:
-            known.append(PrinterPaper(str(name), size, edges))
-    return Papers(known, least, most, edges)
-
-
-def ipp_values(value: object) -> Sequence[object]:
-    """Returns the values of an attribute of IPP."""
-    return value if isinstance(value, list) else [] if value is None else [value]
 
 
 def in_millimetres(numbers: Iterable[str]) -> list[float]:

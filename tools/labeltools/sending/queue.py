@@ -6,28 +6,32 @@ import os
 from collections.abc import Mapping, Sequence
 from dataclasses import dataclass, field
 from pathlib import Path
+from typing import Any
 from urllib.parse import urlsplit
 
-from labeltools.common.messages import BAD_ARGUMENTS, ToolError
-from labeltools.common.text import either, joined, NOTHING, Remedy, shell_line, shell_word, Text
+from labeltools.common.messages import BAD_ARGUMENTS, Remedies, Remedy, ToolError
+from labeltools.common.text import joined, NOTHING, shell_line, shell_word, Text
 from labeltools.drawing.forms import PDF
 from labeltools.paper.sizes import is_near, NAMED
 from labeltools.paper.stock import Size
 from labeltools.printing.job import DRAWING_DPI, Job, USUAL_DPI
 from labeltools.sending.cups import connection, cups_library, queues
 from labeltools.sending.driver import (
-    changing_options,
     common_dots,
     dots_of,
     dpi_of,
-    neutral_options,
+    page_options,
     PAPER,
     RESOLUTION,
     resolutions_of,
     SETS_DOTS,
     UNKNOWN,
 )
-from labeltools.sending.papers import Papers, papers_of_driver, papers_of_ipp, PrinterPaper, Unsaid
+from labeltools.sending.papers import (
+    Papers,
+    papers_of_driver,
+    PrinterPaper,
+)
 
 NEAR = 0.3  # millimetres by which a page may differ from a paper with a name
 RAW = {"raw": "true"}
@@ -55,12 +59,8 @@ PLAIN = {
     "print-scaling": "none",
     "pdftops-renderer": "hybrid",  # others turn labels that are wider than high
 }
-ADD_QUEUE = Text("add it in the settings of printers")
-NO_QUEUE = Text(
-    "add it in the settings of printers; for one on USB give {}, for one in the network {}",
-    Remedy("print", "/dev/usb/lp0"),
-    Remedy("print", "tcp://HOST"),
-).in_window(ADD_QUEUE)
+ADD_QUEUE = Text("add it in the settings of printers, or print past CUPS")
+PAST_CUPS = (Remedy("print", "/dev/usb/lp0"), Remedy("print", "tcp://HOST"))
 NETWORK = ("socket", "ipp", "ipps", "http", "https", "lpd")  # devices with a host
 USB = "/dev/usb/lp0"
 
@@ -82,14 +82,17 @@ class Queue:
     device: str = ""
     common: int = 0
     changing: Mapping[str, str] = field(default_factory=dict)
+    has_driver: bool = False
 
     def dpi_for(self, is_sheet: bool) -> int:
         """Returns the dots an inch of labels that are printed here, 0 if they are not known. Sheets
-        take those of drawings if the driver has them, since narrow labels need them. Rolls take
-        those of the queue: only who has set it up knows which printer is connected.
+        take those of drawings if the driver has them, since narrow labels need them, or if there is
+        no driver. Rolls take those of the queue: only who has set it up knows which printer is
+        connected.
         """
         known = {self.dpi or self.common, *self.words} - {0}
-        may_be_that_of_drawings = not known or any(dots % DRAWING_DPI == 0 for dots in known)
+        is_open = not known and not self.has_driver
+        may_be_that_of_drawings = is_open or any(dots % DRAWING_DPI == 0 for dots in known)
         if is_sheet and may_be_that_of_drawings:
             return DRAWING_DPI
         return self.dpi or max(known, default=0)
@@ -118,30 +121,27 @@ class Queue:
         return {**options, "print-scaling": "none"}
 
     def paper(self, job: Job) -> PrinterPaper:
-        """Returns the paper of a job; raises `ToolError` if the queue has none, `Unsaid` if its
-        driver does not say whether it has.
-        """
+        """Returns the paper of a job; raises `ToolError` if the queue has none."""
         is_given = job.options.is_paper_as_given
         try:
             return self.papers.paper(self.name, job.plan.sheet.page, is_given)
         except ToolError as error:
             if not (job.plan.sheet.is_single and self.papers.is_office):
                 raise
-            hints = joined("; ", (error.hint, self.past_driver()))
-            raise type(error)(error.what, hints, BAD_ARGUMENTS) from error
+            past, ways = self.past_driver()
+            hint, remedies = joined("; ", (error.hint, past)), (*error.remedies, *ways)
+            raise ToolError(error.what, hint, BAD_ARGUMENTS, remedies) from error
 
     def require_resolution(self, job: Job) -> None:
-        """Raises `Unsaid` where nobody says at which resolution a roll is printed: label printers
-        have few dots, and bars of others would be uneven.
+        """Raises `ToolError` if it is not known at which resolution labels are printed: bars of
+        other dots would be uneven.
         """
-        if job.plan.sheet.is_single and not job.options.dpi and not self.dpi_for(False):
+        if not job.options.dpi and not self.dpi_for(not job.plan.sheet.is_single):
             if any(self.uneven):
                 raise self.refusal(job.plan.dpi)
             what = Text("{} does not tell its resolution", self.name)
-            known = [Remedy("dpi", str(dots), Text("{} dpi", dots)) for dots in USUAL_DPI]
-            hint = Text("look at its manual, and give {}", either(known))
-            instead = Text("look at its manual, and choose it")
-            raise Unsaid(what, hint.in_window(instead), BAD_ARGUMENTS)
+            hint = Text("look at its manual, and choose it")
+            raise ToolError(what, hint, BAD_ARGUMENTS, ways_of_dpi(USUAL_DPI))
 
     def check_changes(self) -> None:
         """Raises `ToolError` if a driver is set to change pages, and names no other choice that
@@ -162,21 +162,17 @@ class Queue:
                 self.name,
                 job.form.name,
             )
-            hint = Text("for an office printer give {}", Remedy("to", "pdf"))
-            raise ToolError(what, joined("; ", (hint, self.past_driver())), BAD_ARGUMENTS)
+            past, ways = self.past_driver()
+            hint = joined("; ", (Text("an office printer takes PDF"), past))
+            raise ToolError(what, hint, BAD_ARGUMENTS, (Remedy("to", "pdf"), *ways))
 
-    def past_driver(self) -> Text:
+    def past_driver(self) -> tuple[Text, Remedies]:
         """Returns how a label printer takes labels whose queue has the driver of another one."""
         device, ways = direct_ways(self.device)
         labels = f"{self.name}-labels"
         line = shell_line(["lpadmin", "-p", labels, "-E", "-v", device, "-m", "raw"])
-        to = Remedy("print", labels)
-        return Text(
-            "for a label printer give {}, or make a queue without a driver and give {}: {}",
-            either(Remedy("print", way) for way in ways),
-            to,
-            line,
-        ).in_window(Text("a label printer needs a queue without a driver: {}", line))
+        hint = Text("a label printer needs a queue without a driver: {}", line)
+        return hint, tuple(Remedy("print", way) for way in (*ways, labels))
 
     def refusal(self, dpi: int) -> ToolError:
         """Returns why labels cannot be printed here."""
@@ -187,12 +183,7 @@ class Queue:
             return ToolError(what, hint, BAD_ARGUMENTS)
         found = " or ".join(map(str, sorted(known)))
         what = Text("the queue {} prints at {} dpi, and the labels have {}", self.name, found, dpi)
-        ways = [
-            Remedy("dpi", str(resolution), Text("{} dpi", resolution))
-            for resolution in sorted(known)
-        ]
-        hint = Text("leave out {}, or give {}", Remedy("dpi"), either(ways))
-        return ToolError(what, hint, BAD_ARGUMENTS)
+        return ToolError(what, status=BAD_ARGUMENTS, remedies=ways_of_dpi(sorted(known)))
 
     def resolution_doubt(self, job: Job) -> Text:
         """Returns what is reported of a job if it is not known at which resolution it is printed,
@@ -206,21 +197,27 @@ class Queue:
         )
 
 
+def ways_of_dpi(known: Sequence[int]) -> Remedies:
+    """Returns resolutions of which one may be chosen."""
+    return tuple(Remedy("dpi", str(dpi), Text("{} dpi", dpi)) for dpi in known)
+
+
 def queue_of(name: str, chosen: Mapping[str, str] = NOTHING_CHOSEN) -> Queue:
     """Returns what a queue says, with the options of its driver that are chosen for a job; raises
     `ToolError` if there is no such queue, or no CUPS.
     """
     cups = cups_library()
+    attributes = attributes_of_queue(name)
     try:
         path = connection().getPPD(name)
     except cups.IPPError as error:  # it has no driver, or CUPS makes it for the first job
         names = queues()
         if name in names:
-            attributes = connection().getPrinterAttributes(name)
-            device = attributes.get("device-uri", "")
-            return Queue(name, 0, {}, papers=papers_of_ipp(attributes), device=device)
-        hint = Text("the queues are {}", ", ".join(names)) if names else NO_QUEUE
-        raise ToolError(Text("there is no queue {}", name), hint) from error
+            return Queue(name, 0, {}, device=attributes.get("device-uri", ""))
+        what = Text("there is no queue {}", name)
+        if names:
+            raise ToolError(what, Text("the queues are {}", ", ".join(names))) from error
+        raise ToolError(what, ADD_QUEUE, remedies=PAST_CUPS) from error
     try:
         driver = cups.PPD(path)
         text = Path(path).read_text(encoding="latin-1")
@@ -231,14 +228,28 @@ def queue_of(name: str, chosen: Mapping[str, str] = NOTHING_CHOSEN) -> Queue:
         driver.markOption(option, value)
     own = dots_of(driver)
     papers = papers_of_driver(text)
-    of_pages = (driver, {*SETS_DOTS.findall(text)}, papers.is_office)
-    plain, changing = neutral_options(*of_pages), changing_options(*of_pages)
+    plain, changing = page_options(driver, {*SETS_DOTS.findall(text)}, papers.is_office)
     words = resolutions_of(driver)
     dpi = dpi_of(own)
-    device = connection().getPrinterAttributes(name).get("device-uri", "")
+    device = attributes.get("device-uri", "")
     uneven = UNKNOWN if dpi else own
     common = 0 if dpi or words else common_dots(text)
-    return Queue(name, dpi, words, uneven, papers, plain, device, common, changing)
+    return Queue(name, dpi, words, uneven, papers, plain, device, common, changing, True)
+
+
+def attributes_of_queue(name: str) -> Mapping[str, Any]:
+    """Returns what CUPS has of a queue, nothing if it does not know it; raises `ToolError` if it is
+    a class: CUPS prints on any of its printers, and shows the driver of the first one.
+    """
+    try:
+        found: Mapping[str, Any] = connection().getPrinterAttributes(name)
+    except cups_library().IPPError:
+        return {}
+    if members := found.get("member-names"):
+        named = ", ".join([members] if isinstance(members, str) else members)
+        what = Text("{} is a class of printers, which may differ", name)
+        raise ToolError(what, Text("choose one of them: {}", named), BAD_ARGUMENTS)
+    return found
 
 
 def job_options(job: Job, queue: Queue, chosen: Mapping[str, str]) -> Mapping[str, str]:

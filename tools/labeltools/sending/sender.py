@@ -7,63 +7,65 @@ from typing import Any, Callable, Iterator, Mapping, Sequence, Sized
 
 from labeltools.common.files import save_file
 from labeltools.common.messages import fault_of, sentence, Talk, ToolError, UNEXPECTED
-from labeltools.common.report import MOST_RANGES, places_text
-from labeltools.common.text import counted, joined, NOTHING, shell_word, Text
+from labeltools.common.report import few, MOST_RANGES, places_text, range_words, ranges_of
+from labeltools.common.text import counted, joined, NOTHING, shell_line, Text
+from labeltools.drawing.forms import Form
 from labeltools.lines.file import Record
-from labeltools.printing.press import Batch, Prepared, Press
-from labeltools.sending.journal import Entry, Journal, SENDING
+from labeltools.printing.job import Job
+from labeltools.printing.press import Batch, Prepared, Press, WrongLabels
+from labeltools.sending.journal import Entry, Journal, PRINTED
 from labeltools.sending.network import is_in_network, NetworkPrinter
-from labeltools.sending.outcomes import (
-    BETWEEN_LABELS,
-    End,
-    LostJournal,
-    outcome_of,
-    Progress,
-)
-from labeltools.sending.outlets import Broken, Collected, Device, Outlet, OUTPUT
+from labeltools.sending.outcomes import is_of_outlet, NOTHING_OUT, Progress
+from labeltools.sending.outlets import Broken, Collected, Device, Outlet, OUTPUT, Unreachable
 from labeltools.sending.watch import Watch
+
+TOOL = "label-print"  # which settles what is in doubt
+ASKED_AFTER = 20  # labels of a run, after which a printer is asked how many it has left
 
 
 class Sender:
-    """Sends labels by an outlet; `again` is a printer whose labels of earlier runs are sent once
-    more.
+    """Sends labels by an outlet; what the job asks for `again` is sent once more, though the
+    journal has it.
     """
 
     def __init__(
         self,
+        job: Job,
         outlet: Outlet,
         journal: Journal | None = None,
-        again: str | None = None,
         records: Sequence[Record] = (),
     ) -> None:
         """Takes all lines of the input, too."""
         self.outlet = outlet
         self.journal = journal
-        self.again = again
+        self.again = job.options.again
         self.records = records
-        self.progress = Progress(outlet, journal, again, records)
+        self.progress = Progress(job, outlet, records)
+        self.watch = Watch(outlet, job.form.name, job.plan.dpi)
+        # what is asked of the printer before its first label
+        self.question: Callable[[], object] | None = None
         self.way: object = None
-        self.watch: Watch | None = None  # of a printer that takes labels one by one, in a run
+        self.asked_after = ASKED_AFTER
+        self.unasked = 0  # labels that the printer has taken since it was asked what it has left
         self.known: set[bytes] = set()  # the codes that the journal had
         self.is_at_end = False  # whether standard output takes no more
+        self.is_off = False  # whether the way out broke off, or is not there any more
 
     def send_all(self, found: Prepared, talk: Talk, came: Sized = ()) -> None:
-        """Sends labels with their copies until a signal came. Raises `ToolError` if they are not
-        taken: of labels that are sent one by one with what to do then.
+        """Sends labels with their copies until a signal came, but for those that would be drawn
+        wrongly. Raises `ToolError` if they are not taken: of labels that are sent one by one with
+        what to do then.
         """
         press = found.press(talk)
-        prints = found.prints
+        self.question = partial(self.watch.report_before, talk)
         self.outlet.came = came
         self.outlet.say = talk.say
-        if self.outlet.is_direct:
-            self.watch = Watch(self.outlet, found.job.form.name, talk)
-        self.progress.done = found.job.options.after
-        for part in press.batches(prints):
+        for part in press.batches(found.prints):
             try:
                 if came:
-                    self.do_between_labels(self.outlet.close)
+                    self.do_between_labels(self.close_well)
                     raise ToolError(Text("{}: {}", self.outlet.name, self.progress.so_far()))
-                self.send_batch(press, part, not self.progress.taken)
+                self.send_right(press, part, talk)
             except OSError:
                 raise
             except Exception as error:
@@ -71,20 +73,52 @@ class Sender:
                 if not self.outlet.is_direct:
                     raise self.error_of_whole(known, known is not error) from error
                 place = self.progress.labels_in_words(part.items)
-                ended = outcome_of(known).ended(End(self.progress, known, place))
-                self.do_between_labels(self.outlet.close)
+                ended = self.progress.ended(known, place)
+                self.is_off = self.is_off or isinstance(known, (Broken, Unreachable))
+                self.do_between_labels(self.close_well)
                 raise ended from error
             self.progress.done += part.label_count
-            talk.go_on(self.progress.done - found.job.options.after, len(prints))
+            talk.go_on(self.progress.done - found.job.options.after, len(found.prints))
+        if self.progress.wrong and not self.progress.taken:
+            raise ToolError(NOTHING_OUT)
         self.do_between_labels(self.end_way_out)
 
     def end_way_out(self) -> None:
         """Ends the way out, once a printer that answers has printed all labels, or does not go on;
         raises `Broken`.
         """
-        if self.watch is not None and self.progress.taken:
-            self.watch.wait_until_printed()
+        if self.progress.taken:
+            self.watch.wait_until_printed(self.progress.taken)
+        self.close_well()
+
+    def close_well(self) -> None:
+        """Ends the way out, and writes that what it took is printed, but for what a printer says
+        that it has left; nothing if it has broken off or has a trouble. Raises `Broken`.
+        """
         self.outlet.close()
+        left = self.watch.left if self.watch.is_stuck else 0
+        if self.journal is not None and left is not None and not self.is_off:
+            self.journal.write_printed(left)
+
+    def ask_before(self) -> None:
+        """Asks a printer once what there is to ask before its first label; raises `ToolError`, as
+        long as it is not there, or says that it does not suit.
+        """
+        if self.question is not None:
+            self.do_between_labels(self.question)
+            self.question = None
+
+    def ask_for_left(self) -> None:
+        """Asks a printer, once it has taken some labels, how many it has left: the others are
+        printed. One more may be on its way to the paper. Raises `Broken`.
+        """
+        if self.unasked < self.asked_after:
+            return
+        self.unasked = 0
+        answer = self.watch.ask()
+        left = answer.left if answer else None
+        if self.journal is not None and left is not None:
+            self.journal.write_printed(left + 1 if left else 0)
 
     def do_between_labels(self, act: Callable[[], Any]) -> Any:
         """Returns what is done before a label, or after the last one; raises `ToolError` in place
@@ -96,9 +130,10 @@ class Sender:
             raise
         except Exception as error:
             known = expected(error, Broken)
+            self.is_off = isinstance(known, (Broken, Unreachable))
             if not isinstance(known, Broken):
                 raise
-            raise BETWEEN_LABELS.ended(End(self.progress, known, NOTHING)) from error
+            raise self.progress.ended_between_labels(known) from error
 
     def error_of_whole(self, error: ToolError, is_fault: bool) -> ToolError:
         """Returns an error of what goes out as a whole, or as files; of a fault of ours with what
@@ -106,8 +141,22 @@ class Sender:
         """
         if not is_fault:
             return error
-        what = Text("{}: {}", error.what, self.progress.so_far())
-        return ToolError(what, error.hint, error.status)
+        return error.saying(Text("{}: {}", error.what, self.progress.so_far()))
+
+    def send_right(self, press: Press, part: Batch, talk: Talk) -> None:
+        """Sends what goes out as a whole, without labels that would be drawn wrongly, of which it
+        says so.
+        """
+        while part.items:
+            try:
+                self.send_batch(press, part, not self.progress.taken)
+                return
+            except WrongLabels as error:
+                for wrong in error.errors.values():
+                    talk.say(wrong.problem)
+                self.progress.wrong.update(error.errors)
+                part = press.without(part, error.errors)
+        self.outlet.leave_out()
 
     def send_batch(self, press: Press, part: Batch, is_first: bool, is_last: bool = False) -> int:
         """Sends what goes out as a whole, and returns how many bytes it has; 0 if the journal has
@@ -116,20 +165,23 @@ class Sender:
         record = part.items[0].record
         journal = self.journal
         if journal is not None and self.again is None and journal.entry(record) is not None:
-            self.known.add(record.code_line)  # as it was when the journal was last read
+            self.known.add(record.code_line)  # so no connection is made
             return 0
         document = press.document(part, is_first)
-        if self.way is None and self.watch is not None:
-            self.do_between_labels(self.watch.report_before)
+        self.ask_before()
         way = self.do_between_labels(self.outlet.open)
         if way != self.way:
             self.way = way
             self.progress.on_way.clear()
-        if journal is not None and not journal.claim(record, self.again):
+        if journal is not None:
+            self.do_between_labels(self.ask_for_left)
+        if journal is not None and not journal.claim(record):
             self.known.add(record.code_line)
             return 0
         self.give_label(record, document, is_last)
+        self.is_off = False
         self.progress.taken += part.label_count
+        self.unasked += 1
         if not self.outlet.is_kept:
             self.progress.on_way += part.items
         if is_last:
@@ -145,95 +197,79 @@ class Sender:
             if is_last:
                 self.outlet.close()
             if self.journal is not None:
-                self.journal.write_taken(record)
+                self.journal.write_taken(record, is_printed=self.outlet.is_kept)
         except OSError:
             raise
         except Exception as error:
             known = expected(error, Broken)
-            self.is_at_end = self.outlet.name == OUTPUT and outcome_of(known).is_of_outlet
+            self.is_at_end = self.outlet.name == OUTPUT and is_of_outlet(known)
             if self.journal is None:
                 raise known from error
-            kind = LostJournal if self.is_journal_lost else Broken
             with suppress(ToolError):  # something else is reported
                 self.journal.give_up()
-            raise kind(known.what, known.hint, known.status) from error
+            raise Broken.of(known.problem, known.status) from error
 
-    @property
-    def is_journal_lost(self) -> bool:
-        """Whether another program has taken the place of the journal."""
-        return self.journal is not None and self.journal.is_lost
-
-    def result(self) -> Text:
-        """Returns what is reported of the labels that were sent to a printer."""
-        labels = labels_text(self.progress.taken)
-        if self.watch is not None:
-            return self.watch.report_of_sent(labels)
-        return Text("{} sent to {}", labels, self.outlet.name)
-
-    @property
-    def is_printed(self) -> bool:
-        """Whether a printer says that it has printed the labels."""
-        answer = self.watch.answer if self.watch else None
-        return answer is not None and answer.is_empty
-
-    @property
-    def troubles(self) -> Sequence[Text]:
-        """What a printer says that it has left, and what keeps it from printing."""
-        return self.watch.troubles if self.watch else ()
-
-    @property
-    def is_stuck(self) -> bool:
-        """Whether a printer says that it does not print the labels that it has taken."""
-        return self.watch is not None and self.watch.is_stuck
+    def end_run(self) -> Mapping[bytes, Entry]:
+        """Ends the run, and returns what is in doubt in the journal; nothing if that cannot be
+        read, which is an error of the label before.
+        """
+        with suppress(ToolError):
+            if self.journal is not None:
+                self.journal.give_up()
+                doubtful = self.journal.doubtful()
+                self.journal.close()
+                return doubtful
+        return {}
 
     def hint_if_doubtful(self, record: Record) -> Text:
-        """Returns what to do about a label that was sent, but is not known to be taken; nothing if
-        it is.
-        """
-        printer = self.printer_of_sent(record)
-        if printer and record.code_line in self.doubtful_codes():
-            return may_be_on_paper(printer, by_code(record.code_line))
-        if printer := self.printer_of_sent(record):  # it was not taken meanwhile
-            what = Text("{} is sending it", printer)
-            return sentence(what, Text("send the line again to see whether it was taken"))
-        return NOTHING
-
-    def printer_of_sent(self, record: Record) -> str:
-        """Returns the printer of a label that the journal has as sent and not as taken, or
-        nothing.
+        """Returns what to do about a label that was sent, and of which it is not known whether it
+        is on paper; nothing if it is.
         """
         entry = self.journal.entry(record) if self.journal else None
-        return entry.printer if entry and entry.event == SENDING else ""
+        if entry is None or entry.state == PRINTED:
+            return NOTHING
+        code = record.code_line
+        if code in self.doubtful_codes():
+            words = code.decode()
+            hint = Text("then write #printed {} or #missing {}", words, words)
+            return sentence(may_be_missing(entry.printer), hint)
+        if not self.journal or not self.journal.is_sending(entry):
+            return NOTHING  # it was taken meanwhile
+        what = Text("{} is sending it", entry.printer)
+        return sentence(what, Text("send the line again to see whether it was taken"))
 
     def doubtful_codes(self) -> Mapping[bytes, Entry]:
-        """Returns the codes of labels of which it is not known whether they are on paper."""
-        return self.journal.doubtful() if self.journal else {}
+        """Returns the codes of labels of which it is not known whether they are on paper; none if
+        the journal cannot be read, which is an error of the label before.
+        """
+        with suppress(ToolError):
+            return self.journal.doubtful() if self.journal else {}
+        return {}
 
     def doubts(self, doubtful: Mapping[bytes, Entry]) -> Iterator[Text]:
-        """Yields messages that name all labels in doubt, those of a printer together."""
+        """Yields messages that name all labels in doubt, those of a printer together, and the
+        commands that settle them.
+        """
         printers: dict[str, list[bytes]] = {}
         for code, entry in doubtful.items():
             printers.setdefault(entry.printer, []).append(code)
-        records = reversed(self.records if printers else ())
-        places = {record.code_line: record.origin for record in records}
+        places = {record.code_line: record.origin for record in self.records if printers}
         for printer, codes in printers.items():
-            there = sorted((places[code], code) for code in codes if code in places)
-            for labels in slices_of(there, MOST_RANGES if self.progress.is_clear else 1):
-                place, code = labels[0]
-                words = f"--only {place.number}" if self.progress.is_clear else by_code(code)
-                words = "--only ROW" if len(labels) > 1 else words
-                named = places_text([place for place, _ in labels], self.progress.has_tables)
-                yield Text("{}: {}", named, may_be_on_paper(printer, words))
+            here = [places[code] for code in codes if code in places]
             others = [code.decode() for code in codes if code not in places]
-            for unknown in slices_of(others, MOST_RANGES):
-                yield Text(
-                    "{}: may be on paper, from {}, and not in the input: look for it; if it is "
-                    "there, change sending to taken in its line of the journal; if not, print it "
-                    "with --again from an input that has it, or delete that line if nobody wants "
-                    "it",
-                    joined("; ", unknown),
-                    printer,
-                )
+            named = [places_text(here, self.progress.has_tables)] if here else []
+            named += [Text("{}, of another input", few(others))] if others else []
+            yield Text("{}: {}", joined("; ", named), may_be_missing(printer))
+            words = ["--print", printer]
+            if len(codes) == 1:
+                words = ["--only-code", codes[0].decode()]
+            ranges = ranges_of(sorted(place.number for place in here))
+            if self.progress.is_clear and not others and len(ranges) <= MOST_RANGES:
+                words = ["--only", ",".join(range_words(ranges))]
+            path = self.journal.path if self.journal else ""
+            yield Text("if on paper: {}", settling_line(path, [*words, "--state", "printed"]))
+            line = settling_line(path, [*words, "--state", "missing"])
+            yield Text("if missing, to be printed again: {}", line)
 
 
 def expected(error: Exception, kind: type[ToolError]) -> ToolError:
@@ -243,27 +279,31 @@ def expected(error: Exception, kind: type[ToolError]) -> ToolError:
     return kind(fault_of(error), status=UNEXPECTED)
 
 
-def direct_outlet(printer: str) -> Outlet:
-    """Returns the way to a printer in the network, or to one that is a file."""
+def direct_outlet(printer: str, form: Form) -> Outlet:
+    """Returns the way to a printer in the network, or to one that is a file, for labels of a
+    form.
+    """
     if is_in_network(printer):
         return NetworkPrinter(printer)
-    return Device(printer)
+    return Device(printer, form.begin)
 
 
 def send_labels_to(found: Prepared, printer: str, talk: Talk, came: Sized = ()) -> Sender:
     """Sends labels one by one to a printer until something came, and returns the sender, which
     knows what the printer took; raises `ToolError`.
     """
-    sender = Sender(direct_outlet(printer))
+    sender = Sender(found.job, direct_outlet(printer, found.job.form))
     sender.send_all(found, talk, came)
     return sender
 
 
-def save_to(found: Prepared, path: Path, talk: Talk) -> None:
-    """Writes all labels to a file, which has its name once it is whole; raises `ToolError` and
-    `OSError`.
+def save_to(found: Prepared, path: Path, talk: Talk) -> Sender:
+    """Writes all labels to a file, which has its name once it is whole, and returns the sender;
+    raises `ToolError` and `OSError`.
     """
-    Sender(Collected(path.name, partial(save_file, path=path))).send_all(found, talk)
+    sender = Sender(found.job, Collected(path.name, partial(save_file, path=path)))
+    sender.send_all(found, talk)
+    return sender
 
 
 def labels_text(count: int) -> Text:
@@ -271,25 +311,11 @@ def labels_text(count: int) -> Text:
     return counted("{} label", "{} labels", count)
 
 
-def slices_of(found: Sequence[Any], size: int) -> Iterator[Sequence[Any]]:
-    """Yields what was found, as much of it as a message names."""
-    return (found[start : start + size] for start in range(0, len(found), size))
+def may_be_missing(printer: str) -> Text:
+    """Returns what is said of labels that were sent to a printer, and may be on paper."""
+    return Text("may be missing, sent to {}: look there", printer)
 
 
-def may_be_on_paper(printer: str, words: str) -> Text:
-    """Returns what to do about labels that were sent to a printer, and may be on paper; `words`
-    choose them.
-    """
-    reason = Text("may be on paper, from {}: look for it", printer)
-    again = f"{words} --again {shell_word(printer)}"
-    hint = Text(
-        "if it is there, change sending to taken in its line of the journal; if not, print only "
-        "it with {}",
-        again,
-    )
-    return sentence(reason, hint)
-
-
-def by_code(code: bytes) -> str:
-    """Returns the words that choose the label of a code of a journal, and no other one."""
-    return f"--only-code {shell_word(code.decode())}"
+def settling_line(journal: str, words: Sequence[str]) -> str:
+    """Returns the command that settles labels in doubt, which some words choose."""
+    return shell_line([TOOL, "--journal", journal, *words])

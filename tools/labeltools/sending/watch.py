@@ -3,15 +3,19 @@
 import time
 from collections.abc import Sequence
 from contextlib import suppress
-from math import inf
+from dataclasses import replace
 
-from labeltools.common.messages import sentence, Talk
+from labeltools.common.messages import BAD_ARGUMENTS, Problem, Remedy, Talk, ToolError
 from labeltools.common.text import counted, joined, NOTHING, Text
-from labeltools.sending.answers import MORE, QUERIES, Query, Reply
+from labeltools.paper.plan import MILLIMETRES
+from labeltools.sending.answers import DOTS, QUERIES, read_status, Reply
 from labeltools.sending.outlets import Broken, Outlet
 
 IDLE = 10.0  # seconds in which a printer with labels left may print none
-LONGEST = 60.0  # seconds in which it has never fewer labels left, as where others print too
+LONGEST = 60.0  # seconds for which it is asked at most, and for each label that it was sent
+SLOWEST = 5.0  # seconds more
+KNOWN_DPI = (152, 203, 300, 600)  # of 6, 8, 12 and 24 dots a millimetre
+ROUNDED = 0.1  # by which these differ from what is typed for them, such as 200 dpi
 LOOKS = 0.1, 0.5  # seconds between two questions, at first and later
 
 
@@ -20,41 +24,59 @@ class Watch:
     nothing is known of it. `answer` is the last that it said.
     """
 
-    def __init__(self, outlet: Outlet, form: str, talk: Talk) -> None:
-        """Takes a way out, and the form of what is sent."""
+    def __init__(self, outlet: Outlet, form: str, dpi: int = 0) -> None:
+        """Takes a way out, the form of what is sent, and its dots an inch."""
         self.outlet = outlet
-        self.talk = talk
+        self.dpi = dpi
         self.question = QUERIES.get(form)
-        self.more: Query | None = MORE
         self.answer: Reply | None = None
 
-    def report_before(self) -> None:
+    def report_before(self, talk: Talk) -> None:
         """Says what is wrong with a printer before anything is sent, and what it has of before;
-        raises `ToolError` if it is not there.
+        raises `ToolError` if it is not there, or has other dots.
         """
         with suppress(Broken):  # of nothing that was sent
-            self.answer = self.answer_now()
+            self.answer = self.ask()
         if self.answer is None:
             self.question = None
             return
-        for what, cure in self.answer.troubles:
-            self.talk.say(Text("{}: {}", self.outlet.name, what), cure)
+        name = self.outlet.name
+        self.require_dots()
+        for trouble in self.answer.troubles:
+            talk.say(replace(trouble, what=Text("{}: {}", name, trouble.what)))
         if self.answer.left:
-            self.talk.say(Text("{}: {}", self.outlet.name, left_text(self.answer.left)))
+            talk.say(Problem(Text("{}: {}", name, left_text(self.answer.left))))
 
-    def wait_until_printed(self) -> None:
+    def require_dots(self) -> None:
+        """Raises `ToolError` if a printer of ZPL says that it has other dots than the labels: they
+        would be too small or too large.
+        """
+        if self.question is None or self.question.read is not read_status:
+            return
+        answer = None
+        with suppress(Broken):  # of nothing that was sent
+            answer = self.outlet.ask(DOTS)
+        dots = answer.dots if answer else 0
+        if dots and self.dpi and abs(dots * MILLIMETRES / self.dpi - 1) > ROUNDED:
+            near = min(KNOWN_DPI, key=lambda dpi: abs(dpi - dots * MILLIMETRES))
+            what = Text(
+                "{} prints at {} dpi, and the labels have {}", self.outlet.name, near, self.dpi
+            )
+            way = Remedy("dpi", str(near), Text("{} dpi", near))
+            hint = Text("choose its resolution")
+            raise ToolError(what, hint, BAD_ARGUMENTS, (way,))
+
+    def wait_until_printed(self, sent: int) -> None:
         """Asks a printer that answers until nothing is left in it, or something is wrong, or it has
-        printed none for a while, or somebody stops that. Raises `Broken`. One whose number only
-        goes up and down is not asked for ever.
+        printed none for a while, or somebody stops that; whatever it counts, for no longer than it
+        takes to print as many labels as were sent. Raises `Broken`.
         """
         pause, longest = LOOKS
         end = time.monotonic() + IDLE
-        last = time.monotonic() + LONGEST
+        last = time.monotonic() + LONGEST + sent * SLOWEST
         before = self.answer
-        least: float = inf
         while self.question is not None:
-            self.answer = self.answer_now()
-            answer = self.answer
+            self.answer = answer = self.ask()
             if answer is None or answer.left is None:  # nobody knows how many it has left
                 return
             if answer.is_empty or answer.troubles:
@@ -63,30 +85,29 @@ class Watch:
             if has_moved:
                 before = answer
                 end = time.monotonic() + IDLE
-            if answer.left < least:
-                least = answer.left
-                last = time.monotonic() + LONGEST
             if self.outlet.came or time.monotonic() > min(end, last):
                 return
             time.sleep(pause)
             pause = min(2 * pause, longest)
 
-    def answer_now(self) -> Reply | None:
-        """Returns what the printer answers; of one of ZPL that has labels left, and says nothing of
-        why, also what it answers to another question. Raises `Broken`.
+    def ask(self) -> Reply | None:
+        """Returns what the printer answers. One that does not answer is asked no more: what it says
+        later may be of before. Raises `Broken`.
         """
-        if self.question is None:
-            return None
-        answer = self.outlet.ask(self.question)
-        if answer is None or not answer.left or answer.troubles:
-            return answer
-        if self.more is None:
-            return answer
-        more = self.outlet.ask(self.more)
-        if more is None:
-            self.more = None
-            return answer
-        return Reply(more.troubles, answer.left)
+        answer = self.outlet.ask(self.question) if self.question else None
+        if answer is None:
+            self.question = None
+        return answer
+
+    @property
+    def left(self) -> int | None:
+        """How many labels it said last that it has left."""
+        return self.answer.left if self.answer else None
+
+    @property
+    def is_printed(self) -> bool:
+        """Whether the printer says that it has printed all labels."""
+        return self.answer is not None and self.answer.is_empty
 
     @property
     def is_stuck(self) -> bool:
@@ -96,8 +117,8 @@ class Watch:
 
     def report_of_sent(self, labels: Text) -> Text:
         """Returns what is reported of labels that were sent."""
-        answer, name = self.answer, self.outlet.name
-        if answer is not None and answer.is_empty:
+        name = self.outlet.name
+        if self.is_printed:
             return Text("{} printed by {}", labels, name)
         return joined("; ", (Text("{} sent to {}", labels, name), *self.troubles))
 
@@ -106,7 +127,7 @@ class Watch:
         """What the printer has left, and what keeps it from printing."""
         answer = self.answer or Reply()
         left = left_text(answer.left) if answer.left else NOTHING
-        return [*filter(None, (left, *(sentence(*trouble) for trouble in answer.troubles)))]
+        return [*filter(None, (left, *(trouble.line for trouble in answer.troubles)))]
 
 
 def left_text(count: int) -> Text:

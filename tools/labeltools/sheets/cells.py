@@ -15,8 +15,9 @@ from enum import auto, Enum
 from itertools import pairwise
 from typing import NamedTuple, Sequence
 
-from labeltools.common.messages import named_character, quoted, RowError
-from labeltools.common.text import NOTHING, Remedy, Text
+from labeltools.common.messages import named_character, Problem, quoted, Remedies, Remedy, RowError
+from labeltools.common.text import NOTHING, Text
+
 
 LONGEST_CELL = 131068
 LONGEST_ERROR = 30  # letters of what a program writes in place of a text
@@ -51,11 +52,10 @@ WITHOUT = Text("enter it again without them")
 SIZES = Text("has digits of two sizes side by side, as for cents without a decimal sign")
 SAME_SIZE = 0.9  # of two sizes of letters: a smaller share is another size
 RAISED = Text("is a number that is raised or lowered")
-CONDITION = Text(
-    "a condition of the spreadsheet strikes letters out or hides them, and is not read"
-)
-CONDITION_HINT = Text("choose rows with {}", Remedy("where")).in_window(
-    Text("look whether each of them is meant")
+CONDITION = Problem(
+    Text("a condition of the spreadsheet strikes letters out or hides them, and is not read"),
+    Text("look whether each row is meant, or choose rows"),
+    (Remedy("where"),),
 )
 
 
@@ -131,10 +131,11 @@ class Fault(Special):
     what: Text
     hint: Text = NOTHING
     value: str = ""
+    remedies: Remedies = ()
 
     def shown(self) -> str:
         """Raises `RowError`."""
-        raise RowError(self.what, self.hint)
+        raise RowError(self.what, self.hint, remedies=self.remedies)
 
 
 @dataclass(frozen=True)
@@ -193,10 +194,10 @@ class Lettering(NamedTuple):
 
 PLAIN = Lettering()
 NO_LETTERS = {Mark.STRUCK: STRUCK, Mark.WHITE: UNSEEN}  # marks of letters that are none
-Runs = Sequence[tuple[str, Lettering]]  # letters of a cell, each with their form
+Run = tuple[str, Lettering]  # letters of a cell, with their form
 
 
-def text_of_runs(runs: Runs) -> str | Fault:
+def text_of_runs(runs: Sequence[Run]) -> str | Fault:
     """Returns the text of runs: digits that are raised or lowered are such digits. There is none
     if some letters are none, or a number goes on in letters of another size.
 
@@ -273,12 +274,16 @@ def taken_of(cell: Special, use: Use) -> str:
 
 
 def seen_text(cell: Cell) -> str:
-    """Returns a cell as messages and names have it; nothing where it has no text."""
+    """Returns a cell as messages and names have it, whatever is wrong with it; nothing where it has
+    no text.
+    """
     if isinstance(cell, str):
         return cell
     try:
         return cell.shown()
-    except RowError:
+    except MemoryError:
+        raise
+    except Exception:
         return cell.value
 
 

@@ -8,15 +8,21 @@ from dataclasses import dataclass
 from itertools import count, islice
 from typing import NamedTuple
 
-from labeltools.common.budget import Budget, CSV, LINE as WHOLE_LINE, LINE_ENDS, MEGABYTE
-from labeltools.common.column_names import name_of, row_with_names
-from labeltools.common.messages import BAD_ARGUMENTS, named_character, quoted, RowError, ToolError
-from labeltools.common.text import Remedy, Text
+from labeltools.common.budget import check_size, CSV, LINE as WHOLE_LINE, MEGABYTE, TABLE
+from labeltools.common.column_names import name_of
+from labeltools.common.messages import (
+    BAD_ARGUMENTS,
+    named_character,
+    quoted,
+    Remedy,
+    RowError,
+    ToolError,
+)
+from labeltools.common.text import Text
 from labeltools.sheets.encoding import decoded
 from labeltools.sheets.file_options import CsvOptions
-from labeltools.sheets.rows import Row
+from labeltools.sheets.rows import Row, row_with_names
 
-LOOKED_AFTER = 256  # rows, between two looks at the clock
 ROWS_LOOKED_AT = 1000  # for the delimiter
 NAMES_LOOKED_AT = 50  # for the row of names
 MARKS = "\t;,|"  # delimiters that are found by themselves
@@ -29,23 +35,11 @@ SEPARATOR_LINE = re.compile(r'"?sep=([^"\r\n])"?[;,\t]*(?:\r\n|\r|\n|\Z)', re.IG
 LINE_END = re.compile("[\r\n]+")
 LINE = re.compile(r"[^\r\n]*(?:\r\n|\r|\n)|[^\r\n]+")
 FIGURES = re.compile(r"\s*[0-9][0-9 .,'’-]*")  # a code or a price
-BETWEEN = Text("It is between cells")
+BETWEEN = Text("it is between cells")
 UNCLOSED = Text("a quote is not closed")
 AFTER_QUOTE = Text("text after a closing quote")
 AFTER_QUOTE_HINT = Text('write a quote in a quoted cell twice ("")')
 ALL_BELOW = Text("this row and all below it are skipped")
-
-
-class CsvRow(NamedTuple):
-    """A row of CSV by its number; `problem` is why its cells cannot be read."""
-
-    number: int
-    cells: list[str]
-    problem: RowError | None = None
-
-    def is_blank(self) -> bool:
-        """Returns whether the row has nothing in it."""
-        return not self.problem and not any(map(str.strip, self.cells))
 
 
 class Fitness(NamedTuple):
@@ -71,32 +65,35 @@ class Shape:
     rest: int = 0
     asked: Container[int] = ()
 
-    def problem(self, cells: Sequence[str]) -> RowError | None:
-        """Returns why cells of a row that is not blank may have moved.
+    def problem(self, row: Row) -> RowError | None:
+        """Returns why the cells of a row that is not blank may have moved.
 
         >>> shape = Shape(row=1, names=2, width=3, rest=1)
-        >>> shape.problem(["1", "a", "", ""])
-        >>> print(shape.problem(["1", "a", "", "", ""]))
+        >>> shape.problem(Row(2, ["1", "a", "", ""]))
+        >>> print(shape.problem(Row(2, ["1", "a", "", "", ""])))
         the row has 5 cells and row 1 has 3: a cell that contains the delimiter has to be in quotes
-        >>> print(shape.problem(["1"]))
+        >>> print(shape.problem(Row(2, ["1"])))
         the row has 1 of 2 cells: the file may be cut off, so export it again
-        >>> shape.problem(["1", "a", "b"]).what
+        >>> shape.problem(Row(2, ["1", "a", "b"])).what
         'has "b" in column 3, which has no name'
         """
-        if len(cells) < self.names:
-            what = Text("the row has {} of {} cells", len(cells), self.names)
+        count = len(row.cells)
+        if count == self.names:  # most rows, at once
+            return None
+        if count < self.names:
+            what = Text("the row has {} of {} cells", count, self.names)
             return RowError(what, Text("the file may be cut off, so export it again"))
-        is_filled = any(cell.strip() for cell in cells[self.width :])
-        if len(cells) > self.width + self.rest or is_filled:
+        unnamed = {place: row.seen_text(place) for place in range(self.names, count)}
+        filled = [place for place, text in unnamed.items() if text.strip()]
+        if count > self.width + self.rest or any(place >= self.width for place in filled):
             return RowError(
-                Text("the row has {} cells and row {} has {}", len(cells), self.row, self.width),
+                Text("the row has {} cells and row {} has {}", count, self.row, self.width),
                 Text("a cell that contains the delimiter has to be in quotes"),
             )
-        for place in range(self.names, len(cells)):
-            if cells[place].strip() and place not in self.asked:
-                what = Text(
-                    "has {} in column {}, which has no name", quoted(cells[place]), place + 1
-                )
+        for place in filled:
+            if place not in self.asked:
+                text = quoted(unnamed[place])
+                what = Text("has {} in column {}, which has no name", text, place + 1)
                 hint = Text("cells may have moved, so compare the row with the table")
                 return RowError(what, hint)
         return None
@@ -112,11 +109,10 @@ class CsvTable:
     begin: int
     delimiter: str
     options: CsvOptions
-    budget: Budget
 
-    def all_rows(self) -> Iterator[CsvRow]:
-        """Returns the rows of the text, as far as the budget allows."""
-        return parsed(self.text, self.begin, self.delimiter, self.budget)
+    def all_rows(self) -> Iterator[Row]:
+        """Returns the rows of the text."""
+        return parsed(self.text, self.begin, self.delimiter)
 
     def read_rows(self) -> Iterator[Row]:
         """Yields the rows from the row of names on; one whose cells may have moved has a
@@ -126,44 +122,43 @@ class CsvTable:
         rows = (row for row in self.all_rows() if row.number == wanted or not row.is_blank())
         head = next((row for row in rows if row.number >= (wanted or 0)), None)
         if head is None or head.problem:
-            yield from () if head is None else (Row(*head),)
+            yield from () if head is None else (head,)
             return
         shape = self.shape(head)
         for row in self.all_rows():
             if row.number >= head.number:
                 is_read = row.number == head.number or row.problem or row.is_blank()
-                problem = row.problem if is_read else shape.problem(row.cells)
-                yield Row(row.number, row.cells, problem)
+                problem = None if is_read else shape.problem(row)
+                yield row._replace(problem=problem) if problem else row
 
-    def shape(self, head: CsvRow) -> Shape:
+    def shape(self, head: Row) -> Shape:
         """Returns the shape of the table: some exports end each row but the names by a
         delimiter.
         """
-        named = max((place for place, name in enumerate(head.cells, 1) if name.strip()), default=0)
+        named = max((place for place, name in enumerate(head.names, 1) if name), default=0)
         width = len(head.cells)
         below = (row for row in self.all_rows() if row.number > head.number and not row.is_blank())
         beside = [len(row.cells) - width for row in below if len(row.cells) >= named]
         rest = beside[0] if len(beside) > 1 and len(set(beside)) == 1 else 0
         asked = {int(column) - 1 for column in self.options.asked if column.isdecimal()}
-        has_names = self.options.file.has_header is not False
+        has_names = self.options.file.has_names
         return Shape(head.number, named, width, max(rest, 0), asked if has_names else range(width))
 
 
-def csv_table(data: bytes, options: CsvOptions, budget: Budget) -> CsvTable:
-    """Returns a table of text; raises `ToolError` where its encoding or its delimiter is not sure,
-    or if it takes too much.
+def csv_table(data: bytes, name: str, options: CsvOptions) -> CsvTable:
+    """Returns a table of text; raises `ToolError` where its encoding or its delimiter is not
+    sure.
     """
-    budget.allow(CSV, len(data))
-    text = decoded(data, budget.name, options.file.encoding)
-    budget.allow(LINE_ENDS, text.count("\n") + text.count("\r") - text.count("\r\n"))
-    budget.allow(WHOLE_LINE, max(map(len, LINE.findall(text)), default=0))
+    check_size(name, len(data), TABLE, CSV)
+    text = decoded(data, name, options.file.encoding)
+    check_size(name, max(map(len, LINE.findall(text)), default=0), TABLE, WHOLE_LINE)
     begin = 1 if text.startswith("\ufeff") else 0
     given = DELIMITERS.get(options.file.delimiter or "", options.file.delimiter)
     separator = SEPARATOR_LINE.match(text, begin)
     if separator:
         begin = separator.end()
         given = given or separator[1]
-    return CsvTable(text, begin, delimiter_of(text, begin, given, options), options, budget)
+    return CsvTable(text, begin, delimiter_of(text, begin, given, options), options)
 
 
 def delimiter_of(text: str, begin: int, given: str | None, options: CsvOptions) -> str:
@@ -178,9 +173,8 @@ def delimiter_of(text: str, begin: int, given: str | None, options: CsvOptions) 
         if is_cut and given != ONE_COLUMN and not fits[given].is_cut:
             signs = map(named_character, (best, given))
             what = Text("row 1 has {} between cells, and not {}", *signs)
-            remedy = Remedy("delimiter", says=Text("Find what is between cells"), is_less=True)
-            hint = Text("leave out {}", remedy)
-            raise ToolError(what, hint, BAD_ARGUMENTS)
+            remedy = Remedy("delimiter", says=Text("find what is between cells"), is_less=True)
+            raise ToolError(what, status=BAD_ARGUMENTS, remedies=(remedy,))
         return given
     if not is_cut and (later := delimiter_of_names(text, begin, options)):
         return later
@@ -200,24 +194,23 @@ def refuse_delimiter(text: str, begin: int, marks: Sequence[str]) -> None:
     for mark in marks:
         for row in parsed(text, begin, mark):
             if len(row.cells) > 1:
-                hint = Text(
-                    "give {} if it is between cells, {} if it is data",
+                ways = (
                     Remedy("delimiter", "tab" if mark == "\t" else mark, BETWEEN),
-                    Remedy("delimiter", "none", Text("It is data")),
+                    Remedy("delimiter", "none", Text("it is data")),
                 )
                 what = Text("row {} has {}", row.number, named_character(mark))
-                raise ToolError(what, hint, BAD_ARGUMENTS)
+                raise ToolError(what, Text("what is it?"), BAD_ARGUMENTS, ways)
 
 
 def delimiter_of_names(text: str, begin: int, options: CsvOptions) -> str:
     """Returns the delimiter by which a row below has all the names that were asked for; empty for
     none.
     """
-    if options.file.has_header is False:
+    if not options.file.has_names:
         return ""
     for mark in MARKS:
         rows = islice(parsed(text, begin, mark), NAMES_LOOKED_AT)
-        found = row_with_names(((row.number, row.cells) for row in rows), options.asked)
+        found = row_with_names(rows, options.asked)
         if found > 1:
             return mark
     return ""
@@ -227,19 +220,19 @@ def fitness(text: str, begin: int, mark: str, options: CsvOptions) -> Fitness:
     """Returns how well a delimiter fits the row of names and the rows below."""
     header_row = options.file.header_row or 0
     rows = list(islice(parsed(text, begin, mark), header_row + ROWS_LOOKED_AT))
-    filled_rows = [row.cells for row in rows if row.cells and row.number >= header_row]
+    filled_rows = [row for row in rows if row.cells and row.number >= header_row]
     if not filled_rows:
         return Fitness(False, False, 0)
-    names = list(map(name_of, filled_rows[0]))
+    names = filled_rows[0].names
     asked = [name_of(column) for column in options.asked if not column.isdecimal()]
-    widths = Counter(len(cells) for cells in filled_rows if len(cells) > 1)
+    widths = Counter(len(row.cells) for row in filled_rows if len(row.cells) > 1)
     width = len(names) if asked or not widths else widths.most_common(1)[0][0]
     return Fitness(width > 1, all(column in names for column in asked), widths[width])
 
 
-def parsed(text: str, begin: int, delimiter: str, budget: Budget | None = None) -> Iterator[CsvRow]:
-    """Yields the rows with the numbers that a spreadsheet shows, as far as a budget allows; after a
-    quote that does not match, the last one.
+def parsed(text: str, begin: int, delimiter: str) -> Iterator[Row]:
+    """Yields the rows with the numbers that a spreadsheet shows; after a quote that does not match,
+    the last one.
     """
     csv.field_size_limit(MEGABYTE)
     lines = (line[0] for line in LINE.finditer(text, begin))
@@ -248,14 +241,12 @@ def parsed(text: str, begin: int, delimiter: str, budget: Budget | None = None) 
     passed = 0
     for number in count(1):
         first = reader.line_num
-        if budget is not None and number % LOOKED_AFTER == 1:
-            budget.look_at_clock()
         try:
             cells = next(reader)
             if reader.line_num - first > 1 and is_of_rows(cells, delimiter):
-                yield CsvRow(number, [], RowError(UNCLOSED))
+                yield Row(number, [], RowError(UNCLOSED))
             else:
-                yield CsvRow(number, cells)
+                yield Row(number, cells)
         except StopIteration:
             return
         except csv.Error as error:
@@ -293,7 +284,7 @@ def is_of_rows(cells: Sequence[str], delimiter: str) -> bool:
     return False
 
 
-def faulty(number: int, lines: Sequence[str], error: str) -> tuple[CsvRow, bool]:
+def faulty(number: int, lines: Sequence[str], error: str) -> tuple[Row, bool]:
     """Returns the row of lines that are not right CSV, and whether what is below it cannot be
     read.
     """
@@ -307,4 +298,4 @@ def faulty(number: int, lines: Sequence[str], error: str) -> tuple[CsvRow, bool]
         problem = RowError(AFTER_QUOTE, with_below(AFTER_QUOTE_HINT))
     else:
         problem = RowError(with_below(UNCLOSED))
-    return CsvRow(number, [], problem), is_last
+    return Row(number, [], problem), is_last

@@ -1,5 +1,5 @@
 """The encoding of a table of text: the one that it surely has, or else those that may read it, by
-how they read a word.
+how they read a word; and texts whose encoding was applied twice.
 """
 
 import codecs
@@ -9,8 +9,9 @@ from collections.abc import Iterable, Sequence
 from contextlib import suppress
 from itertools import islice
 
-from labeltools.common.messages import BAD_ARGUMENTS, quoted, ToolError
-from labeltools.common.text import hint_of_remedies, joined, Remedy, Text
+from labeltools.common.messages import BAD_ARGUMENTS, quoted, Remedy, ToolError
+from labeltools.common.text import Text
+
 
 # the marks in front of a text; that of UTF-32 before the one of UTF-16, which is its beginning
 UNICODE = ("utf-8", "utf-32-le", "utf-32-be", "utf-16-le", "utf-16-be")
@@ -42,7 +43,7 @@ LETTERS_OF = {
     **dict.fromkeys(UTF_16, (Text("of all languages"), "ä Ж あ")),
 }
 SAVE_AS_UTF_8 = Text("save it as UTF-8")
-CHOOSE = Text("choose what reads well, or save it as UTF-8")
+CHOOSE = Text("save it as UTF-8, or choose what reads well")
 MOST_READINGS = 4
 MOST_LINES = 1000  # that are tried
 MOST_WORDS = 500
@@ -58,6 +59,11 @@ CURRENCY = "€£¥₤₺"
 IN_WORDS = "’‘´`‐–・ー〜"  # signs that words have between letters
 SIGNS = f"{CURRENCY}{IN_WORDS}°²³½¼¾®™©§«»„“”‚—…·×µºª№¡¿¢"  # that tables have beside words
 JAPANESE = ("HIRAGANA", "KATAKANA", "KATAKANA-HIRAGANA", "HALFWIDTH", "FULLWIDTH", "CJK")
+# by what UTF-8 is read wrongly, and how many pairs of letters a word of it has: one may be right
+READ_AS = {"cp1252": 1, "cp850": 1, "mac_roman": 1, "cp1250": 2, "cp1251": 2}
+# what was meant is one of Latin, Greek and Cyrillic letters, or a sign of typography
+MEANT = re.compile("[\0-\x7f\u00a0-\u017f\u0370-\u045f\u2010-\u2044\u20ac\u2122]*")
+TRADE = re.compile("[Ä-áã-ô][®™°»”’]")  # NESCAFÉ®, which cp1252 has, and no UTF-8
 NO_SCRIPTS = ("MODIFIER", "MICRO", "FEMININE", "MASCULINE", "COMBINING")
 
 
@@ -106,42 +112,32 @@ def is_old(data: bytes) -> bool:
 def refuse_other(known: str, codec: str, encoding: str | None, name: str) -> None:
     """Raises `ToolError` where another encoding was given than the one that is known."""
     if known and known not in codec and codec not in known:
-        says = Text("Read the letters as they are stored")
+        says = Text("read the letters as they are stored")
         remedy = Remedy("encoding", encoding or "", says, is_less=True)
-        what = Text("{} is {}", name, known.upper())
-        what = what.in_window(Text("the letters of {} are stored in another way", name))
-        raise ToolError(what, Text("leave out {}", remedy), BAD_ARGUMENTS)
+        what = Text("the letters of {} are stored as {}", name, known.upper())
+        raise ToolError(what, status=BAD_ARGUMENTS, remedies=(remedy,))
 
 
 def unknown_encoding(encoding: str) -> ToolError:
     """Returns the error of an encoding that is none."""
-    in_window = Text("the encoding {} is unknown", quoted(encoding))
-    what = Text("--encoding {} is unknown", quoted(encoding)).in_window(in_window)
-    return ToolError(what, Text("give one as cp1252"), BAD_ARGUMENTS)
+    what = Text("the encoding {} is unknown", quoted(encoding))
+    return ToolError(what, Text("give one as cp1252"), BAD_ARGUMENTS, (Remedy("encoding"),))
 
 
 def wrong_encoding(data: bytes, name: str, codec: str, start: int) -> ToolError:
     """Returns the error of a table in another encoding, with how others would read a word of it."""
     line = data.count(b"\n", 0, start) + 1
     what = Text("{} is not {}, as line {} shows", name, codec.upper(), line)
-    what = what.in_window(Text("it is not clear how the letters of {} are stored", name))
     if data.startswith(tuple(MARKS)):
         return ToolError(what, Text("it is cut off or damaged, save it again"))
     if b"\0" in data:
         read = {codec: first_word(data, codec) for codec in UTF_16}
-        utf = [Remedy("encoding", codec, Text("{}", word)) for codec, word in read.items()]
-        in_window = CHOOSE if any(read.values()) else SAVE_AS_UTF_8
-        hint = Text("save it as UTF-8, or {}", hint_of_remedies(*utf)).in_window(in_window)
-        return ToolError(what, hint)
-    found = readings(data, codec)
-    if not found:
-        return ToolError(what, SAVE_AS_UTF_8)
-    ways = {word: Remedy("encoding", name, Text("{}", word)) for name, word in found.items()}
-    reads = [Text("{:value} reads {}", way, quoted(word)) for word, way in ways.items()]
-    word, best = next(iter(ways.items()))
-    shown = joined(", ", [Text("{} reads {}", best, quoted(word)), *reads[1:]])
-    hint = Text("save it as UTF-8, or give the right one of these: {}", shown)
-    return ToolError(what, hint.in_window(CHOOSE))
+    else:
+        read = readings(data, codec)
+    known = {name: word for name, word in read.items() if word}
+    hint = CHOOSE if known else SAVE_AS_UTF_8
+    ways = (Remedy("encoding", name, Text("{}", word)) for name, word in known.items())
+    return ToolError(what, hint, remedies=tuple(ways))
 
 
 def readings(data: bytes, without: str) -> dict[str, str]:
@@ -265,3 +261,27 @@ def is_odd(word: str) -> bool:
         if not sign.isalpha() and (is_between or sign not in SIGNS):
             return True
     return False
+
+
+def twice_encoded(text: str) -> str:
+    """Returns what a text was before UTF-8 was read as another encoding; the text where it was not.
+
+    >>> twice_encoded("K\\xc3\\xa4se"), twice_encoded("K\\xe4se"), twice_encoded("NESCAF\\xc9\\xae")
+    ('Käse', 'Käse', 'NESCAFÉ®')
+    >>> twice_encoded("Brötchen mit KÃ¤se"), twice_encoded("K├ñse")
+    ('Brötchen mit Käse', 'Käse')
+    """
+    return text if text.isascii() else " ".join(map(meant, text.split(" ")))
+
+
+def meant(word: str) -> str:
+    """Returns what a word was before UTF-8 was read as another encoding; the word where it was
+    not.
+    """
+    for encoding, least in () if word.isascii() else READ_AS.items():
+        with suppress(UnicodeError):
+            before = word.encode(encoding).decode("utf-8")
+            is_meant = MEANT.fullmatch(before) and not TRADE.search(word)
+            if is_meant and len(word) - len(before) >= least:
+                return before
+    return word

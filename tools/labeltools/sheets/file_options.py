@@ -8,10 +8,9 @@ from dataclasses import dataclass
 class FileOptions:
     """How the file is read.
 
-    `has_header` is whether the first row has names, None where that is to be seen; `header_row` is
-    the row of the names, from 1, None for the first one that is not empty. `decimal` is the decimal
-    sign of .xlsx, None for that of the locale; `date_as` is how dates are printed, empty for what
-    the spreadsheet shows.
+    `header_row` is the row of the names, from 1, 0 if there are none, and None for the first one
+    that is not empty. `decimal` is the decimal sign of .xlsx, None for that of the locale;
+    `date_as` is how dates are printed, empty for what the spreadsheet shows.
     """
 
     sheet: str | None = None
@@ -20,8 +19,12 @@ class FileOptions:
     date_as: str = ""
     delimiter: str | None = None
     encoding: str | None = None
-    has_header: bool | None = None
     header_row: int | None = None
+
+    @property
+    def has_names(self) -> bool:
+        """Whether a row may have the names of the columns."""
+        return self.header_row != 0
 
 
 @dataclass(frozen=True)

@@ -15,15 +15,13 @@ from functools import lru_cache
 from pathlib import Path
 from typing import NamedTuple, Sequence
 
-from labeltools.common.messages import quoted, RowError
-from labeltools.common.text import Remedy, Text
+from labeltools.common.messages import quoted, Remedy, RowError
+from labeltools.common.text import Text
 from labeltools.common.word_lists import lists_of
 from labeltools.sheets.cells import AS_TEXT
 
 LONGEST_FORMAT = 255  # letters, as spreadsheets have it
-DATE_HINT = Text(
-    "give {}, or another format", Remedy("date-as", "dd.mm.yyyy", Text("As 31.12.2026"))
-)
+OTHER_DATES = Remedy("date-as", "dd.mm.yyyy", Text("print dates as 31.12.2026"))
 # formats that a file names by their number alone, in so far as they do not depend on the language
 BUILT_IN = {
     "0": "General",
@@ -63,7 +61,7 @@ MOMENT_PART = re.compile(rf"(?P<date>{DATE})|[.,]|{ANY}", LITERAL.flags)
 SECTION = re.compile(r"""(?:"[^"]*"|\\.|[_*].|\[[^\]]*\]|[^;"\\\[])*""", re.DOTALL)
 PATTERN_OF_DATES = re.compile("(?:yyyy|yy|dd?|mm?|hh?|ss?|[-./: ,]|[^\x00-\x7f])+")
 SIGNIFICANT = Context(prec=15)  # the digits of a number in a spreadsheet
-EXACT = Context(prec=400)  # those of any other
+EXACT = Context(prec=600)  # those of any other, with as many decimals as a format has
 FIRST_DAY = 61  # from March 1900 on all spreadsheets count from the same day
 LAST_DAY = 2958465  # the end of 9999
 LATER_IN_1904 = 1462  # days between the two beginnings
@@ -166,7 +164,7 @@ def not_understood(number_format: str, is_code: bool = False) -> RowError:
         return RowError(what, AS_TEXT)
     what = Text("has the number format {}, which is not understood", quoted(number_format))
     if is_date_format(number_format) and not is_code:
-        return RowError(what, DATE_HINT)
+        return RowError(what, remedies=(OTHER_DATES,))
     return RowError(what, AS_TEXT)
 
 

@@ -1,28 +1,28 @@
 """Reads .ods (ISO/IEC 26300)."""
 
 import re
-from collections.abc import Iterator, Mapping
+from collections.abc import Iterable, Iterator, Mapping, Sequence
 from dataclasses import dataclass, field
 from datetime import date, datetime
 from decimal import Decimal
 from itertools import groupby
-from typing import NamedTuple
+from xml.etree.ElementTree import Element, iterparse
+from zipfile import ZipFile
 
-from labeltools.common.budget import CELLS
-from labeltools.common.messages import quoted, RowError, Talk, ToolError
+from labeltools.common.messages import quoted, RowError, Talk
 from labeltools.common.text import Text
 from labeltools.sheets.cells import (
     AS_TEXT,
     Cell,
     CellKind,
     CONDITION,
-    CONDITION_HINT,
     Fault,
     Lettering,
     Mark,
     NO_LETTERS,
     no_value,
     RAISED,
+    Run,
     Special,
     text_of_runs,
     Truth,
@@ -30,33 +30,31 @@ from labeltools.sheets.cells import (
 from labeltools.sheets.number_format import date_section, date_text, DAY_ZERO, digits_of, Formatter
 from labeltools.sheets.rows import Merge, Row
 from labeltools.sheets.workbook import (
-    Archive,
     Attributes,
-    elements,
+    cell_or_fault,
     exact_of,
-    LARGEST_ROW,
     local,
     merges_at,
     MOST_COLUMNS,
     NOT_SAVED,
     NOT_SAVED_HINT,
-    Reader,
+    parts_of,
+    plainly_named,
     repeats,
     rows_from,
     rows_of_chosen,
     SAVE_AGAIN,
-    TOO_LARGE,
     whole_number,
     with_empty_cells,
     Worksheet,
 )
 
-TABLE = "body/spreadsheet/table"
-CONTENT = "content.xml"
-# groups of rows and columns, which may be in one another, and count nothing
-GROUPS = re.compile("/table-(?:row-group|header-rows|rows|column-group|header-columns|columns)")
-# a style, and what is right in it; formats of numbers have properties, too
-STYLE = re.compile("(?:automatic-)?styles/(?:default-)?style(?:/[^/]*)?")
+# what is read of the parts of a file: styles, and columns and rows
+STYLE = "{urn:oasis:names:tc:opendocument:xmlns:style:1.0}"
+TABLE = "{urn:oasis:names:tc:opendocument:xmlns:table:1.0}"
+STYLES = (f"{STYLE}style", f"{STYLE}default-style")
+SHEET, ROW, OF_OTHERS = f"{TABLE}table", f"{TABLE}table-row", f"{TABLE}dde-links"
+WHOLE = (*STYLES, f"{TABLE}table-column", ROW)
 CELL, SPAN = "table-cell", "text"  # families of styles
 PROPERTIES = ("text-properties", "table-cell-properties")
 MOST_PARENTS = 32  # of a style; a file that has more, or a ring of them, is no spreadsheet's
@@ -130,26 +128,24 @@ class Styles:
     parents: dict[tuple[str, str], str] = field(default_factory=dict)
     hidden: set[str] = field(default_factory=set)  # styles of tables that nobody sees
     of_conditions: set[str] = field(default_factory=set)  # styles that conditions give
-    last: tuple[str, str] = ("", "")  # the style that is read
     forms: dict[tuple[str, str], Lettering] = field(
         default_factory=dict
     )  # those that were asked for
 
-    def take_style(self, path: str, found: Mapping[str, str]) -> None:
-        """Takes an element, which may be of a style."""
-        if not STYLE.fullmatch(path):
-            return
-        name = path.rpartition("/")[2]
-        if name in ("style", "default-style"):
-            self.last = found.get("family", ""), found.get("name", "")
-            self.own[self.last] = {}
-            self.parents[self.last] = found.get("parent-style-name", "")
-        elif name in PROPERTIES:
-            self.own[self.last] |= found
-        elif name == "table-properties" and found.get("display") == "false":
-            self.hidden.add(self.last[1])
-        elif name == "map":
-            self.of_conditions.add(found.get("apply-style-name", ""))
+    def take_style(self, style: Element) -> None:
+        """Takes a style."""
+        found = local(style)
+        key = found.get("family", ""), found.get("name", "")
+        own = self.own[key] = {}
+        self.parents[key] = found.get("parent-style-name", "")
+        for element in style:
+            said = local(element)
+            if element.tag in PROPERTIES:
+                own |= said
+            elif element.tag == "table-properties" and said.get("display") == "false":
+                self.hidden.add(key[1])
+            elif element.tag == "map":
+                self.of_conditions.add(said.get("apply-style-name", ""))
 
     def style_values(self, family: str, name: str) -> dict[str, str]:
         """Returns what a style and its parents say, up to the default style."""
@@ -197,253 +193,150 @@ def styled_lettering(said: Mapping[str, str]) -> Lettering:
     return Lettering(Mark.WHITE if is_white else Mark.NONE, points)
 
 
-def styles_of(archive: Archive) -> Styles:
-    """Returns the styles that a file has beside those of its content."""
-    styles = Styles()
-    part = "styles.xml" if "styles.xml" in archive.namelist() else ""
-    for name, found in elements(archive, part):
-        styles.take_style(name, found)
-    return styles
-
-
 def rows_of_ods(
-    archive: Archive, wanted: str | None, formatter: Formatter, talk: Talk
+    archive: ZipFile, wanted: str | None, formatter: Formatter, talk: Talk
 ) -> Iterator[Row]:
     """Yields the rows of the sheet that is wanted, else of the only one that is visible and has
     data.
     """
-    reader = OdsReader(archive, formatter)
-    found = groupby(reader.read(archive, CONTENT), lambda pair: pair[0])
-    sheets = (
-        Worksheet(head.name, head.is_visible, (row for _, row in rows)) for head, rows in found
-    )
-    yield from rows_of_chosen(sheets, wanted)
-    if reader.styles.has_condition():
-        talk.say(CONDITION, CONDITION_HINT)
+    styles = Styles()
+    yield from rows_of_chosen(tables_of(archive, styles, formatter), wanted)
+    if styles.has_condition():
+        talk.say(CONDITION)
 
 
-CellLine = (
-    str | list[tuple[str, str]]
-)  # of a cell: a text, or texts each with the style of its letters
+def tables_of(archive: ZipFile, styles: Styles, formatter: Formatter) -> Iterator[Worksheet]:
+    """Yields the sheets of a file, whose styles are in front of them."""
+    if "styles.xml" in archive.namelist():
+        for style in parts_of(archive, "styles.xml", STYLES):
+            styles.take_style(style)
+    table: Element | None = None
+
+    def with_table(element: Element) -> Element | None:
+        nonlocal table
+        table = element if element.tag == "table" else table
+        return table
+
+    for sheet, elements in groupby(parts_of_content(archive), with_table):
+        if sheet is None:
+            for style in elements:
+                styles.take_style(style)
+            continue
+        said = local(sheet)
+        is_visible = said.get("style-name") not in styles.hidden
+        rows = OdsSheet(styles, formatter).rows(elements)
+        yield Worksheet(said.get("name", ""), is_visible, rows)
 
 
-class OdsSheet(NamedTuple):
-    """A sheet of a file: its place, its name, and whether it can be seen."""
+def parts_of_content(archive: ZipFile) -> Iterator[Element]:
+    """Yields the styles of a file, and each sheet as it begins, before its columns and rows, which
+    are whole. What is in them is none of these; behind all sheets are those of other files.
+    """
+    open_rows = 0
+    with archive.open("content.xml") as stream:
+        for event, element in iterparse(stream, ("start", "end")):
+            name = element.tag
+            if event == "start" and name == ROW:
+                open_rows += 1
+            elif event == "start" and name == SHEET and not open_rows:
+                yield Element("table", element.attrib)
+            elif event == "start" and name == OF_OTHERS:
+                return
+            elif event == "end" and name in WHOLE:
+                open_rows -= name == ROW
+                if not open_rows:
+                    yield plainly_named(element)
+                    element.clear()
 
-    place: int
-    name: str
-    is_visible: bool
 
-
-class OdsReader(Reader[tuple[OdsSheet, Row]]):
-    """Finds the rows of a file, each with its sheet, and an empty row for each sheet.
-
-    `columns` are the styles of the columns, and what follows is of the row and of the cell that are
-    read; `row_depth` and `cell_depth` are those of their elements, 0 for none.
+@dataclass
+class OdsSheet:
+    """A sheet: the styles of its columns, and the places of those that are hidden; the merged
+    cells, and the number of the next row.
     """
 
-    def __init__(self, archive: Archive, formatter: Formatter) -> None:
-        super().__init__()
-        self.formatter = formatter
-        self.styles = styles_of(archive)
-        self.path: list[str] = []  # around the rows
-        self.sheet = OdsSheet(-1, "", False)
-        self.columns: list[str] = []
-        self.hidden_places: set[int] = set()
-        self.number = 1
-        self.merges: list[Merge] = []
-        self.row: Attributes = {}
-        self.row_depth = self.cell_depth = 0
-        self.cells: list[Cell] = []
-        self.links: dict[int, str] = {}
-        self.place = self.letters = 0
-        self.cell: Attributes = {}
-        self.lines: list[CellLine] = []
-        self.line: list[tuple[str, str]] = []  # letters of the line that is read, and their style
-        self.spans: list[str] = []  # styles of letters that are open
-        self.addresses: set[str] = set()
+    styles: Styles
+    formatter: Formatter
+    columns: list[str] = field(default_factory=list)
+    hidden_places: set[int] = field(default_factory=set)
+    merges: list[Merge] = field(default_factory=list)
+    number: int = 1
 
-    def begun(self, name: str, attributes: Attributes) -> None:
-        """Takes an element that begins: right in a cell are its lines, all else in it are comments
-        or pictures.
-        """
-        if self.spans:
-            self.begin_letters(name, local(attributes))
-        elif self.cell_depth:
-            if self.depth == self.cell_depth + 1 and name == "p":
-                self.spans.append("")
-                self.line = []
-        elif self.row_depth:
-            self.cell_depth = self.depth
-            self.begin_cell(local(attributes))
-        else:
-            self.begin_outside(name, local(attributes))
+    def rows(self, elements: Iterable[Element]) -> Iterator[Row]:
+        """Yields the rows of the elements of a sheet, but none that is empty and not hidden."""
+        for element in elements:
+            said = local(element)
+            if element.tag == "table-column":
+                self.add_columns(said)
+            elif element.tag == "table-row":
+                self.merges = merges_at(self.merges, self.number)
+                cells, links = self.cells_of(element, said.get("default-cell-style-name", ""))
+                is_hidden = said.get("visibility", "visible") != "visible"
+                repeat = repeats(said, "number-rows-repeated")
+                if is_hidden or any(cells):
+                    beside = tuple(self.merges), links, self.hidden_places
+                    yield from rows_from(Row(self.number, cells, None, is_hidden, *beside), repeat)
+                self.number += repeat
 
-    def ended(self, name: str) -> None:
-        """Takes the end of an element."""
-        if self.spans:
-            self.end_letters()
-        elif self.depth == self.cell_depth:
-            self.end_cell()
-            self.cell_depth = 0
-        elif self.depth == self.row_depth:
-            self.end_row()
-            self.row_depth = 0
-            self.is_inside = False
-        if not self.is_inside:
-            self.path.pop()
-
-    def begin_outside(self, name: str, attributes: Attributes) -> None:
-        """Begins a sheet, columns or a row."""
-        self.path.append(name)
-        path = GROUPS.sub("", "/".join(self.path[1:]))
-        self.styles.take_style(path, attributes)
-        if path == TABLE and name == "table":
-            self.begin_sheet(attributes)
-        elif path == f"{TABLE}/table-column":
-            self.add_columns(attributes)
-        elif path == f"{TABLE}/table-row":
-            self.begin_row(attributes)
-
-    def begin_sheet(self, attributes: Attributes) -> None:
-        """Begins a sheet."""
-        place = self.sheet.place + 1
-        is_visible = attributes.get("style-name") not in self.styles.hidden
-        self.sheet = OdsSheet(place, attributes.get("name", ""), is_visible)
-        self.columns, self.hidden_places = [], set()
-        self.number = 1
-        self.merges = []
-        self.found.append((self.sheet, Row(0, ())))
-
-    def add_columns(self, attributes: Attributes) -> None:
+    def add_columns(self, said: Attributes) -> None:
         """Adds the style of columns, which may be repeated."""
-        count = repeats(attributes, "number-columns-repeated")
-        style = attributes.get("default-cell-style-name", "")
+        count = repeats(said, "number-columns-repeated")
+        style = said.get("default-cell-style-name", "")
         first = len(self.columns)
         self.columns += [style] * min(count, MOST_COLUMNS - first)
-        if attributes.get("visibility", "visible") != "visible":
+        if said.get("visibility", "visible") != "visible":
             self.hidden_places.update(range(first, len(self.columns)))
 
-    def begin_row(self, attributes: Attributes) -> None:
-        """Begins a row."""
-        self.row = attributes
-        self.row_depth = self.depth
-        self.is_inside = True
-        self.merges = merges_at(self.merges, self.number)
-        self.cells, self.links = [], {}
-        self.place = self.letters = 0
+    def cells_of(self, row: Element, of_row: str) -> tuple[list[Cell], dict[int, str]]:
+        """Returns the cells of a row with a style, each as often as it is repeated, and the
+        addresses that they lead to; columns may differ in their styles.
+        """
+        cells: list[Cell] = []
+        links: dict[int, str] = {}
+        place = 0
+        for element in row:
+            said = local(element)
+            self.add_merge(said, place)
+            begin = place
+            repeat = repeats(said, "number-columns-repeated")
+            place = min(begin + repeat, MOST_COLUMNS + 1)
+            lines = element.findall("p")
+            if not (lines or "value-type" in said or "formula" in said):
+                continue
+            addresses = {local(link).get("href", "") for line in lines for link in line.iter("a")}
+            if len(addresses) == 1:
+                links[begin] = addresses.pop()
+            own = said.get("style-name", "") or of_row
+            made: dict[str, Cell] = {}
+            for at in range(begin, place):
+                style = own or (self.columns[at] if at < len(self.columns) else "")
+                if style not in made:
+                    made[style] = cell_or_fault(self.cell_of, said, lines, style)
+                if cell := made[style]:
+                    with_empty_cells(cells, at).append(cell)
+        return cells, links
 
-    def begin_cell(self, attributes: Attributes) -> None:
-        """Begins a cell."""
-        self.cell = attributes
-        self.lines = []
-        self.addresses.clear()
-        if "number-rows-spanned" not in attributes and "number-columns-spanned" not in attributes:
-            return  # most cells
-        rows = repeats(attributes, "number-rows-spanned")
-        columns = repeats(attributes, "number-columns-spanned")
+    def add_merge(self, said: Attributes, place: int) -> None:
+        """Adds the merged cells that begin at a cell."""
+        rows = repeats(said, "number-rows-spanned")
+        columns = repeats(said, "number-columns-spanned")
         if rows > 1 or columns > 1:
-            last = self.number + rows - 1, self.place + columns - 1
-            self.merges.append(Merge(self.number, self.place, *last))
+            last = self.number + rows - 1, place + columns - 1
+            self.merges.append(Merge(self.number, place, *last))
 
-    def begin_letters(self, name: str, attributes: Attributes) -> None:
-        """Takes what begins in a line: letters with a style, an address, or white space."""
-        self.line.append((self.text, self.spans[-1]))
-        own = attributes.get("style-name", "") if name == "span" else ""
-        is_known = (SPAN, own) in self.styles.own
-        self.spans.append(f"{self.spans[-1]} {own}" if is_known else self.spans[-1])
-        if name == "a":
-            self.addresses.add(attributes.get("href", ""))
-        elif name in SIGNS:
-            count = whole_number(attributes.get("c", "1"))
-            self.add_letters(count)
-            self.line.append((SIGNS[name] * count, self.spans[-1]))
-
-    def end_letters(self) -> None:
-        """Takes the end of a line, or of what is in it."""
-        style = self.spans.pop()
-        if self.line or self.spans:
-            self.line.append((self.text, style))
-        if not self.spans:
-            self.lines.append(self.line or self.text)
-
-    def add_letters(self, count: int) -> None:
-        """Counts letters of the row, of which there may be too many."""
-        self.letters += count
-        if self.letters > LARGEST_ROW:
-            raise ToolError(TOO_LARGE, SAVE_AGAIN)
-
-    def end_cell(self) -> None:
-        """Adds the cell that is read, as often as it is repeated: columns may differ in their
-        styles.
-        """
-        attributes, place = self.cell, self.place
-        repeat = 1
-        if "number-columns-repeated" in attributes:
-            repeat = min(repeats(attributes, "number-columns-repeated"), MOST_COLUMNS + 1 - place)
-        self.place = min(place + repeat, MOST_COLUMNS)
-        if not (self.lines or "value-type" in attributes or "formula" in attributes):
-            return
-        if len(self.addresses) == 1:
-            self.links[place] = self.addresses.pop()
-        own = attributes.get("style-name", "") or self.row.get("default-cell-style-name", "")
-        columns = self.columns[place : place + repeat]
-        made: dict[str, Cell] = {}
-        for offset in range(repeat):
-            style = own or (columns[offset] if offset < len(columns) else "")
-            if style not in made:
-                made[style] = self.cell_by(style)
-            if cell := made[style]:
-                self.add_letters(len(cell) if isinstance(cell, str) else 1)
-                with_empty_cells(self.cells, place + offset, self.budget).append(cell)
-
-    def end_row(self) -> None:
-        """Finds the row that is read, as often as it is repeated, but none that is empty and not
-        hidden.
-        """
-        is_hidden = self.row.get("visibility", "visible") != "visible"
-        repeat = repeats(self.row, "number-rows-repeated")
-        if is_hidden or any(self.cells):
-            merges = tuple(self.merges)
-            beside = merges, self.links, self.hidden_places
-            row = Row(self.number, self.cells, None, is_hidden, *beside)
-            self.found += ((self.sheet, same_row) for same_row in self.repeated(row, repeat))
-        self.number += repeat
-
-    def repeated(self, row: Row, repeat: int) -> Iterator[Row]:
-        """Yields a row as often as it is there, as far as the budget allows."""
-        for number, same_row in enumerate(rows_from(row, self.letters, repeat)):
-            self.budget.take_share(CELLS, len(row.cells) if number else 0)
-            yield same_row
-
-    def line_text(self, line: CellLine, style: str, form: Lettering) -> str | Fault:
-        """Returns the text of a line of a cell of a style."""
-        if isinstance(line, str) and form.mark is Mark.NONE:
-            text: str | Fault = line
-        else:
-            runs = [(line, "")] if isinstance(line, str) else line
-            of = self.styles.form
-            found = [
-                (letters, of(style, span) if span else form) for letters, span in runs if letters
-            ]
-            text = text_of_runs(found)
-        return text if isinstance(text, Fault) else SPACE.sub(" ", text).strip(" ")
-
-    def cell_by(self, style: str) -> Cell:
-        """Returns the cell that is read by its type, its text, and a style."""
+    def cell_of(self, said: Attributes, found: Sequence[Element], style: str) -> Cell:
+        """Returns a cell by its type, its lines, and a style."""
         form = self.styles.form(style)
         lines: list[str] = []
-        for line in self.lines:
-            text = self.line_text(line, style, form)
+        for line in found:
+            text = text_of_runs([*self.runs_of(line, style, "", form)])
             if isinstance(text, Fault):
                 return text
-            lines.append(text)
+            lines.append(SPACE.sub(" ", text).strip(" ").translate(UNSIGNED))
         text = "\n".join(lines)
-        if not text.isprintable():
-            text = text.translate(UNSIGNED)
-        kind = self.cell.get("value-type", "")
+        kind = said.get("value-type", "")
         if kind in NUMBERS:
-            value, moment = self.cell.get("value", ""), self.cell.get("date-value", "")
+            value, moment = said.get("value", ""), said.get("date-value", "")
             if form.mark.moves:
                 return Fault(RAISED, AS_TEXT, value or text)
             exact = exact_of(value) if value else None
@@ -453,9 +346,27 @@ class OdsReader(Reader[tuple[OdsSheet, Row]]):
             return Fault(no_value(text).what, value=text)
         if kind == "boolean":
             return Truth(text)
-        if not kind and "formula" in self.cell and not self.lines:
+        if not kind and "formula" in said and not found:
             return Fault(NOT_SAVED, NOT_SAVED_HINT)
         return text
+
+    def runs_of(self, part: Element, style: str, spans: str, form: Lettering) -> Iterator[Run]:
+        """Yields the letters of a line, or of a part of it, of a cell of a style, each with their
+        form; `spans` are the styles of the parts around it, and `form` is that of its letters.
+        """
+        if part.text:
+            yield part.text, form
+        for inner in part:
+            own, own_form = spans, form
+            name = local(inner).get("style-name", "") if inner.tag == "span" else ""
+            if (SPAN, name) in self.styles.own:
+                own = f"{spans} {name}"
+                own_form = self.styles.form(style, own)
+            if inner.tag in SIGNS:
+                yield SIGNS[inner.tag] * whole_number(local(inner).get("c", "1")), own_form
+            yield from self.runs_of(inner, style, own, own_form)
+            if inner.tail:
+                yield inner.tail, form
 
 
 def days_of(moment: str) -> Decimal:
@@ -464,9 +375,9 @@ def days_of(moment: str) -> Decimal:
     >>> days_of("2026-11-25"), days_of("2026-11-25T12:00:00")
     (Decimal('46351'), Decimal('46351.5'))
     """
+    begin = datetime.combine(date.fromordinal(DAY_ZERO.toordinal()), datetime.min.time())
     try:
-        found = datetime.fromisoformat(moment)
-    except ValueError:
+        past = datetime.fromisoformat(moment) - begin
+    except (ValueError, TypeError):  # one with a time zone is no spreadsheet's
         raise RowError(Text("has {}, which is not a valid date", quoted(moment)), AS_TEXT) from None
-    past = found - datetime.combine(date.fromordinal(DAY_ZERO.toordinal()), datetime.min.time())
     return Decimal(past.days) + Decimal(past.seconds) / 86400

@@ -1,7 +1,9 @@
 """Rows of a table, of whatever kind its file is."""
 
-from typing import Collection, Mapping, NamedTuple, Sequence
+from collections import Counter
+from typing import Collection, Iterable, Mapping, NamedTuple, Sequence
 
+from labeltools.common.column_names import name_of
 from labeltools.common.messages import RowError
 from labeltools.common.text import Text
 from labeltools.sheets.cells import Cell, Fault, seen_text
@@ -39,6 +41,16 @@ class Row(NamedTuple):
         merged = [merge.last_place + 1 for merge in self.merges if merge.row <= self.number]
         return max(len(self.cells), *merged) if merged else len(self.cells)
 
+    @property
+    def texts(self) -> Sequence[str]:
+        """Its cells as messages and names have them."""
+        return [self.seen_text(place) for place in range(len(self.cells))]
+
+    @property
+    def names(self) -> tuple[str, ...]:
+        """The names of columns that it has."""
+        return tuple(map(name_of, self.texts))
+
     def is_blank(self) -> bool:
         """Returns whether the row has nothing in it."""
         if self.problem:
@@ -59,3 +71,19 @@ class Row(NamedTuple):
     def seen_text(self, place: int) -> str:
         """Returns a cell as messages and names have it; nothing where it has no text."""
         return seen_text(self.cell(place))
+
+
+def row_with_names(rows: Iterable[Row], asked: Sequence[str]) -> int:
+    """Returns the first row that has every name that was asked for, once; 0 where there is none.
+
+    >>> row_with_names([Row(1, ["Preisliste"]), Row(5, ["EAN", "Name"])], ["EAN", "Name"])
+    5
+    >>> row_with_names([Row(1, ["a"])], ["EAN"])
+    0
+    """
+    wanted = [name_of(name) for name in asked if not name.isdecimal()]
+    for row in rows:
+        names = Counter(row.names)
+        if wanted and all(names[name] == 1 for name in wanted):
+            return row.number
+    return 0

@@ -4,38 +4,42 @@ evidence speaks for, and what only the keeper knows.
 
 from collections.abc import Collection, Mapping, Sequence
 
-from labeltools.common.budget import Budget, COMPARED
-from labeltools.tables.candidates import (
+from labeltools.tables.code_readings import CodeReading, is_isbn_10, LEAST
+from labeltools.tables.column_samples import (
+    ColumnSample,
+    FEW,
+    has_unit,
+    is_amount,
+    is_money,
+    is_paid,
+    Plainness,
+)
+from labeltools.tables.evidence import Decision, evidences_of, probable_choice
+from labeltools.tables.facts import (
     are_different_texts,
     charged,
     CODE,
     CODES,
-    costs_in,
+    is_margin_more,
+    is_never_above,
     is_of_books,
     is_of_other,
+    is_paid_beside,
     is_plain_title,
     may_be_amounts,
     may_be_code,
+    may_be_taxed,
     may_be_title,
     NO_PRICES,
     PAID,
     PRICE,
     Samples,
     TITLE,
-)
-from labeltools.tables.cell_kinds import FEW, has_unit
-from labeltools.tables.code_readings import CodeReading, is_isbn_10, LEAST
-from labeltools.tables.column_samples import ColumnSample, Plainness
-from labeltools.tables.compared_amounts import (
-    is_above_costs,
-    is_never_above,
-    is_paid_beside,
     with_taxes,
 )
-from labeltools.tables.evidence import evidences_of
-from labeltools.tables.scores import Decision, probable_choice
 from labeltools.tables.variants import variants_in
 
+MOST_PAIRS = 500_000  # of amounts that are compared
 NO_KEYS = ("prices", "cost", "stock")  # what says nothing about which rows are variants
 
 
@@ -87,6 +91,7 @@ def code_candidates(columns: Samples) -> Samples:
     or else any, but for those of something else.
     """
     may_be = {place: column for place, column in columns.items() if may_be_code(column)}
+    may_be = {place: own for place, own in may_be.items() if not own.is_running} or may_be
     if any(column.has_codes for column in may_be.values()):
         may_be = {place: own for place, own in may_be.items() if not own.mostly_pass(is_isbn_10)}
     checked = {place: column for place, column in may_be.items() if column.has_codes}
@@ -157,8 +162,8 @@ def without(columns: Samples, taken: Collection[int]) -> Samples:
 
 
 def name_parts(columns: Samples, taken: Collection[int]) -> Sequence[int]:
-    """Returns the two columns of a first and a last name, which are one title; none if another one
-    has the whole name, or if things have titles, too.
+    """Returns the two columns of a first and a last name, in this order, which are one title; none
+    if another one has the whole name, or if things have titles, too.
     """
     free = title_candidates(columns, taken)
     plain = {place: column for place, column in free.items() if is_plain_title(column)}
@@ -169,7 +174,10 @@ def name_parts(columns: Samples, taken: Collection[int]) -> Sequence[int]:
     is_whole = any(has_part(plain[name], plain[part]) for name in names for part in parts)
     are_persons = all(plain[name].says("persons") for name in names)
     are_things = any(column.says("articles", "descriptions") for column in plain.values())
-    return () if is_whole or are_things or not are_persons else sorted([*parts, *names])
+    if is_whole or are_things or not are_persons:
+        return ()
+    given = [place for place in parts if plain[place].says("given")] or names
+    return sorted([*parts, *names], key=lambda place: (place not in given, place))
 
 
 def has_part(column: ColumnSample, part: ColumnSample) -> bool:
@@ -178,35 +186,27 @@ def has_part(column: ColumnSample, part: ColumnSample) -> bool:
     return 2 * sum(text in whole for whole, text in pairs) >= len(pairs)
 
 
-def price_choice(columns: Samples, taken: Collection[int], budget: Budget) -> Decision:
+def price_choice(columns: Samples, taken: Collection[int]) -> Decision:
     """Returns which column has the price, by what amounts prove, and else by what is probable. If
     none is it surely, the keeper is asked.
     """
-    may_be, proved = price_candidates(columns, taken, budget)
+    may_be, proved = price_candidates(columns, taken)
     if proved is not None and not are_two_paid(may_be, proved):
         return Decision(sorted(may_be), proved)
     if not may_be:
-        return Decision(net_places(without(columns, taken)))
+        free = without(columns, taken)
+        return Decision(net_places(free) or paired_places(compared(free)))
     found = probable_choice(evidences_of(may_be, PRICE))
     near = {place: may_be[place] for place in found.may_be}
     if found.surely is not None:
         rivals = near | advised_beside(may_be, found.surely)
-        price = may_be[found.surely]
-        is_known = is_named_price(price) or is_above_costs(price, costs_in(columns))
-        if is_known and not is_price_asked(rivals, found.surely):
+        if not is_price_asked(rivals, found.surely):
             return found
         near = rivals
     return Decision(sorted(near))
 
 
-def is_named_price(column: ColumnSample) -> bool:
-    """Returns whether the name of a column says that it has prices, or nothing at all."""
-    return not column.name_words or bool(column.says(*PAID, "priced", "advised", "regular", "sale"))
-
-
-def price_candidates(
-    columns: Samples, taken: Collection[int], budget: Budget
-) -> tuple[Samples, int | None]:
+def price_candidates(columns: Samples, taken: Collection[int]) -> tuple[Samples, int | None]:
     """Returns the columns that may have the price, without those of which another one has the tax,
     and the only one of which amounts prove that it has the tax, if there is one.
     """
@@ -214,24 +214,24 @@ def price_candidates(
     amounts = {
         place: column
         for place, column in free.items()
-        if may_be_amounts(column) and not column.says("cost", "old")
+        if may_be_amounts(column) and not column.says("cost", "old") or may_be_taxed(column)
     }
-    bare, whole = with_taxes(compared(amounts, budget))
+    bare, whole = with_taxes(compared(amounts))
     paid = {
         place: column
         for place, column in amounts.items()
-        if place in whole or place not in bare and not column.says(*NO_PRICES)
+        if place in whole or not (place in bare or column.says(*NO_PRICES) or may_be_taxed(column))
     }
     may_be = without_same(paid) if any(column.texts for column in paid.values()) else {}
     return may_be, min(whole) if len(whole) == 1 else None
 
 
-def compared(columns: Samples, budget: Budget) -> Samples:
-    """Returns the columns, if the budget allows to compare the amounts of each one with those of
+def compared(columns: Samples) -> Samples:
+    """Returns the columns, if it takes little to compare the amounts of each one with those of
     each other one; else none: a table has more columns of prices than shops have.
     """
     pairs = len(columns) * sum(len(column.cells) for column in columns.values())
-    return columns if budget.some(COMPARED, pairs) == pairs else {}
+    return columns if pairs <= MOST_PAIRS else {}
 
 
 def without_same(columns: Samples) -> Samples:
@@ -268,6 +268,24 @@ def net_places(columns: Samples) -> Sequence[int]:
     left = without(amounts, unpaid)
     is_net = any(column.says("net") and column.texts for column in left.values())
     return [place for place in left if left[place].says("net", "prices")] if is_net else []
+
+
+def paired_places(columns: Samples) -> Sequence[int]:
+    """Returns the columns of numbers without a known word of which amounts are a margin more than
+    others, or less, which are without one, too, or costs: prices in a language of which no words
+    are listed.
+    """
+    numbers = {place: column for place, column in columns.items() if column.mostly_pass(is_amount)}
+    unknown = {place: column for place, column in numbers.items() if not column.words_by_kind}
+    others = {place for place, column in numbers.items() if place in unknown or column.says("cost")}
+    return [
+        place
+        for place, column in unknown.items()
+        if any(
+            is_margin_more(column, numbers[other]) or is_margin_more(numbers[other], column)
+            for other in others - {place}
+        )
+    ]
 
 
 def advised_beside(columns: Samples, chosen: int) -> Samples:
@@ -314,20 +332,19 @@ def are_two_paid(columns: Samples, chosen: int) -> bool:
     return len(currencies) > 1 or columns[chosen] not in full or len(kinds) > 1
 
 
-def paid_columns(columns: Samples, taken: Collection[int]) -> Sequence[int]:
-    """Returns the columns of money that customers may pay, of those that are not taken."""
-    return [place for place in money_in(columns, taken) if not columns[place].says("cost", "old")]
-
-
-def unpaid_columns(columns: Samples, taken: Collection[int]) -> Sequence[int]:
-    """Returns the columns of money that no customer pays by their names, as costs."""
-    return [place for place in money_in(columns, taken) if columns[place].says(*NO_PRICES)]
-
-
-def money_in(columns: Samples, taken: Collection[int]) -> Sequence[int]:
-    """Returns the columns of money, of those that are not taken."""
-    free = without(columns, taken).items()
-    return [place for place, column in free if may_be_amounts(column)]
+def amounts_in(columns: Samples) -> Sequence[int]:
+    """Returns the columns of amounts, whatever their names say, but for numbers of things and of
+    rows; money comes first.
+    """
+    found = [
+        place
+        for place, column in columns.items()
+        if column.passing_part(is_paid) > 0
+        and not column.is_running
+        and column.mostly_pass(is_amount)
+        and not column.says("numbers", *CODES)
+    ]
+    return sorted(found, key=lambda place: not columns[place].mostly_pass(is_money))
 
 
 def unit_price_choice(columns: Samples, taken: Collection[int]) -> Decision:

@@ -9,17 +9,24 @@ from functools import partial
 from labeltools.common.messages import RowError
 from labeltools.common.text import NOTHING, Text
 from labeltools.lines.symbologies import CODE128, QR
-from labeltools.tables.codes import check_isbn, code_of, CodeRules, has_length
+from labeltools.tables.codes import (
+    check_isbn,
+    code_of,
+    CodeRules,
+    has_length,
+    NO_CHECK_DIGIT,
+    ZEROS_ARE_LOST,
+)
 
 NO_BARS = re.compile(".*://.*|.{31,}")
 # numbers of a library or a shop: with letters, or longer than any EAN; but none as 4.01E+12
 OWN_NUMBER = re.compile(r"(?=.*[^\W\d_])[\w./-]+|[1-9][0-9]{13,}")
 LEAST = 0.5  # the part of the cells of a column that are of its kind
 MOST_CHANCE = 3  # numbers whose check digits agree by chance, all of them, in one case of 1000
-WITH_ZEROS = CodeRules(fill_zeros=True)
+WITH_ZEROS = CodeRules(digits=ZEROS_ARE_LOST)
 # how numbers that are no EAN or UPC as they are may be meant
 ANY_TEXT = CodeRules(CODE128.name)
-OTHER_WAYS = (WITH_ZEROS, CodeRules(without_check_digit=True), ANY_TEXT)
+OTHER_WAYS = (WITH_ZEROS, CodeRules(digits=NO_CHECK_DIGIT), ANY_TEXT)
 
 
 @dataclass(frozen=True)

@@ -1,12 +1,12 @@
 """What a code is: it is taken only where it is sure."""
 
 import re
-from dataclasses import dataclass, replace
+from dataclasses import dataclass
 from functools import cached_property
 from typing import NamedTuple, Sequence
 
-from labeltools.common.messages import named_character, quoted, RowError
-from labeltools.common.text import counted, hint_of_remedies, joined, Remedy, Text
+from labeltools.common.messages import named_character, Problem, quoted, Remedy, RowError
+from labeltools.common.text import counted, joined, NOTHING, Text
 from labeltools.lines.symbologies import (
     check_digit,
     CODE128,
@@ -19,6 +19,7 @@ from labeltools.lines.symbologies import (
     UPCA,
 )
 from labeltools.sheets.cells import (
+    AS_TEXT,
     IS_ROUNDED_DATA,
     NO_CODES,
     PROGRAM_ERROR,
@@ -28,68 +29,68 @@ from labeltools.sheets.cells import (
 
 AUTO = "auto"
 FREE = (CODE128.name, QR.name)
+# symbologies by the letters and digits of their names
+NAMED = {
+    **{name: name for name in (*SYMBOLOGIES, AUTO)},
+    **{"qrcode": "qr", "gtin13": "ean13", "gtin8": "ean8", "upc": "upca", "gtin12": "upca"},
+}
 NAMES = (AUTO, *(number.name for number in NUMBERS.values()), *FREE)
 LENGTHS = {number.name: length for length, number in NUMBERS.items()}
-MOST_ZEROS = 3  # that --fill-zeros puts back
+ZEROS_ARE_LOST, NO_CHECK_DIGIT = WAYS_OF_DIGITS = ("lost-zeros", "no-check")
+MOST_ZEROS = 3  # that are put back
 # a number with decimals, or in groups: those of an ISBN, and those that are printed below bars
 WITH_SIGNS = re.compile(
     r"\d+[.,]0+|97[89](?:[- ]?\d){10}|\d \d{6} \d{6}|\d{4} \d{4}|\d \d{5} \d{5} \d"
 )
 ISBN_10 = re.compile("(?:[0-9][- ]?){8,9}[0-9Xx]")
 # 4,00635E+12 shows at most six digits; as 4006350000000 it has six zeros before the check digit
-LOOKS_ROUNDED = re.compile("[0-9]*0{6}[0-9]|(?=.{11})0*[0-9]{1,6}0+")
+LOOKS_ROUNDED = re.compile("[0-9]*0{6}[0-9]|(?=.{11})0*+[1-9][0-9]{0,5}0+")
 IS_ROUNDED = re.compile("[0-9]+(?:[.,][0-9]+)?[Ee][+]?[0-9]+")
 KEYS = sorted({key for symbology in SYMBOLOGIES.values() for key in symbology.settings})
-WITH_SETTINGS = Text("delete it, and give it with {}", Remedy("settings"))
+WITH_SETTINGS = Text("delete it, and give it for all codes")
 # what would be drawn though nobody means it, and what to do about it
-AROUND = (
-    (
-        rf"(?:{'|'.join(KEYS)})=\S*(?: .*)?",
-        Text("begins with a setting"),
-        WITH_SETTINGS.in_window(Text("delete it")),
+AROUND = {
+    rf"(?:{'|'.join(KEYS)})=\S*(?: .*)?": Problem(
+        Text("begins with a setting"), WITH_SETTINGS, (Remedy("settings"),)
     ),
-    (r"\s.*", Text("begins with a space"), Text("delete the space")),
-    (r".*\s", Text("ends in a space"), Text("delete the space")),
-    (r"\".*\"|'.+'|[“„].*[“”]|«.*»|».*«", Text("is in quotes"), Text("delete the quotes")),
-    ("'.*", Text("begins with an apostrophe"), Text("delete the apostrophe")),
-    (r"\*.+\*", Text("is between asterisks"), Text("delete the asterisks")),
-)
-AROUND_DATA = re.compile("|".join(pattern for pattern, _, _ in AROUND), re.DOTALL)
+    r"\s.*": Problem(Text("begins with a space"), Text("delete the space")),
+    r".*\s": Problem(Text("ends in a space"), Text("delete the space")),
+    r"\".*\"|'.+'|[“„].*[“”]|«.*»|».*«": Problem(Text("is in quotes"), Text("delete the quotes")),
+    "'.*": Problem(Text("begins with an apostrophe"), Text("delete the apostrophe")),
+    r"\*.+\*": Problem(Text("is between asterisks"), Text("delete the asterisks")),
+}
+AROUND_DATA = re.compile("|".join(AROUND), re.DOTALL)
 # what GS1's texts in brackets begin with: an SSCC, or a GTIN
 IN_BRACKETS = re.compile(r"\((?:00\)(?=[0-9]{18})|0[12]\)(?=[0-9]{14}))([0-9]+).*", re.DOTALL)
-WITHOUT_DIGIT = Remedy("without-check-digit", says=Text("The codes have no check digit"))
-NO_CHECK_DIGITS = Text("if the column has no check digits, {}", hint_of_remedies(WITHOUT_DIGIT))
+WITHOUT_DIGIT = Remedy("digits", NO_CHECK_DIGIT, Text("add check digits to the codes"))
 
 
 def kind_remedy(name: str) -> Remedy:
     """Returns the choice of a symbology."""
-    says = Text("Find their kind")
+    says = Text("find their kind")
     if name in SYMBOLOGIES:
-        says = Text("The codes are {}", SYMBOLOGIES[name].title)
+        says = Text("draw the codes as {}", SYMBOLOGIES[name].title)
     return Remedy("symbology", name, says)
 
 
-OTHER_CODES = Text(
-    "a code that is not an EAN or UPC needs {} (bars) or {:value}", *map(kind_remedy, FREE)
-).in_window(Text("for such codes choose Code 128 or QR as the kind of code, for all labels"))
-HAS_DIGIT = replace(WITHOUT_DIGIT, says=Text("The codes have a check digit"), is_less=True)
-ONLY_WITHOUT = Text("give {} only if no number has one", HAS_DIGIT)
-FILL_ZEROS = Remedy("fill-zeros", says=Text("Put lost zeros back in front"))
-NO_ZEROS = replace(FILL_ZEROS, says=Text("Put no zeros in front"), is_less=True)
-LOST_ZEROS = Text("give {} if leading zeros are lost", FILL_ZEROS)
-AUTO_OR_LOST_ZEROS = Text("give {}, or {} if leading zeros are lost", kind_remedy(AUTO), FILL_ZEROS)
+ARE_MISSING = Text("are check digits missing?")
+OTHER_KIND = Text("is it another kind of code?")
+OTHER_CODES = tuple(map(kind_remedy, FREE))
+HAS_DIGIT = Remedy("digits", says=Text("take the last digit as the check digit"), is_less=True)
+LOST_ZEROS = Text("are leading zeros lost?")
+FILL_ZEROS = Remedy("digits", ZEROS_ARE_LOST, Text("put lost zeros back in front"))
+NO_ZEROS = Remedy("digits", says=Text("put no zeros in front"), is_less=True)
 NOT_SHORT = 7  # digits: shorter numbers are no EAN or UPC that has lost some
 
 
 @dataclass(frozen=True)
 class CodeRules:
-    """How codes are read: the symbology, or `auto`, and what to do about digits that are
-    missing.
+    """How codes are read: the symbology, or `auto`; which digits are missing, if some are; and
+    whether they may look rounded.
     """
 
     symbology: str = AUTO
-    fill_zeros: bool = False
-    without_check_digit: bool = False
+    digits: str = ""
     allow_zeros: bool = False
 
     @cached_property
@@ -126,8 +127,11 @@ def code_of(cell: str, rules: CodeRules) -> Code:
     if rules.is_free:
         check_data(cell)
         return Code(rules.symbology, cell, cell)
-    missing = rules.without_check_digit
-    digits = digits_in(cell.strip().removeprefix("'"), not missing)
+    missing = rules.digits == NO_CHECK_DIGIT
+    bare = cell.strip().removeprefix("'")
+    if not bare:
+        raise RowError(Text("{} {}", quoted(cell), Text("has neither a letter nor a digit")))
+    digits = digits_in(bare, not missing)
     if len(digits) == 14 and digits[0] == "0" and is_right(digits) and not missing:
         has_two = rules.symbology == UPCA.name and digits[1] == "0"
         digits = digits[2:] if has_two else digits[1:]
@@ -136,11 +140,19 @@ def code_of(cell: str, rules: CodeRules) -> Code:
     if not missing and not is_right(filled):
         raise wrong_check_digit(filled, len(digits), rules)
     if LOOKS_ROUNDED.fullmatch(filled + "0" * missing) and not rules.allow_zeros:
-        remedy = Remedy("allow-zeros", says=Text("Codes may end with zeros"))
-        again = Text("enter it again as text")
-        hint = Text("enter it again as text, or {}", hint_of_remedies(remedy)).in_window(again)
-        raise RowError(Text("{} looks rounded by the spreadsheet", filled), hint)
+        remedy = Remedy("allow-zeros", says=Text("take codes that end in zeros"))
+        what = Text("{} looks rounded by the spreadsheet", filled)
+        raise RowError(what, AS_TEXT, remedies=(remedy,))
     return Code(symbology, filled, filled + check_digit(filled) if missing else filled)
+
+
+def symbology_named(text: str) -> str:
+    """Returns the symbology that a text names, or `auto`; empty if it names none.
+
+    >>> symbology_named("EAN-13"), symbology_named("QR code"), symbology_named("Kind")
+    ('ean13', 'qr', '')
+    """
+    return NAMED.get(re.sub("[^a-z0-9]", "", text.casefold()), "")
 
 
 def has_length(text: str) -> bool:
@@ -160,14 +172,12 @@ def check_data(cell: str) -> None:
     if cell.strip().casefold() in NO_CODES or PROGRAM_ERROR.fullmatch(cell.strip()):
         raise RowError(Text("{} is what a program writes if it has no value", quoted(cell)))
     if AROUND_DATA.fullmatch(cell):
-        found = (
-            (pattern, around, hint)
-            for pattern, around, hint in AROUND
-            if re.fullmatch(pattern, cell, re.DOTALL)
+        matches = (
+            around for pattern, around in AROUND.items() if re.fullmatch(pattern, cell, re.S)
         )
-        _, around, hint = next(found)
-        what = Text("{} {}, which would become part of the code", quoted(cell), around)
-        raise RowError(what, hint)
+        around = next(matches)
+        what = Text("{} {}, which would become part of the code", quoted(cell), around.what)
+        raise RowError(what, around.hint, remedies=around.remedies)
 
 
 def is_in_brackets(data: str) -> bool:
@@ -201,7 +211,7 @@ def digits_in(cell: str, has_check_digit: bool) -> str:
             other.start() + 1,
             named_character(other.group()),
         )
-        raise OtherCode(what, OTHER_CODES)
+        raise OtherCode(what, OTHER_KIND, remedies=OTHER_CODES)
     return digits
 
 
@@ -227,24 +237,24 @@ def symbology_of(digits: str, rules: CodeRules) -> str:
     """Returns the symbology of a number by its digits, if there is one; raises `RowError` where two
     may be meant.
     """
-    missing = rules.without_check_digit
+    missing = rules.digits == NO_CHECK_DIGIT
     count = len(digits) + missing
-    is_short = rules.fill_zeros and count == 7 and is_right(digits)
-    has_all_digits = digits[0] == "0" and count == 8
+    are_lost = rules.digits == ZEROS_ARE_LOST
+    is_short = are_lost and count == 7 and is_right(digits)
+    has_all_digits = digits[:1] == "0" and count == 8
     if has_all_digits or is_short:
-        hint = Text("for an EAN-8 {}", hint_of_remedies(kind_remedy(EAN8.name)))
-        raise RowError(Text("{} may be a UPC-E, which labels does not draw", digits), hint)
+        what = Text("{} may be a UPC-E, which labels does not draw", digits)
+        raise RowError(what, Text("is it an EAN-8?"), remedies=(kind_remedy(EAN8.name),))
     if missing and count in NUMBERS and is_right(digits):
-        hint = Text("if not, {}", hint_of_remedies(kind_remedy(NUMBERS[count].name)))
-        raise RowError(Text("{} may have its check digit", digits), hint)
+        what = Text("{} may have its check digit", digits)
+        raise RowError(what, Text("is it missing?"), remedies=(kind_remedy(NUMBERS[count].name),))
     name = NUMBERS[count].name if count in NUMBERS else ""
-    if rules.fill_zeros and EAN13.digits - MOST_ZEROS <= count <= EAN13.digits:
+    if are_lost and EAN13.digits - MOST_ZEROS <= count <= EAN13.digits:
         name = EAN13.name
     if len(digits.lstrip("0")) + missing <= 8 < count:
-        hint = Text("write its {} digits", 8 - missing)
-        if name:
-            hint = Text("{}, or {}", hint, hint_of_remedies(kind_remedy(name))).in_window(hint)
-        raise RowError(Text("{} may be an EAN-8 with zeros in front", digits), hint)
+        what = Text("{} may be an EAN-8 with zeros in front", digits)
+        remedies = (kind_remedy(name),) if name else ()
+        raise RowError(what, Text("write its {} digits", 8 - missing), remedies=remedies)
     return name
 
 
@@ -252,9 +262,9 @@ def filled_up(digits: str, symbology: str, rules: CodeRules) -> str:
     """Returns the digits of a number, with the zeros that it has lost; raises `RowError` for
     another length.
     """
-    length = LENGTHS.get(symbology, 0) - rules.without_check_digit
+    length = LENGTHS.get(symbology, 0) - (rules.digits == NO_CHECK_DIGIT)
     filled = digits
-    if rules.fill_zeros and len(digits) >= length - MOST_ZEROS:
+    if rules.digits == ZEROS_ARE_LOST and len(digits) >= length - MOST_ZEROS:
         filled = digits.zfill(length)
     if len(filled) != length:
         raise wrong_length(digits, [symbology] if symbology else list(LENGTHS), rules)
@@ -264,32 +274,34 @@ def filled_up(digits: str, symbology: str, rules: CodeRules) -> str:
 def wrong_length(digits: str, asked: Sequence[str], rules: CodeRules) -> RowError:
     """Returns the error of a number with other digits than its symbology has, and what to do."""
     count = len(digits)
-    missing = rules.without_check_digit
+    missing = rules.digits == NO_CHECK_DIGIT
     lengths = joined(", ", (code_length(name, missing) for name in asked))
     what = counted("{1} has {0} digit, {2}", "{1} has {0} digits, {2}", count, digits[:20], lengths)
     is_auto = rules.symbology == AUTO
     may_miss = count + 1 in NUMBERS and not missing
     eight = EAN8.digits - missing
     has_zeros = asked == [EAN8.name] and len(digits.lstrip("0")) <= eight < count
-    hints = (
-        (has_zeros, Text("write its {} digits", eight)),
-        (count == 14, Text("a GTIN-14 is drawn as ITF-14, which labels does not draw")),
-        (count == EAN13.digits and not missing, hint_of_remedies(kind_remedy(AUTO))),
-        (not NOT_SHORT <= count <= EAN13.digits, OTHER_CODES),
-        (missing, ONLY_WITHOUT),
-        (is_right(digits) and is_auto, LOST_ZEROS),
-        (is_right(digits), AUTO_OR_LOST_ZEROS),
-        (may_miss, NO_CHECK_DIGITS),
+    if has_zeros:
+        return RowError(what, Text("write its {} digits", eight))
+    if count == 14:
+        return RowError(what, Text("a GTIN-14 is drawn as ITF-14, which labels does not draw"))
+    helps = (
+        (count == EAN13.digits and not missing, NOTHING, (kind_remedy(AUTO),)),
+        (not NOT_SHORT <= count <= EAN13.digits, OTHER_KIND, OTHER_CODES),
+        (missing, Text("have some a check digit?"), (HAS_DIGIT,)),
+        (is_right(digits) and is_auto, LOST_ZEROS, (FILL_ZEROS,)),
+        (is_right(digits), LOST_ZEROS, (FILL_ZEROS, kind_remedy(AUTO))),
+        (may_miss, ARE_MISSING, (WITHOUT_DIGIT,)),
+        (True, OTHER_KIND, OTHER_CODES),
     )
-    hint = next((hint for is_so, hint in hints if is_so), OTHER_CODES)
-    return OtherCode(what, hint) if hint is OTHER_CODES else RowError(what, hint)
+    hint, remedies = next((hint, remedies) for is_so, hint, remedies in helps if is_so)
+    kind = OtherCode if remedies is OTHER_CODES else RowError
+    return kind(what, hint, remedies=remedies)
 
 
 def code_length(name: str, missing: bool) -> Text:
-    """Returns how many digits codes of a symbology have; a window says its title."""
-    count = LENGTHS[name] - missing
-    in_window = Text("{} has {}", SYMBOLOGIES[name].title, count)
-    return Text("{} has {}", name, count).in_window(in_window)
+    """Returns how many digits codes of a symbology have."""
+    return Text("{} has {}", SYMBOLOGIES[name].title, LENGTHS[name] - missing)
 
 
 def wrong_check_digit(filled: str, count: int, rules: CodeRules) -> WrongDigit:
@@ -300,4 +312,6 @@ def wrong_check_digit(filled: str, count: int, rules: CodeRules) -> WrongDigit:
     what = Text("{}: a digit is wrong (with these digits the last one would be {})", filled, right)
     hint = Text("compare the number with the article")
     may_miss = rules.symbology == AUTO and count == 12
-    return WrongDigit(what, joined("; ", (hint, NO_CHECK_DIGITS)) if may_miss else hint)
+    if may_miss:
+        return WrongDigit(what, joined("; ", (hint, ARE_MISSING)), remedies=(WITHOUT_DIGIT,))
+    return WrongDigit(what, hint)

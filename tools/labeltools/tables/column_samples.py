@@ -1,4 +1,6 @@
-"""Columns of a table by some of their cells, and what their names say in words that are known."""
+"""Columns of a table by some of their cells, each of which may be a number of an article, a name,
+an amount of money or a count, and what their names say in words that are known.
+"""
 
 import re
 from collections.abc import Callable, Iterable, Mapping, Sequence
@@ -8,11 +10,28 @@ from enum import IntEnum
 from functools import cached_property
 from os.path import commonprefix
 
-from labeltools.tables.cell_kinds import amount_in, is_money
 from labeltools.tables.code_readings import has_lost_zeros, is_code, LEAST, passing_share
 from labeltools.tables.columns import NAME_WITH_DIGITS
+from labeltools.tables.money import price_or_none, read_unit_price
 from labeltools.tables.name_words import column_words, words_in
 
+# what may be the number of an article: three digits and more, but neither a date nor a count
+ARTICLE = re.compile(
+    r"(?!\d{1,4}[./-]\d{1,2}[./-]\d{1,4}\Z)(?=(?:.*[0-9]){3})(?:(?=.*[A-Za-z])|(?=[^.]{5}))"
+    r"[\w./-]{4,30}|\S+://\S+"
+)
+AMOUNT = re.compile("[0-9]{1,8}(?:[.,][0-9]+)?")
+ABOVE_ZERO = re.compile("[1-9]")
+FEW = re.compile("[0-9]{1,2}")  # as many labels of a thing as people print at once
+ERROR = re.compile("#.+|Err:.+")  # of a spreadsheet, in place of a number
+FIGURES = re.compile(r"[\W_]*[0-9][\W\d_]*")  # a date or an amount, which is no name
+LETTER = re.compile(r"[^\W\d_]")
+LETTERS = re.compile(r"(?:[^\W\d][\W\d]*){3}")  # those that a title has
+SPACE = re.compile(r"\S\s+\S")
+INITIALED = re.compile(r"[^\W\d_]{1,4} [0-9]{2,8}")  # a number of a thing, as `K 201`
+# a word with digits among its letters, as the number of a booking, which several tickets share
+BOOKING = re.compile(r"(?=\S*[0-9])(?=\S*[^\W\d_])[^\W_]{5,12}")
+TAG = re.compile(r"\s*<[a-z][^<>]*>.*", re.DOTALL | re.IGNORECASE)  # what HTML begins with
 DIGITS = re.compile("[0-9]+")
 FIVE_DIGITS = re.compile("(?:[0-9][^0-9]?){5}")  # an EAN-8 without its three zeros has as many
 MANY = 6  # names that begin alike by no chance
@@ -82,6 +101,11 @@ class ColumnSample:
         """The part of its texts that are not there before, which is 1 of a column of codes."""
         return len(set(self.texts)) / max(1, len(self.texts))
 
+    @property
+    def is_running(self) -> bool:
+        """Whether it has the numbers of its rows, from 1."""
+        return [*self.cells] == [str(number) for number, _ in enumerate(self.cells, 1)]
+
     def says(self, *kinds: str) -> frozenset[str]:
         """Returns the words of its name that are in the lists of these kinds.
 
@@ -125,3 +149,55 @@ def samples_of(names: Sequence[str], cells: Iterable[Sequence[str]]) -> list[Col
     costs = (column for column in named if column.mostly_pass(is_money))
     shop = shop.union(*(cost.name_words - cost.says("cost") for cost in costs))
     return [replace(column, shared=shop & column.name_words, parts={}) for column in found]
+
+
+def has_letters(text: str) -> bool:
+    """Returns whether a text may be a title: it has letters, and is neither a number of an article
+    nor an amount of money.
+    """
+    if not any(map(str.isalpha, text)) or ARTICLE.fullmatch(text):
+        return False
+    return not is_money(text)
+
+
+def is_amount(text: str) -> bool:
+    """Returns whether a text may be a price."""
+    return AMOUNT.fullmatch(text) is not None or is_money(text)
+
+
+def is_paid(text: str) -> bool:
+    """Returns whether a text may be a price that is not zero."""
+    return ABOVE_ZERO.search(text) is not None and is_amount(text)
+
+
+def is_charged(text: str) -> bool:
+    """Returns whether a text may be a price that is not zero, or an error in place of one."""
+    return ERROR.fullmatch(text) is not None or is_paid(text)
+
+
+def has_currency(text: str) -> bool:
+    """Returns whether a text is a price with a currency."""
+    price = price_or_none(text)
+    return price is not None and price.currency != ""
+
+
+def has_unit(text: str) -> bool:
+    """Returns whether a text is the price of a unit, as 7,96 €/kg.
+
+    >>> has_unit("7,96 €/kg"), has_unit("1 kg = 7,96 €"), has_unit("7,96 €")
+    (True, True, False)
+    """
+    price = price_or_none(text, read_unit_price)
+    return price is not None and (price.unit or price.basis) != ""
+
+
+def is_money(text: str) -> bool:
+    """Returns whether a text is a price with two decimals or a currency."""
+    price = price_or_none(text)
+    return price is not None and (price.decimals == 2 or price.currency != "")
+
+
+def amount_in(text: str) -> Decimal | None:
+    """Returns the amount of a price; None if it is none, or zero."""
+    price = price_or_none(text)
+    return price.value or None if price else None

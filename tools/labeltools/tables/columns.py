@@ -5,11 +5,11 @@ from dataclasses import dataclass, replace
 from decimal import Decimal
 from difflib import get_close_matches
 from itertools import islice
-from typing import Iterable, Sequence
+from typing import Iterator, NamedTuple, Sequence
 
-from labeltools.common.column_names import name_of, NUMBER, row_with_names
-from labeltools.common.messages import BAD_ARGUMENTS, quoted, RowError, ToolError
-from labeltools.common.text import hint_of_remedies, Remedy, Text
+from labeltools.common.column_names import name_of, NUMBER
+from labeltools.common.messages import BAD_ARGUMENTS, quoted, Remedy, RowError, ToolError
+from labeltools.common.text import Text
 from labeltools.lines.file import MOST_COPIES
 from labeltools.sheets.cells import (
     CellKind,
@@ -25,7 +25,9 @@ from labeltools.sheets.cells import (
     UNSEEN_PRICE,
     UNSEEN_TEXT,
 )
-from labeltools.sheets.rows import Row
+from labeltools.sheets.number_format import Formatter
+from labeltools.sheets.rows import Row, row_with_names
+from labeltools.tables.codes import NAMES
 from labeltools.tables.table_options import Columns, TableOptions
 
 ROWS_LOOKED_AT = 50  # for the row of names
@@ -48,7 +50,9 @@ class Column:
 
     def cell_error(self, problem: RowError) -> RowError:
         """Returns the error of a cell, with the column in front."""
-        return RowError(Text("{} {}", self.title, problem.what), problem.hint, self.place)
+        error = problem.saying(Text("{} {}", self.title, problem.what))
+        error.column = self.place
+        return error
 
     def code_text(self, row: Row, is_free: bool) -> str:
         """Returns the text of a code, which is not empty; raises `RowError`."""
@@ -93,7 +97,7 @@ class Column:
                     "is {}: copies are a whole number from 0 to {}", quoted(text), MOST_COPIES
                 )
                 raise RowError(what)
-            return int(re.split("[.,]", text)[0])
+            return int(re.split("[.,]", text.lstrip("0") or "0")[0] or "0")
         except RowError as problem:
             raise self.cell_error(problem) from None
 
@@ -117,42 +121,42 @@ class Column:
         return is_number and Decimal(value.replace(",", ".")) == cell.number()
 
 
-@dataclass(frozen=True)
-class Head:
-    """The row of names, or the first row of a table without names, which then has none."""
+class Start(NamedTuple):
+    """A table that is open: the row of names, or else its first row, which then has no names; the
+    rows below, and how its numbers are shown.
+    """
 
     row: Row
     names: tuple[str, ...]
+    rows: Iterator[Row]
+    formatter: Formatter
 
 
-def columns_of(head: Head, rows: Iterable[Row], options: TableOptions) -> Columns[Column]:
+def columns_of(head: Start, options: TableOptions) -> Columns[Column]:
     """Returns the columns that were asked for; raises `ToolError` where one is not sure.
 
-    Where the names are in one of the next `rows`, the message says in which one.
+    Where the names are in one of the next rows, the message says in which one.
     """
     asked = options.columns
     try:
+        if asked.symbology is not None:
+            refuse_no_kind(asked.symbology, head)
         found = asked.map(lambda argument: column_of(argument, head))
         check_code(found.code, head, options)
         return replace(
             found, where=tuple((column, name_of(value)) for column, value in found.where)
         )
     except ToolError as error:
-        texts = ((row.number, texts_of(row)) for row in islice(rows, ROWS_LOOKED_AT))
-        later = row_with_names(texts, asked.asked) if options.file.has_header is not False else 0
+        next_rows = islice(head.rows, ROWS_LOOKED_AT)
+        later = row_with_names(next_rows, asked.asked) if options.file.has_names else 0
         if later:
-            remedy = Remedy("header-row", str(later), Text("The names are in row {}", later))
-            hint = Text("the names are in row {}: {}", later, hint_of_remedies(remedy))
-            raise ToolError(error.what, hint, BAD_ARGUMENTS) from None
+            says = Text("take the names from row {}", later)
+            remedies = (Remedy("header-row", str(later), says),)
+            raise ToolError(error.what, status=BAD_ARGUMENTS, remedies=remedies) from None
         raise
 
 
-def texts_of(row: Row) -> list[str]:
-    """Returns the texts of a row."""
-    return [row.seen_text(place) for place in range(len(row.cells))]
-
-
-def column_of(argument: str, head: Head) -> Column:
+def column_of(argument: str, head: Start) -> Column:
     """Returns the column of a name or number; raises `ToolError` where that is not sure."""
     wanted = name_of(argument)
     places = [place for place, name in enumerate(head.names) if name and name == wanted]
@@ -181,16 +185,31 @@ def column_word(names: Sequence[str], place: int) -> str:
     return name if is_sure else str(place + 1)
 
 
-def not_one(argument: str, head: Head, count: int) -> ToolError:
-    """Returns the error of a column that is not there, or there several times."""
-    names = head.names or texts_of(head.row)
+def refuse_no_kind(argument: str, head: Start) -> None:
+    """Raises `ToolError` for what is neither a symbology nor the column of them."""
+    if name_of(argument) not in head.names and not argument.isdecimal():
+        where = head.row.number, listed_names(head)
+        what = Text(
+            "{} is neither a symbology nor a column; row {} has {}", quoted(argument), *where
+        )
+        hint = Text("give one of {}, or the column that has them", ", ".join(NAMES))
+        raise ToolError(what, hint, BAD_ARGUMENTS)
+
+
+def listed_names(head: Start) -> str:
+    """Returns the names of the columns with their numbers, the first ones of many."""
+    names = head.names or head.row.texts
     listed = [f"{number} {quoted(name)}" for number, name in enumerate(names, 1)]
-    more = [".."] if len(listed) > LISTED else []
-    has = ", ".join(listed[:LISTED] + more)
-    row = head.row.number
+    return ", ".join(listed[:LISTED] + ([".."] if len(listed) > LISTED else []))
+
+
+def not_one(argument: str, head: Start, count: int) -> ToolError:
+    """Returns the error of a column that is not there, or there several times."""
+    row, has = head.row.number, listed_names(head)
     what = Text("no column {}; row {} has {}", quoted(argument), row, has)
     if count:
         what = Text("several columns {}; row {} has {}", quoted(argument), row, has)
+    names = head.names or head.row.texts
     by_letters = {name.casefold(): name for name in names if name}
     alike = get_close_matches(name_of(argument).casefold(), by_letters, 1)
     if alike and not count:
@@ -207,22 +226,16 @@ def refuse_wide_name(place: int, name: str, row: Row) -> None:
             raise ToolError(what, Text("give the number of one of these columns"), BAD_ARGUMENTS)
 
 
-def check_code(column: Column, head: Head, options: TableOptions) -> None:
+def check_code(column: Column, head: Start, options: TableOptions) -> None:
     """Raises `ToolError` where the first row may be an article, and nothing says it."""
-    is_said = options.file.has_header is not None or options.file.header_row is not None
+    is_said = options.file.header_row is not None
     cell = head.row.seen_text(column.place)
     may_be_code = re.search("[0-9]", NAME_WITH_DIGITS.sub("", cell)) is not None
     may_be_code = may_be_code or options.codes.is_free and cell != ""
     if options.columns.code.isdecimal() and may_be_code and not is_said:
         what = Text("row {} has {} in column {}", head.row.number, quoted(cell), column.place + 1)
-        hint = Text(
-            "give {} if that is a code, {} if it is a name",
-            Remedy("no-header", says=Text("It is a code")),
-            Remedy("header", says=Text("It is a name")),
+        remedies = (
+            Remedy("header-row", "0", Text("it is a code")),
+            Remedy("header-row", str(head.row.number), Text("it is a name")),
         )
-        raise ToolError(what, hint, BAD_ARGUMENTS)
-
-
-def column_names(row: Row) -> tuple[str, ...]:
-    """Returns the names of columns that a row has."""
-    return tuple(map(name_of, texts_of(row)))
+        raise ToolError(what, Text("what is it?"), BAD_ARGUMENTS, remedies)

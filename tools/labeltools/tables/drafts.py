@@ -3,23 +3,28 @@
 import re
 from dataclasses import dataclass, replace
 from decimal import Decimal
-from typing import Iterator, NamedTuple, Sequence
+from typing import NamedTuple, Sequence
 
-from labeltools.common.column_names import is_repeated, name_of
-from labeltools.common.messages import quoted, RowError
-from labeltools.common.text import Remedy, Text
+from labeltools.common.column_names import name_of
+from labeltools.common.messages import Problem, quoted, Remedy, RowError
+from labeltools.common.text import Text
 from labeltools.lines.file import Record
 from labeltools.lines.symbologies import SYMBOLOGIES
+from labeltools.sheets.encoding import twice_encoded
+from labeltools.sheets.number_format import EXACT
 from labeltools.sheets.rows import Row
-from labeltools.tables.codes import Code, code_of, CodeRules, is_in_brackets
+from labeltools.tables.codes import Code, code_of, CodeRules, is_in_brackets, symbology_named
 from labeltools.tables.columns import Column
 from labeltools.tables.findings import Findings, HAS_DIGIT
 from labeltools.tables.money import (
     ARITHMETIC,
+    IS_RIGHT,
+    LOOK_OF_PRICES,
     Money,
     MOST_DECIMALS,
     MOST_LOST,
     NotMoney,
+    Price,
     PROGRAM_DECIMALS,
     read_price,
     read_unit_price,
@@ -27,7 +32,6 @@ from labeltools.tables.money import (
 from labeltools.tables.name_words import column_words, folded
 from labeltools.tables.price_words import currency_of, currency_remedy, plain_signs
 from labeltools.tables.table_options import Columns, TableOptions
-from labeltools.tables.twice import twice_encoded
 from labeltools.tables.variants import Variants
 
 OWN_TABLE = Text("make it a table of its own")
@@ -37,40 +41,21 @@ KIND_OF_CODES = re.compile(
     r"(?:EAN|GTIN|UPC|ISBN|JAN)(?:[- ]?(?:[0-9]{1,2}|code|A|E))?", re.IGNORECASE
 )
 MONTH = re.compile(r"(?:[1-9]|1[0-2])\.(?:19|20)[0-9]{2}")  # 12.2026, of which Excel makes a date
-MONTH_HINT = Text("give {} if it is none", Remedy("price-as")).in_window(
-    Text("if it is none, choose how prices are printed")
-)
+MONTH_HINT = Text("if it is none, choose how prices are printed")
 MONTH_LENGTHS = (6, 7)
-SHOWN_DECIMALS = 6  # of the number of a cell, in a message
-
-
-# symbologies by the letters and digits of their names
-NAMED = {
-    **{name: name for name in (*SYMBOLOGIES, "auto")},
-    **{"qrcode": "qr", "gtin13": "ean13", "gtin8": "ean8", "upc": "upca", "gtin12": "upca"},
-}
-
-
-class Price(NamedTuple):
-    """A price of a row: the text of its cell, what it means, and the currency of the row.
-
-    `money` is None for free text; `currency` is None where the table has no such column.
-    """
-
-    column: Column
-    text: str
-    money: Money | None
-    currency: str | None
+SHOWN_DECIMALS = Decimal("0.000001")  # of the number of a cell, in a message
 
 
 class Draft(NamedTuple):
     """A row with a right code: its label, before its prices are written; these are the price, the
-    price of a unit, and the old price, None if there is none.
+    price of a unit, and the old price. `currency` is that of the row, None where the table has no
+    column of them.
     """
 
     code: Code
     record: Record
-    prices: tuple[Price | None, Price | None, Price | None]
+    prices: tuple[Price, Price, Price]
+    currency: str | None
 
 
 @dataclass
@@ -102,7 +87,7 @@ class DraftReader:
         if self.columns.variants_of:
             self.variants.see_title(row)
         columns = self.columns
-        if columns.where and not self.has_wanted_values(row):
+        if not all(column.has_value(row, value) for column, value in columns.where):
             return None
         code = self.row_code(row)
         self.right_codes += 1
@@ -118,14 +103,10 @@ class DraftReader:
             copies=copies,
             names=tuple(texts),
         )
-        price = self.row_price(columns.price, row, currency)
-        unit = self.row_price(columns.unit_price, row, currency) if columns.unit_price else None
-        was = self.row_price(columns.old_price, row, currency) if columns.old_price else None
-        return Draft(code, record, (price, unit, was))
-
-    def has_wanted_values(self, row: Row) -> bool:
-        """Returns whether a row has the value of each column that decides which rows are taken."""
-        return all(column.has_value(row, value) for column, value in self.columns.where)
+        price, unit, was = (
+            self.row_price(column, row, currency) if column else "" for column in columns.prices
+        )
+        return Draft(code, record, (price, unit, was), currency)
 
     def refuse_names(self, row: Row) -> None:
         """Raises `RowError` for a row that has the names of the columns again, and for one that
@@ -134,21 +115,19 @@ class DraftReader:
         if self.other_names:
             what = Text("the row is below row {}, which names other columns", self.other_names)
             raise RowError(what, OWN_TABLE)
-        if is_repeated(bare_texts(row), self.names):
+        typed = (cell if isinstance(cell, str) else cell.value for cell in row.cells)
+        texts = [name_of(cell) if cell else "" for cell in typed]
+        if is_repeated(texts, self.names):
             raise RowError(Text("the row has the names of the columns again"))
-        if self.names_others(row):
+        if self.names_others(texts):
             self.other_names = row.number
             raise RowError(Text("the row names other columns than the first one"), OWN_TABLE)
 
-    def names_others(self, row: Row) -> bool:
-        """Returns whether half of the cells of a row are names of columns, and one that is asked
+    def names_others(self, texts: Sequence[str]) -> bool:
+        """Returns whether half of the texts of a row are names of columns, and one that is asked
         for is in another place, or has another name in its place. A row whose code is the name of
-        its column, or of codes, names others, too, where no other cell has digits.
+        its column, or of codes, names others, too, where no other text has digits.
         """
-        texts = [
-            name_of(cell if isinstance(cell, str) else cell.value) if cell else ""
-            for cell in row.cells
-        ]
         place = self.columns.code.place
         code, *others = (*texts[place : place + 1], *texts[:place], *texts[place + 1 :])
         if not self.names:
@@ -176,10 +155,10 @@ class DraftReader:
             text = self.linked(row, text, link)
         code = code_of(text, rules)
         if rules.is_free and is_in_brackets(code.data):
-            said = Text(
+            what = Text(
                 "the code of row {} is GS1's in brackets, which is drawn as plain text", row.number
             )
-            self.findings.see("brackets", said, Text("no scanner of GS1 takes it"))
+            self.findings.see(column, Problem(what, Text("no scanner of GS1 takes it")))
         if self.options.settings and (wrong := self.options.wrong_setting(code.symbology)):
             raise RowError(Text("{} has no setting {}", SYMBOLOGIES[code.symbology].title, wrong))
         return code
@@ -189,10 +168,9 @@ class DraftReader:
         if self.options.links:
             return link
         if link != text:
-            said = Text("the code of row {} is a text that leads to an address", row.number)
-            remedy = Remedy("links", says=Text("Draw the address"))
-            hint = Text("give {} to draw the address", remedy)
-            self.findings.see("link", said, hint)
+            what = Text("the code of row {} is a text that leads to an address", row.number)
+            remedy = Remedy("links", says=Text("draw the address"))
+            self.findings.see(self.columns.code, Problem(what, remedies=(remedy,)))
         return text
 
     def rules(self, row: Row) -> CodeRules:
@@ -204,12 +182,7 @@ class DraftReader:
             return rules
         symbology = symbology_in(self.columns.symbology, row, rules.symbology)
         is_number = not CodeRules(symbology).is_free
-        return replace(
-            rules,
-            symbology=symbology,
-            fill_zeros=rules.fill_zeros and is_number,
-            without_check_digit=rules.without_check_digit and is_number,
-        )
+        return replace(rules, symbology=symbology, digits=rules.digits if is_number else "")
 
     def texts(self, columns: Sequence[Column], row: Row, code: Code) -> dict[str, str]:
         """Returns the texts of columns that are not empty, by their names; that of the codes gives
@@ -232,26 +205,25 @@ class DraftReader:
             raise column.cell_error(RowError(what, Text("export the table again")))
         self.findings.see_text(column, row.number, text)
 
-    def check_shown_price(self, price: Price, row: int, number: Decimal) -> None:
+    def check_shown_price(self, column: Column, row: int, money: Money, number: Decimal) -> None:
         """Looks at a price that is the number of a cell; raises `RowError` where it is shown as
         another one. Rounded to two decimals or more it is the same price. What is no rounding, as
         digits that its format adds, is another one.
         """
-        money = price.money
-        if money is None or money.currency == "cent":
+        if money.currency == "cent":
             return
         lost = abs(money.value - number)
         if lost <= ARITHMETIC:  # most prices, at once
             return
-        value = format(round(number, SHOWN_DECIMALS).normalize(), "f")
+        value = format(number.quantize(SHOWN_DECIMALS, context=EXACT).normalize(), "f")
         most = min(abs(number) * MOST_LOST, HALF.scaleb(-money.decimals) + ARITHMETIC)
         if lost > most:
-            what = Text("is shown as {}, and its value is {}", quoted(price.text), value)
+            what = Text("is shown as {}, and its value is {}", quoted(money.text), value)
             hint = Text("give it a number format of two decimals")
-            raise price.column.cell_error(RowError(what, hint))
+            raise column.cell_error(RowError(what, hint))
         if money.decimals < 2:
-            said = Text("row {} shows the price {}, and its value is {}", row, price.text, value)
-            self.findings.see(("rounded", price.column), said)
+            what = Text("row {} shows the price {}, and its value is {}", row, money.text, value)
+            self.findings.see(column, Problem(what))
 
     def row_currency(self, row: Row) -> str | None:
         """Returns the currency of a row, None where the table has no column of them; raises
@@ -266,54 +238,59 @@ class DraftReader:
             raise column.cell_error(RowError(what, Text("write it as EUR or €")))
         is_known = currency_of(plain_signs(found), self.options.prices.currency_name) is not None
         if found and not is_known:
-            said = Text("row {} has the currency {}, which is not known", row.number, quoted(found))
-            hint = Text("if it is right, give {}", currency_remedy(found))
-            self.findings.see("currency", said, hint)
+            what = Text("row {} has the currency {}, which is not known", row.number, quoted(found))
+            self.findings.see(column, Problem(what, IS_RIGHT, (currency_remedy(found),)))
         return found
 
-    def row_price(self, column: Column | None, row: Row, currency: str | None) -> Price | None:
-        """Returns the price of a column, None where there is none; raises `RowError`."""
-        if column is None:
-            return None
+    def row_price(self, column: Column, row: Row, currency: str | None) -> Price:
+        """Returns the price of a column; raises `RowError`."""
         text = column.price_text(row)
         if not text:
-            return None
+            return ""
         cell = row.cells[column.place]
         number = None if isinstance(cell, str) else cell.number()
         rules = self.options.prices
         try:
             may_be_month = number is None and len(text) in MONTH_LENGTHS and MONTH.fullmatch(text)
             if may_be_month and not (rules.is_text or rules.pattern):
-                raise NotMoney(Text("may be a month"), MONTH_HINT)
+                raise NotMoney(Text("may be a month"), MONTH_HINT, remedies=(LOOK_OF_PRICES,))
             is_unit = column is self.columns.unit_price
-            money = self.money(text, is_unit, currency or rules.currency_name)
+            price = self.price_of(text, is_unit, currency or rules.currency_name)
         except NotMoney as problem:
             what = Text("has {}, which is not a price: it {}", quoted(text), problem.what)
             is_zero = not isinstance(cell, str) and cell.value and not cell.value.strip("0.")
-            hint = ZERO_HINT if is_zero else problem.hint
-            raise column.cell_error(RowError(what, hint)) from None
-        if money is None or number is None:
-            return Price(column, text, money, currency)
-        found = Price(column, text, money.nearest_to(number), currency)
-        self.check_shown_price(found, row.number, number)
-        return found
+            error = RowError(what, ZERO_HINT) if is_zero else problem.saying(what)
+            raise column.cell_error(error) from None
+        if isinstance(price, str) or number is None:
+            return price
+        price = price.nearest_to(number)
+        self.check_shown_price(column, row.number, price, number)
+        return price
 
-    def money(self, text: str, is_unit: bool, currency: str) -> Money | None:
-        """Returns the price of a text, None for free text; raises `NotMoney`."""
+    def price_of(self, text: str, is_unit: bool, currency: str) -> Price:
+        """Returns the price that a text is; raises `NotMoney`."""
         rules = self.options.prices
         if rules.is_text:
             if not any(map(str.isalnum, text)):
                 raise NotMoney(Text("has neither a letter nor a digit"))
-            return None
+            return text
         most = PROGRAM_DECIMALS if rules.pattern else MOST_DECIMALS
         if is_unit:
             return read_unit_price(text, currency, most)
         return read_price(text, currency, most)
 
 
-def bare_texts(row: Row) -> Iterator[str]:
-    """Yields the cells of a row as they were typed."""
-    return (cell if isinstance(cell, str) else cell.value for cell in row.cells)
+def is_repeated(texts: Sequence[str], names: Sequence[str]) -> bool:
+    """Returns whether the texts of a row are the names again, as lists have them on each page.
+
+    Two texts at least have to be the same.
+
+    >>> names = ["EAN", "Name", "Preis"]
+    >>> is_repeated(["EAN", "Name", ""], names), is_repeated(["EAN", "Pen", "1"], names)
+    (True, False)
+    """
+    filled = [(text, name) for text, name in zip(texts, names) if text]
+    return len(filled) > 1 and all(text == name for text, name in filled)
 
 
 def is_name_of_codes(text: str) -> bool:
@@ -335,8 +312,8 @@ def symbology_in(column: Column, row: Row, default: str) -> str:
     text = column.compared_text(row)
     if not text:
         return default
-    found = NAMED.get(re.sub("[^a-z0-9]", "", text.casefold()))
-    if found is None:
+    found = symbology_named(text)
+    if not found:
         listed = ", ".join(kind.title for kind in SYMBOLOGIES.values())
         what = Text("has {}, which is not a symbology", quoted(text))
         raise column.cell_error(RowError(what, Text("it is one of {}", listed)))

@@ -1,33 +1,31 @@
 """Guesses what the columns of a table are for, by their names and by what is in their cells. A
 window shows the guess, label-table proposes it, and the keeper of the shop decides.
 
-A table goes through these modules: header_row.py finds the names; column_samples.py reads words in
-them and looks at the cells; candidates.py says which columns may have the code, the title or the
-price at all; compared_amounts.py proves what it can about prices; evidence.py gathers what the
-columns show; scores.py weighs it, by weights.list. choices.py decides by all of them, and asks the
-keeper what is below the margin.
+A table goes through these modules: here its names are found; column_samples.py reads words in them
+and looks at the cells; facts.py says which columns may have the code, the title or the price at
+all, and proves what it can about prices; evidence.py gathers what the columns show, and weighs it
+by weights.list. choices.py decides by all of them, and asks the keeper what is below the margin.
 """
 
-from collections.abc import Collection, Iterator, Mapping, Sequence
+import unicodedata
+from collections.abc import Collection, Iterable, Iterator, Mapping, Sequence
 from dataclasses import dataclass, field, replace
-from itertools import islice, zip_longest
+from itertools import islice, takewhile, zip_longest
 
-from labeltools.common.budget import Budget, LOOKED_AT, NAMES_LOOKED_AT, Share
+from labeltools.common.budget import LOOKED_AT, NAMES_LOOKED_AT, Share
 from labeltools.common.messages import Silence, Talk
 from labeltools.sheets.cells import FORMULA_OF_TEXT
 from labeltools.sheets.rows import Row
-from labeltools.tables.candidates import Samples
 from labeltools.tables.choices import (
+    amounts_in,
     are_single_things,
     code_choice,
     copies_choice,
     name_parts,
     old_price_choice,
-    paid_columns,
     price_choice,
     title_choice,
     unit_price_choice,
-    unpaid_columns,
     variants_place,
     without,
 )
@@ -39,17 +37,19 @@ from labeltools.tables.code_readings import (
     reading_of,
 )
 from labeltools.tables.codes import CodeRules
-from labeltools.tables.column_samples import ColumnSample, DIGITS, samples_of
-from labeltools.tables.columns import column_names, texts_of
-from labeltools.tables.header_row import guessed_header
+from labeltools.tables.column_samples import ARTICLE, ColumnSample, DIGITS, FIGURES, samples_of
+from labeltools.tables.columns import Start
+from labeltools.tables.evidence import Decision
+from labeltools.tables.facts import Samples
+from labeltools.tables.name_words import column_words, words_in
 from labeltools.tables.price_words import are_currencies
 from labeltools.tables.prices import pattern_for
-from labeltools.tables.scores import Decision
-from labeltools.tables.table import head_of, Start
+from labeltools.tables.table import head_of
 from labeltools.tables.table_options import TableOptions
 
 SAMPLE = 300  # rows that are looked at, fewer of a table with very many columns
 LONGEST = 1000  # letters of a cell, whose kind these show
+MOST_WORDS = 5  # of a name
 OWN = CodeReading([ANY_TEXT])
 
 
@@ -59,7 +59,7 @@ class Guess:
     column may be read that may have the codes; the row of the names, 0 where there is none; a text
     of each column; the `doubts` that only the keeper can settle, and the `others` that may be meant
     beside what was found; columns that belong to these; the formats that the prices need, by their
-    columns; and the columns of money that no customer pays, where there is no other one.
+    columns; and all columns of amounts.
     """
 
     names: Sequence[str]
@@ -71,12 +71,16 @@ class Guess:
     others: Mapping[str, Sequence[int]] = field(default_factory=dict)
     beside: Mapping[str, int] = field(default_factory=dict)
     formats: Mapping[int, str] = field(default_factory=dict)
-    unpaid: Sequence[int] = ()
+    amounts: Sequence[int] = ()
 
     @property
     def rules(self) -> CodeRules:
         """How the codes that may be meant first are read, as far as it is sure."""
-        reading = next(iter(self.codes.values()), CodeReading())
+        return self.rules_of(next(iter(self.codes), -1))
+
+    def rules_of(self, place: int) -> CodeRules:
+        """Returns how the codes of a column are read, as far as it is sure."""
+        reading = self.codes.get(place, CodeReading())
         return CodeRules() if reading.problem else reading.rules[0]
 
     def is_named_as_code(self, place: int) -> bool:
@@ -85,72 +89,91 @@ class Guess:
         return bool(DIGITS.search(name)) and DIGITS.sub("0", name) == DIGITS.sub("0", example)
 
 
-def guess_of(
-    data: bytes, name: str, options: TableOptions, talk: Talk, budget: Budget | None = None
-) -> Guess:
+def guess_of(data: bytes, name: str, options: TableOptions, talk: Talk) -> Guess:
     """Returns a guess of a table; raises `ToolError` where it cannot be read."""
-    budget = budget or Budget(name, len(data))
     file = options.file
-    if file.has_header is None and file.header_row is None:
-        start = head_of(data, name, options, talk, budget)
-        top = guessed_header([start.head.row, *sample_of(start, budget, LOOKED_AT)])
-        named = replace(options, file=replace(file, has_header=True, header_row=top.number))
-        found = guess_of(data, name, named, talk, budget)
-        has_code = any(passing_share([text], is_code) for text in column_names(top) if text)
+    if file.header_row is None:
+        start = head_of(data, name, options, talk)
+        top = guessed_header([start.row, *sample_of(start, len(data), LOOKED_AT)])
+        named = replace(options, file=replace(file, header_row=top.number))
+        found = guess_of(data, name, named, talk)
+        has_code = any(passing_share([text], is_code) for text in top.names if text)
         if not has_code and not any(map(found.is_named_as_code, found.codes)):
             return found
-        options = replace(options, file=replace(file, has_header=False))
-    return guess(*table_columns(data, name, options, talk, budget), budget)
+        options = replace(options, file=replace(file, header_row=0))
+    return guess(*table_columns(data, name, options, talk))
 
 
-def names_of(data: bytes, options: TableOptions, budget: Budget) -> Sequence[str]:
+def names_of(data: bytes, name: str, options: TableOptions) -> Sequence[str]:
     """Returns the names of the columns of a table alone; raises `ToolError` where it cannot be
     read.
     """
-    start = head_of(data, budget.name, options, Silence(), budget)
-    if options.file.has_header is None and options.file.header_row is None:
-        rows = [start.head.row, *sample_of(start, budget, NAMES_LOOKED_AT)]
-        return column_names(guessed_header(rows))
-    return start.head.names
+    start = head_of(data, name, options, Silence())
+    if options.file.header_row is None:
+        rows = [start.row, *sample_of(start, len(data), NAMES_LOOKED_AT)]
+        return guessed_header(rows).names
+    return start.names
+
+
+def guessed_header(rows: Sequence[Row]) -> Row:
+    """Returns the row of the names: it has more than half as many cells as any row, and no date or
+    amount, if there is such a row above the articles; of several the first one of those that have
+    most of the words that are known. What is above it is a title.
+    """
+    cells = [[name for name in row.names if name] for row in rows]
+    most = max(map(len, cells))
+    wide = [place for place, texts in enumerate(cells) if 2 * len(texts) > most]
+    above = takewhile(lambda place: not any(map(ARTICLE.fullmatch, cells[place])), wide)
+    names = [place for place in above if not any(map(FIGURES.fullmatch, cells[place]))]
+    return rows[max(names or wide[:1], key=lambda place: known_in(cells[place]))]
+
+
+def known_in(texts: Iterable[str]) -> int:
+    """Returns how many different texts are short, with a word that the names of columns have."""
+    of_texts = ([*words_in(text)] for text in {*texts})
+    return sum(len(words) <= MOST_WORDS and any(map(is_known, words)) for words in of_texts)
+
+
+def is_known(word: str) -> bool:
+    """Returns whether a word is one of the names of columns."""
+    return any(words.knows(word) for words in column_words().values())
 
 
 def table_columns(
-    data: bytes, name: str, options: TableOptions, talk: Talk, budget: Budget
+    data: bytes, name: str, options: TableOptions, talk: Talk
 ) -> tuple[Sequence[Sequence[str]], int, Collection[int]]:
     """Returns the columns of a table, each with its name in front, the row of the names, and the
     places of the hidden ones; raises `ToolError` where it cannot be read.
     """
-    start = head_of(data, name, options, talk, budget)
-    names, head, file = start.head.names, start.head.row, options.file
-    rows = sample_of(start, budget, LOOKED_AT)
+    start = head_of(data, name, options, talk)
+    names, head, file = start.names, start.row, options.file
+    rows = sample_of(start, len(data), LOOKED_AT)
     shown = (row for row in rows if file.hidden or not row.is_hidden)
     right = (row for row in shown if not (row.problem or row.is_blank()))
-    cells = [texts_of(row) for row in right if column_names(row) != names]
+    cells = [row.texts for row in right if row.names != names]
     columns = [*zip_longest(names, *cells, fillvalue="")]
-    number = 0 if file.has_header is False else head.number
+    number = head.number if file.has_names else 0
     return columns, number, () if file.hidden else head.hidden_places
 
 
-def sample_of(start: Start, budget: Budget, share: Share) -> Iterator[Row]:
-    """Returns the first rows below the names, as many as the budget allows to look at."""
-    width = max(1, len(start.head.row.cells))
-    return islice(start.rows, max(1, budget.some(share, SAMPLE * width) // width))
+def sample_of(start: Start, size: int, share: Share) -> Iterator[Row]:
+    """Returns the first rows below the names of a table of so many bytes that are looked at."""
+    width = max(1, len(start.row.cells))
+    return islice(start.rows, max(1, min(SAMPLE, share.most(size) // width)))
 
 
 def guess(
     columns: Sequence[Sequence[str]],
     header: int,
     hidden: Collection[int] = (),
-    budget: Budget | None = None,
 ) -> Guess:
     """Returns a guess from columns, each with its name in front, which may be empty. Hidden ones
     are only looked at if no other one has codes.
     """
-    budget = budget or Budget("", 0)
     shown = [("", *()) if place in hidden else cells for place, cells in enumerate(columns)]
-    found = guess_by(samples_from(shown), budget)
+    found = guess_by(samples_from(shown))
     if hidden and not found.codes:
-        found = guess_by(samples_from(columns), budget)
+        found = guess_by(samples_from(columns))
     names = [name for name, *_ in columns]
     examples = [next(filter(None, map(str.strip, cells)), "") for _, *cells in columns]
     return replace(found, names=names, header=header, examples=examples)
@@ -162,21 +185,20 @@ def samples_from(columns: Sequence[Sequence[str]]) -> Samples:
     return dict(enumerate(samples_of([name for name, *_ in columns], cells)))
 
 
-def guess_by(columns: Samples, budget: Budget) -> Guess:
+def guess_by(columns: Samples) -> Guess:
     """Returns a guess without what belongs to the whole table, as the row of the names."""
     code = code_choice(columns)
     parts = name_parts(columns, code.taken)
-    title = Decision(parts, parts[0]) if parts else title_choice(columns, code.taken)
+    title = Decision((), parts[0]) if parts else title_choice(columns, code.taken)
     readings = readings_of(code, columns)
     is_single = bool(parts) or are_single_things(readings, columns)
     taken = {*code.taken, *title.taken, *parts}
-    price = Decision(is_none=True) if is_single else price_choice(columns, taken, budget)
+    price = Decision(is_none=True) if is_single else price_choice(columns, taken)
     choices = {"code": code, "title": title, "price": price}
     choices |= choices_beside(columns, taken, price)
     found = {kind: choice.surely for kind, choice in choices.items() if choice.surely is not None}
     used = {*taken, *price.taken, *found.values()}
-    money = paid_columns(columns, used) if is_single or price.surely is not None else []
-    others = {kind: besides(choices[kind]) for kind in ("code", "title")} | {"price": money}
+    others = {kind: besides(choices[kind]) for kind in ("code", "title")}
     beside = columns_beside(columns, title, parts, used)
     return Guess(
         (),
@@ -187,7 +209,7 @@ def guess_by(columns: Samples, budget: Budget) -> Guess:
         others={kind: places for kind, places in others.items() if places},
         beside=beside,
         formats=formats_of(columns, price, "currency" in beside),
-        unpaid=[] if price.taken or is_single else unpaid_columns(columns, used),
+        amounts=amounts_in(columns),
     )
 
 
@@ -253,11 +275,14 @@ def formats_of(columns: Samples, price: Decision, has_currencies: bool) -> Mappi
 
 
 def text_in(cell: str) -> str:
-    """Returns the text of a cell, without spaces around it, and of `="007"` what the formula keeps.
+    """Returns the text of a cell, without spaces around it, and of `="007"` what the formula keeps;
+    digits of another script are those of ASCII.
 
-    >>> text_in(' ="007"'), text_in('<a href="x">')
-    ('007', '<a href="x">')
+    >>> text_in(' ="007"'), text_in('<a href="x">'), text_in("٢٥")
+    ('007', '<a href="x">', '25')
     """
     text = cell.strip()[:LONGEST]
+    if not text.isascii():
+        text = "".join(str(unicodedata.decimal(sign, sign)) for sign in text)
     kept = FORMULA_OF_TEXT.fullmatch(text)
     return kept[1] if kept else text

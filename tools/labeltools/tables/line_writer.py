@@ -5,15 +5,23 @@ was asked for.
 from dataclasses import dataclass, field
 from typing import Mapping
 
-from labeltools.common.messages import Origin, quoted, RowError, Talk, ToolError
-from labeltools.common.text import Remedy, Text
+from labeltools.common.messages import (
+    fault_of,
+    Origin,
+    Problem,
+    quoted,
+    RowError,
+    Talk,
+    ToolError,
+)
+from labeltools.common.text import Text
 from labeltools.lines.file import first_remark, last_remark, LinesFile, Record, record_lines
 from labeltools.tables.codes import Code
 from labeltools.tables.columns import Column
-from labeltools.tables.drafts import Draft, Price
+from labeltools.tables.drafts import Draft
 from labeltools.tables.findings import Findings
-from labeltools.tables.money import is_above, Money, NotMoney
-from labeltools.tables.prices import PriceColumn, USUAL_DECIMALS, with_currency
+from labeltools.tables.money import NotMoney, Price
+from labeltools.tables.prices import PriceColumn, with_currency
 from labeltools.tables.table_options import Columns, TableOptions
 
 LARGEST_OUTPUT = 1 << 27  # bytes
@@ -47,36 +55,11 @@ class LineWriter:
     def take_draft(self, draft: Draft) -> None:
         """Takes a draft."""
         self.taken += 1
-        row = draft.record.row
-        now, _, was = draft.prices
-        for price, column in zip(draft.prices, self.findings.prices):
-            if price and price.money:
-                column.add_price(price.money, price.currency or "")
-                if not price.money.value or price.money.decimals not in USUAL_DECIMALS:
-                    self.report_odd_price(row, price, price.money)
-        if now and was and not is_above(was.money, now.money):
-            said = Text("row {} has the old price {}, below the price {}", row, was.text, now.text)
-            if was.text == now.text:
-                said = Text("row {} has {} as the old price and as the price", row, was.text)
-            self.findings.see("was", said)
+        self.findings.see_prices(draft.record.row, draft.prices, draft.currency or "")
         if self.options.prices.pattern:
             self.waiting.append(draft)
         else:
             self.write_draft(draft)
-
-    def report_odd_price(self, row: int, price: Price, money: Money) -> None:
-        """Looks at a price that is zero, or has as many decimals as a program's number has."""
-        if not money.value:
-            self.findings.see(
-                ("zero", price.column), Text("row {} has the price {}", row, price.text)
-            )
-        is_shown = self.options.prices.pattern or money.unit or money.is_open
-        if not is_shown and money.decimals not in USUAL_DECIMALS:
-            said = Text("row {} has {}, as programs write prices", row, price.text)
-            pattern = f"0{money.point}00 ¤" if money.currency else f"0{money.point}00"
-            remedy = Remedy("price-as", pattern, Text("Print two decimals"))
-            hint = Text("give {} for two decimals", remedy)
-            self.findings.see(("decimals", price.column), said, hint)
 
     def finish(self) -> bytes:
         """Writes the drafts that wait, and the end; returns the whole file."""
@@ -87,61 +70,64 @@ class LineWriter:
         self.findings.totals.left_out = len(self.left_out)
         names = (column.name for column in self.columns.text)
         empty = [name for name in names if name not in self.findings.filled]
-        self.output += last_remark(self.findings.count, self.left_out, empty).encode()
+        self.output += last_remark(self.findings.totals.rows, self.left_out, empty).encode()
         return bytes(self.output)
 
     def write_draft(self, draft: Draft) -> None:
-        """Writes a draft, or leaves it out."""
+        """Writes a draft, or leaves it out, whatever it raises."""
         row = draft.record.row
         try:
             price, unit, was = (
-                self.price_as_printed(row, price, column)
-                for price, column in zip(draft.prices, self.findings.prices)
+                self.price_as_printed(draft, *parts)
+                for parts in zip(draft.prices, self.columns.prices, self.findings.prices)
             )
+            record = draft.record._replace(price=price, unit=unit, was=was)
+            lines = self.lines_of(record, draft.code)
         except RowError as problem:
-            texts = (
-                price.text
-                for price in draft.prices
-                if price and price.column.place == problem.column
-            )
-            self.leave_out(row, next(texts, ""), problem)
+            pairs = zip(draft.prices, self.columns.prices)
+            wrong = (price for price, column in pairs if column and column.place == problem.column)
+            self.leave_out(row, str(next(wrong, "")), problem)
             return
-        record = draft.record.with_prices(price, unit, was)
+        except MemoryError:
+            raise
+        except Exception as error:
+            self.leave_out(row, draft.code.data, RowError(fault_of(error)))
+            return
         self.report_if_twice(draft.code, record)
         key = (draft.code.symbology, draft.code.whole)
         if self.older is not None and record.printed_beside in self.older.get(key, ()):
             self.findings.unchanged += 1
             return
-        self.write_label(record, draft.code)
-        now = draft.prices[0]
-        self.findings.count_label(record, draft.code, now.money if now else None)
+        self.write_label(lines)
+        self.findings.count_label(record, draft.code, draft.prices[0])
 
     def leave_out(self, row: int, cell: str, problem: RowError) -> None:
         """Leaves out a row."""
-        self.talk.note(Origin("", "row", row), cell, problem.what, problem.hint)
+        self.talk.note(Origin("", "row", row), cell, problem.problem)
         self.left_out.append(row)
 
-    def price_as_printed(self, row: int, price: Price | None, column: PriceColumn) -> str:
+    def price_as_printed(
+        self, draft: Draft, price: Price, column: Column | None, of_column: PriceColumn
+    ) -> str:
         """Returns a price as it is printed; raises `RowError`."""
-        if price is None:
-            return ""
-        if price.money is None:
-            return price.text
+        if column is None or isinstance(price, str):
+            return str(price)
         pattern = self.options.prices.pattern
         try:
             if pattern is None:
-                return with_currency(price.money, price.text, price.currency)
-            money = column.settled(price.money)
-            text = pattern.write(money, price.currency or "")
+                return with_currency(price, draft.currency)
+            money = of_column.settled(price)
+            text = pattern.write(money, draft.currency or "")
             if pattern.changes_amount(money.value):
-                said = Text("row {} has {}, which is rounded to {}", row, price.text, text)
-                self.findings.see("written", said)
+                row = draft.record.row
+                what = Text("row {} has {}, which is rounded to {}", row, price.text, text)
+                self.findings.see(column, Problem(what))
             return text
         except NotMoney as problem:
             what = Text(
                 "has {}, which cannot be printed like that: it {}", quoted(price.text), problem.what
             )
-            raise price.column.cell_error(RowError(what, problem.hint)) from None
+            raise column.cell_error(problem.saying(what)) from None
 
     def report_if_twice(self, code: Code, record: Record) -> None:
         """Says once of each article that it is there twice with other texts or prices."""
@@ -149,20 +135,23 @@ class LineWriter:
         first, before = self.seen.setdefault(code.article, (record.row, mark))
         if before not in (mark, 0):
             self.seen[code.article] = first, 0
-            self.talk.say(
-                Text(
-                    "rows {} and {} have the same code, {}, and another title, text or price",
-                    first,
-                    record.row,
-                    code.data,
-                )
+            what = Text(
+                "rows {} and {} have the same code, {}, and another title, text or price",
+                first,
+                record.row,
+                code.data,
             )
+            self.talk.say(Problem(what))
 
-    def write_label(self, record: Record, code: Code) -> None:
-        """Writes the lines of a label."""
+    def lines_of(self, record: Record, code: Code) -> bytes:
+        """Returns the lines of a label."""
         settings = f",{self.options.settings}" if self.options.settings else ""
         line = f"{code.symbology}{settings} {code.data}"
-        self.output += record_lines(record, line, self.columns.copies is not None).encode()
+        return record_lines(record, line, self.columns.copies is not None).encode()
+
+    def write_label(self, lines: bytes) -> None:
+        """Writes the lines of a label."""
+        self.output += lines
         if len(self.output) > LARGEST_OUTPUT:
             raise ToolError(
                 Text("the table has more than 128 MB of texts"),

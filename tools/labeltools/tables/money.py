@@ -19,8 +19,8 @@ from dataclasses import dataclass, replace
 from decimal import Decimal
 from functools import lru_cache
 
-from labeltools.common.messages import RowError
-from labeltools.common.text import NOTHING, Remedy, Text
+from labeltools.common.messages import Remedy, RowError
+from labeltools.common.text import NOTHING, Text
 from labeltools.tables.price_words import (
     currency_of,
     currency_remedy,
@@ -39,9 +39,9 @@ ARITHMETIC = Decimal("1e-9")  # what a program's arithmetic may leave
 MOST_LOST = Decimal("0.01")  # of a price that is rounded
 NO_PRICE = Text("if it is a code, choose another column")
 OTHER_WORDS = Text("has words that are not part of a price")
-ANY_TEXT = Remedy("price-text", says=Text("Prices may be any text"))
-OTHER_WORDS_HINT = Text("give {} if it is right", Remedy("price-text"))
-WORDS_HINT = Text("give {} if it is right", ANY_TEXT)
+NO_NUMBER = Text("has no number")
+IS_RIGHT = Text("is it right?")
+ANY_TEXT = Remedy("price-as", "text", Text("take any text as a price"))
 LONE_WORD = re.compile(r"(?<!\S)[^\W\d_]{2,}(?!\S)")  # ab 5, 2 for 3.00, but neither p0 nor 1.9+
 # a letter among digits that was typed for one of them: 4,5O, O,50, 1,l5
 LETTER = re.compile(
@@ -49,7 +49,7 @@ LETTER = re.compile(
     r"|[0-9][.,](?P<among>[Il])(?![^\W\d_])"
 )
 TYPE_AGAIN = Text("type it again")
-FORMAT_HINT = Text("give {}", Remedy("price-as")).in_window(Text("choose how prices are printed"))
+LOOK_OF_PRICES = Remedy("price-as")
 SEPARATORS = Text("has a number whose separators are not understood")
 SEPARATORS_HINT = Text("write it as 1234,50 or 1234.50")
 SEVERAL = Text("has several numbers")
@@ -114,6 +114,9 @@ class Money:
     basis: str = ""
     end: str = ""
 
+    def __str__(self) -> str:
+        return self.text
+
     def with_thousands(self) -> "Money":
         """Returns an open price whose sign is that of thousands."""
         return replace(self, is_open=False)
@@ -134,6 +137,10 @@ class Money:
             return self
         readings = self.with_thousands(), self.with_three_decimals()
         return min(readings, key=lambda reading: abs(reading.value - number))
+
+
+# what a row has as a price: any text may be one if that was asked for; an empty one is none
+Price = Money | str
 
 
 @dataclass(frozen=True)
@@ -184,7 +191,7 @@ def read_price(text: str, own: str = "", most_decimals: int = MOST_DECIMALS) -> 
     unit, bare = unit_in(bare)
     price = price_of_plain(bare, plain_signs(own), most_decimals)
     if unit and not is_priced(price, bare, unit):
-        raise NotMoney(OTHER_WORDS, OTHER_WORDS_HINT)  # 1.0/AV
+        raise with_other_words()  # 1.0/AV
     return replace(price, text=text.strip(), unit=unit)
 
 
@@ -213,9 +220,9 @@ def read_unit_price(text: str, own: str = "", most_decimals: int = MOST_DECIMALS
     return replace(price, text=text.strip(), basis=found["basis"], end=found["end"])
 
 
-def is_above(price: Money | None, other: Money | None) -> bool:
+def is_above(price: Money, other: Money) -> bool:
     """Returns whether a price is above another price, or both cannot be compared."""
-    if not price or not other or price.is_open or other.is_open:
+    if price.is_open or other.is_open:
         return True
     return price.value > other.value or price.currency != other.currency
 
@@ -229,7 +236,9 @@ def plain_price(text: str) -> str:
         raise NotMoney(Text("has several lines or more than 60 letters"))
     if not re.search("[0-9]", bare):
         has_word = re.search(r"[^\W\d_]{2}", bare) is not None
-        raise NotMoney(Text("has no number"), WORDS_HINT if has_word else NOTHING)
+        if has_word:
+            raise NotMoney(NO_NUMBER, IS_RIGHT, remedies=(ANY_TEXT,))
+        raise NotMoney(NO_NUMBER)
     if found := LETTER.search(bare):
         letter = found[found.lastgroup or 0]
         raise NotMoney(Text("has the letter {} among its digits", letter), TYPE_AGAIN)
@@ -238,9 +247,11 @@ def plain_price(text: str) -> str:
     return bare
 
 
-def hint_for(bare: str) -> Text:
-    """Returns what helps a price with other words: only a text is offered as one."""
-    return WORDS_HINT if LONE_WORD.search(bare) else OTHER_WORDS_HINT
+def with_other_words(bare: str = "") -> NotMoney:
+    """Returns the error of a price with other words: only a text is offered as one."""
+    if LONE_WORD.search(bare):
+        return NotMoney(OTHER_WORDS, IS_RIGHT, remedies=(ANY_TEXT,))
+    return NotMoney(OTHER_WORDS, IS_RIGHT, remedies=(replace(ANY_TEXT, says=NOTHING),))
 
 
 def with_usual_points(bare: str) -> str:
@@ -297,10 +308,10 @@ def price_of_plain(bare: str, own: str, most_decimals: int) -> Money:
     has_groups_alone = amount.group and not amount.point
     has_words_alone = words and not currencies
     if has_words_alone and (is_plain_number or has_groups_alone):
-        raise NotMoney(OTHER_WORDS, hint_for(bare))  # ab 5
+        raise with_other_words(bare)  # ab 5
     check_number(amount, bool(currencies), is_plain_number, most_decimals)
     if behind.startswith("+"):
-        raise NotMoney(OTHER_WORDS, OTHER_WORDS_HINT)  # 1.9+
+        raise with_other_words()  # 1.9+
     if is_below:
         raise NotMoney(Text("is below zero"))
     return money_of(amount, currencies, " ".join(words))
@@ -342,8 +353,8 @@ def check_letters(before: str, amount: PriceNumber, own: str) -> None:
         return
     is_as_in_codes = amount.is_bare and name.isalpha()
     if is_as_in_codes or currency_of(name) is None:
-        hint = Text("if this is a currency, give {}", currency_remedy(name))
-        raise NotMoney(Text("has letters before its digits, as a code has"), hint)
+        what = Text("has letters before its digits, as a code has")
+        raise NotMoney(what, Text("is it a currency?"), remedies=(currency_remedy(name),))
 
 
 def without_sign(before: str, behind: str, has_dash: bool) -> tuple[bool, str, str]:
@@ -365,14 +376,14 @@ def currencies_and_words(before: str, behind: str, own: str) -> tuple[set[str], 
     """Returns the currencies and the words around a number."""
     is_bottle = behind in ONLY_IN_FRONT - {own}
     if is_bottle or currency_of(before) == "cent":
-        raise NotMoney(OTHER_WORDS, OTHER_WORDS_HINT)  # 5 L, p0
+        raise with_other_words()  # 5 L, p0
     currencies: set[str] = set()
     words: list[str] = []
     for side, known in ((before, FRONT), (behind, BEHIND)):
         for word in [side] if currency_of(side, own) else side.split(" "):
             code = currency_in(word, own)
             if code is None and word.casefold() not in known and word:
-                raise NotMoney(OTHER_WORDS, hint_for(side))
+                raise with_other_words(side)
             if code is None:
                 words += [word] if word else []
             elif code == "cent" or all(is_same_currency(code, currency) for currency in currencies):
@@ -426,7 +437,8 @@ def check_number(
             NO_PRICE,
         )
     if len(amount.decimals) > most_decimals or len(whole) > MOST_WHOLE_DIGITS:
-        raise NotMoney(Text("has too many digits"), FORMAT_HINT)
+        hint = Text("choose how prices are printed")
+        raise NotMoney(Text("has too many digits"), hint, remedies=(LOOK_OF_PRICES,))
 
 
 def money_of(amount: PriceNumber, currencies: set[str], words: str) -> Money:

@@ -6,6 +6,7 @@ from collections.abc import Iterator, Mapping, Sequence
 from functools import cache
 from pathlib import Path
 
+from labeltools.common.column_names import LONGEST
 from labeltools.common.word_lists import lists_by_section, lists_of
 
 COLUMN_WORDS = Path(__file__).with_name("columns.list")
@@ -26,7 +27,7 @@ def folded(text: str) -> str:
     >>> folded("Prix RÉDUIT"), folded("Κωδικός"), folded("Påris")
     ('prix reduit', 'κωδικοσ', 'paaris')
     """
-    letters = unicodedata.normalize("NFD", text.casefold().translate(FOLDED))
+    letters = unicodedata.normalize("NFD", text[:LONGEST].casefold().translate(FOLDED))
     bare = "".join(sign for sign in letters if not unicodedata.category(sign).startswith("M"))
     return unicodedata.normalize("NFC", bare)
 

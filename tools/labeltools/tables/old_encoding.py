@@ -9,9 +9,8 @@ from dataclasses import dataclass, replace
 from functools import cached_property
 from pathlib import Path
 
-from labeltools.common.budget import Budget
-from labeltools.common.messages import quoted, ToolError
-from labeltools.common.text import joined, Remedy, Text
+from labeltools.common.messages import Problem, quoted, Remedy, Talk, ToolError
+from labeltools.common.text import joined, Text
 from labeltools.common.word_lists import lists_by_section
 from labeltools.sheets.encoding import (
     is_odd,
@@ -32,10 +31,10 @@ LANGUAGES = {name: lists for name, lists in SECTIONS.items() if "group" in lists
 OF_SEVERAL_BYTES = {
     name: lists["several"] for name, lists in SECTIONS.items() if "several" in lists
 }
-GROUPS = {name: lists["encodings"] for name, lists in SECTIONS.items() if "encodings" in lists}
+# those of Windows, by the groups of languages; nobody was found who writes tables in older ones
+OF_WINDOWS = {name: lists["encoding"][0] for name, lists in SECTIONS.items() if "encoding" in lists}
 # whose old encodings are taken for those of others
 NEAR = [name for name, lists in LANGUAGES.items() if {"western", "central"} & {*lists["group"]}]
-OF_WINDOWS = {encodings[0] for encodings in GROUPS.values()}
 MOST_ODD = 0.05  # the part of the words of a sensible reading that nobody writes
 MOST_TRIED = 2000  # words
 MOST_SHOWN = 3
@@ -87,23 +86,10 @@ class Reading:
                 own = "".join(
                     LANGUAGES[language]["letters"] + SECTIONS[group]["letters"] * has_foreign
                 )
-                if all(letter in own or letter.lower() in own for letter in self.letters):
-                    for encoding in GROUPS[group]:
-                        if encoding in self.encodings:
-                            return encoding
+                has_all = all(letter in own or letter.lower() in own for letter in self.letters)
+                if has_all and OF_WINDOWS[group] in self.encodings:
+                    return OF_WINDOWS[group]
         return ""
-
-    @property
-    def is_of_windows(self) -> bool:
-        """Whether an encoding of Windows reads it so."""
-        return not OF_WINDOWS.isdisjoint(self.encodings)
-
-    def is_better_than(self, other: "Reading") -> bool:
-        """Returns whether nobody writes what another one reads otherwise."""
-        if self.odd or not other.odd:
-            return False
-        words = zip(self.words[:MOST_TRIED], other.words)
-        return all(theirs in other.odd for own, theirs in words if own != theirs)
 
 
 @dataclass(frozen=True)
@@ -114,38 +100,29 @@ class OldEncoding:
     words: Sequence[str]
 
     @property
-    def text(self) -> Text:
-        """What is said of it."""
-        shown = joined(", ", map(quoted, self.words))
-        text = Text("the table is read as {}, with words such as {}", self.name, shown)
-        letters = letters_by(self.name)
-        return text.in_window(
-            Text("the letters are read as {}, in words such as {}", letters, shown)
-        )
-
-    @property
-    def hint(self) -> Text:
-        """What helps if it is the wrong one: without it, others are offered."""
-        others = Remedy("encoding", self.name, Text("The letters are wrong"), is_less=True)
-        hint = Text("if letters are wrong, leave out {}", others)
-        return hint.in_window(Text("check the letters"))
+    def problem(self) -> Problem:
+        """What is said of it, and what helps if it is the wrong one: without it, others are
+        offered.
+        """
+        shown = letters_by(self.name), joined(", ", map(quoted, self.words))
+        what = Text("the letters are read as {}, in words such as {}", *shown)
+        others = Remedy("encoding", self.name, Text("read them in another way"), is_less=True)
+        return Problem(what, Text("check the letters"), (others,))
 
 
-def old_encoding(
-    data: bytes, name: str, options: TableOptions, budget: Budget | None = None
-) -> OldEncoding | None:
+def old_encoding(data: bytes, _: str, options: TableOptions, talk: Talk) -> OldEncoding | None:
     """Returns the encoding of a table that is not UTF-8, or None where no reading of it makes sense
     or several do.
     """
-    budget = budget or Budget(name, len(data))
-    several = in_several_bytes(data, options, budget)
+    several = in_several_bytes(data, options)
     if several:
         return several
-    encodings = dict.fromkeys(name for names in GROUPS.values() for name in names)
-    tried = [Reading(alike, words) for words, alike in other_words(data, encodings).items()]
-    readings = best_of([reading for reading in tried if reading.is_sensible])
+    every = other_words(data, OF_WINDOWS.values()).items()
+    readings = [Reading(alike, words) for words, alike in every]
+    fewest = min((len(reading.odd) for reading in readings), default=0)
+    readings = [own for own in readings if own.is_sensible and len(own.odd) == fewest]
     readings = [reading for reading in readings if is_of_prices(reading, data)] or readings
-    found = only_reading(readings, languages_of(data, options, readings, budget))
+    found = only_reading(readings, languages_of(data, options, readings))
     if found is None:
         return None
     encoding, reading = found
@@ -155,16 +132,7 @@ def old_encoding(
     return OldEncoding(encoding, shown_words(reading)) if text else None
 
 
-def best_of(readings: Sequence[Reading]) -> Sequence[Reading]:
-    """Returns the readings to which no other one is to be preferred."""
-    return [
-        reading
-        for reading in readings
-        if not any(other.is_better_than(reading) for other in readings)
-    ]
-
-
-def in_several_bytes(data: bytes, options: TableOptions, budget: Budget) -> OldEncoding | None:
+def in_several_bytes(data: bytes, options: TableOptions) -> OldEncoding | None:
     """Returns the encoding of a table in which a letter has several bytes; None if the names of its
     columns are no words of such a language in any.
     """
@@ -172,7 +140,7 @@ def in_several_bytes(data: bytes, options: TableOptions, budget: Budget) -> OldE
     for language, encodings in OF_SEVERAL_BYTES.items():
         for encoding in encodings if is_old(data) else ():
             words = OTHER_WORD.findall(text_by(data, encoding))
-            names = names_by(data, options, encoding, budget) if words else ()
+            names = names_by(data, options, encoding) if words else ()
             known = sum(map(words_of_languages()[language].knows, names))
             if known > most:
                 best, most = OldEncoding(encoding, words[:MOST_SHOWN]), known
@@ -183,25 +151,22 @@ def only_reading(
     readings: Sequence[Reading], languages: Collection[str]
 ) -> tuple[str, Reading] | None:
     """Returns the only sensible reading, with its encoding, of a table whose columns are named in
-    some languages, in none where that is not known. Of several the letters decide.
-
-    Of DOS and of Macs it is only with several letters of such a language. One with letters from
-    abroad is sensible where no language of Europe's west or middle has all letters of another one.
+    some languages, in none where that is not known. Of several the letters decide: one with letters
+    from abroad is sensible where no language of Europe's west or middle has all letters of another
+    one.
     """
     known = languages or LANGUAGES
     if len(readings) == 1:
         [reading] = readings
-        encoding = reading.encoding_in(known, True) or reading.encoding_in(LANGUAGES, True)
+        encoding = reading.encoding_in(known, True)
         return (encoding, reading) if encoding else None
     native = [reading for reading in readings if reading.encoding_in(known)]
     foreign = [reading for reading in readings if reading.encoding_in(known, has_foreign=True)]
     if len(native) == 1:
         [reading] = native
-        has_letters = languages and len(reading.letters) > 1
-        is_plain = languages and reading.letters and reading.is_of_windows
-        is_alone = len(foreign) == 1 and (reading.is_of_windows or has_letters)
-        return (reading.encoding_in(known), reading) if is_plain or is_alone else None
-    if languages and not native and len(foreign) == 1 and foreign[0].is_of_windows:
+        is_plain = languages and reading.letters
+        return (reading.encoding_in(known), reading) if is_plain or len(foreign) == 1 else None
+    if languages and not native and len(foreign) == 1:
         others = (reading for reading in readings if reading not in foreign)
         if not any(reading.encoding_in(NEAR) for reading in others):
             return foreign[0].encoding_in(known, has_foreign=True), foreign[0]
@@ -209,14 +174,14 @@ def only_reading(
 
 
 def languages_of(
-    data: bytes, options: TableOptions, readings: Iterable[Reading], budget: Budget
+    data: bytes, options: TableOptions, readings: Iterable[Reading]
 ) -> Collection[str]:
     """Returns the languages that know most words of the names of the columns, of all that English
     does not know, as the reading has them of which most are known.
     """
     best: dict[int, set[str]] = {}
     for reading in readings:
-        words = names_by(data, options, reading.encodings[0], budget)
+        words = names_by(data, options, reading.encodings[0])
         for language, known in words_of_languages().items():
             count = sum(map(known.knows, words))
             if count >= min(LEAST_NAMES, LEAST_PART * len(words)):
@@ -225,11 +190,11 @@ def languages_of(
     return best[most] & LANGUAGES.keys() if most else ()
 
 
-def names_by(data: bytes, options: TableOptions, encoding: str, budget: Budget) -> Collection[str]:
+def names_by(data: bytes, options: TableOptions, encoding: str) -> Collection[str]:
     """Returns the words of the names of the columns, as an encoding reads them."""
     file = replace(options.file, encoding=encoding)
     with suppress(ToolError):
-        names = names_of(data, replace(options, file=file), budget)
+        names = names_of(data, "", replace(options, file=file))
         return {word for name in names for word in words_in(name)}
     return ()
 

@@ -5,9 +5,11 @@ import unicodedata
 from collections.abc import Sequence
 from pathlib import Path
 
-from labeltools.common.text import Remedy, Text
+from labeltools.common.messages import Remedy
+from labeltools.common.text import Text
 from labeltools.common.word_lists import lists_of
 
+LONGEST = 1000  # letters: a longer text is no price, and is left as it is
 NO_CURRENCY = "¤"  # ISO 8859-15 has its € where other encodings have this sign
 # signs that are one for the grammar; NFKC would make 399 of a price with raised decimals
 SPACES = (
@@ -60,6 +62,8 @@ def plain_signs(text: str) -> str:
     >>> plain_signs("\\u200f٣٫٩٩ ر.س"), plain_signs("￥１，０８０"), plain_signs("3⁹⁹")
     ('3,99 ر.س', '¥1,080', '3⁹⁹')
     """
+    if len(text) > LONGEST:
+        return text
     signs = (LOOKS.get(sign, sign) for sign in unicodedata.normalize("NFC", text))
     digits = (str(unicodedata.decimal(sign, sign)) if len(sign) == 1 else sign for sign in signs)
     return re.sub(" +", " ", "".join(digits)).strip()
@@ -115,4 +119,4 @@ def are_currencies(texts: Sequence[str]) -> bool:
 
 def currency_remedy(name: str) -> Remedy:
     """Returns the choice of a name as that of a currency."""
-    return Remedy("currency-name", name, Text("{} is a currency", name))
+    return Remedy("currency-name", name, Text("take {} as a currency", name))

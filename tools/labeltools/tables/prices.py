@@ -8,7 +8,8 @@ from dataclasses import dataclass, field
 from decimal import Decimal, ROUND_HALF_UP
 from functools import cache
 
-from labeltools.common.text import hint_of_remedies, NOTHING, Remedy, Text
+from labeltools.common.messages import Remedy
+from labeltools.common.text import NOTHING, Text
 from labeltools.tables.money import (
     ARITHMETIC,
     Money,
@@ -39,9 +40,10 @@ OF_MANY = re.compile(
 IN_CENTS = Text("cents")
 USUAL_DECIMALS = (0, 2, 3)
 THOUSANDS_OR_DECIMALS = Text("may have thousands or decimals")
-DECIMAL_HINT = hint_of_remedies(
-    Remedy("decimal", "comma", Text("The comma, as in 1,50")),
-    Remedy("decimal", "point", Text("The point, as in 1.50")),
+WHICH_SIGN = Text("which sign is before the cents?")
+DECIMAL_SIGNS = (
+    Remedy("decimal", "comma", Text("the comma, as in 1,50")),
+    Remedy("decimal", "point", Text("the point, as in 1.50")),
 )
 SIGN_OF = {"crown": "kr", "EUR": "€", "GBP": "£"}
 ONE_SIGN = {"JPY": "¥", "CNY": "¥"}
@@ -123,7 +125,7 @@ class PriceColumn:
         if not price.is_open:
             return price
         if not self.point:
-            raise NotMoney(THOUSANDS_OR_DECIMALS, DECIMAL_HINT)
+            raise NotMoney(THOUSANDS_OR_DECIMALS, WHICH_SIGN, remedies=DECIMAL_SIGNS)
         if self.point != price.group:
             return price.with_thousands()
         if not self.has_three_decimals and price.currency not in WITH_THREE_DECIMALS:
@@ -293,24 +295,24 @@ def currency_of_row(price: Money, currency: str) -> str:
     return row
 
 
-def with_currency(price: Money, text: str, currency: str | None) -> str:
+def with_currency(price: Money, currency: str | None) -> str:
     """Returns the text of a price with the currency of its row, which stands before the unit;
     `currency` is None where the table has no column of them. Raises `NotMoney` where there is none
     or another one.
 
     >>> from labeltools.tables.money import read_unit_price
-    >>> with_currency(read_unit_price("(1 l = 4,98)"), "(1 l = 4,98)", "€")
+    >>> with_currency(read_unit_price("(1 l = 4,98)"), "€")
     '(1 l = 4,98 €)'
     """
     if currency is None:
-        return text
+        return price.text
     currency_of_row(price, currency)
     if price.currency:
-        return text
+        return price.text
     if not currency:
         what = Text("has no currency, and its row has none")
         raise NotMoney(what, Text("write it into one of them"))
-    bare = text.rstrip().removesuffix(price.end)
+    bare = price.text.removesuffix(price.end)
     unit = PER_UNIT.search(bare) if price.unit else None
     if unit is None:
         return f"{bare} {currency}{price.end}"
@@ -329,8 +331,8 @@ def pattern_for(texts: Sequence[str], name: str, has_codes: bool) -> str:
     ('0.00 ¤', '0.00')
     >>> pattern_for(["0.80", "49"], "Price (EUR)", False), pattern_for(["1.859"], "Price", False)
     ('', '')
-    >>> pattern_for(["0.80000000"], "Price", False)
-    '0.00'
+    >>> pattern_for(["0.80000000"], "Price", False), pattern_for(["12.5000", "3"], "Price", False)
+    ('0.00', '0.00')
     """
     prices = []
     for text in texts:
@@ -343,7 +345,8 @@ def pattern_for(texts: Sequence[str], name: str, has_codes: bool) -> str:
         named = frozenset("¤")
     is_long = any(price.decimals > MOST_DECIMALS for price in odd)
     are_short = all(price.decimals == 1 for price in odd)
-    is_sure = len(named) == 1 or is_long or are_short
+    are_zeros = all(price.decimals > 3 and not price.value * 100 % 1 for price in odd)
+    is_sure = len(named) == 1 or is_long or are_short or are_zeros
     if not odd or not is_sure:
         return ""
     return f"0{odd[0].point}00 {min(named) if len(named) == 1 else ''}".rstrip()

@@ -26,6 +26,11 @@ class Totals:
     bare: int = 0  # prices without a currency
     left_out: int = 0
 
+    @property
+    def rows(self) -> int:
+        """How many rows were counted."""
+        return self.symbologies.total()
+
     def count_row(self, symbology: str, copies: int) -> None:
         """Counts a row."""
         self.symbologies[symbology] += 1
@@ -53,7 +58,7 @@ def summary_line(totals: Totals) -> Text:
     >>> summary_line(totals)
     '4 labels from 2 rows: 2 EAN-13; prices 0,80 € to 12,00 €; copies 1 to 3; 1 row skipped'
     """
-    rows = totals.symbologies.total()
+    rows = totals.rows
     found = totals.symbologies.most_common()
     counts = ", ".join(f"{count} {SYMBOLOGIES[name].title}" for name, count in found)
     parts: list[Text] = [Text("{}: {}", labels_from(totals.labels, rows), counts or Text("none"))]
@@ -77,7 +82,7 @@ def sentences(totals: Totals) -> Text:
     >>> sentences(totals)
     '4 labels from 1 row, with prices from 0,80 to 12,00. 2 prices have no currency.'
     """
-    text = labels_from(totals.labels, totals.symbologies.total())
+    text = labels_from(totals.labels, totals.rows)
     if totals.lowest and totals.highest:
         ends = totals.lowest[1], totals.highest[1]
         lowest, highest = (price.replace(" ", NO_BREAK) for price in ends)

@@ -1,14 +1,21 @@
 """From a table to lines: what a window or a command calls."""
 
 import re
-from dataclasses import dataclass, field
+from dataclasses import dataclass, field, replace
 from functools import reduce
 from itertools import chain
-from typing import Iterator, NamedTuple
+from typing import Iterator
 
-from labeltools.common.budget import Budget
-from labeltools.common.messages import BAD_ARGUMENTS, quoted, RowError, Talk, ToolError
-from labeltools.common.text import Remedy, Text
+from labeltools.common.messages import (
+    BAD_ARGUMENTS,
+    fault_of,
+    quoted,
+    Remedy,
+    RowError,
+    Talk,
+    ToolError,
+)
+from labeltools.common.text import Text
 from labeltools.lines.symbologies import CODE128
 from labeltools.sheets.cells import seen_text
 from labeltools.sheets.csv_table import csv_table
@@ -19,13 +26,15 @@ from labeltools.sheets.rows import Row
 from labeltools.sheets.workbook import is_ods, named_errors, opened
 from labeltools.sheets.xlsx import rows_of_xlsx
 from labeltools.tables.codes import (
+    ARE_MISSING,
     kind_remedy,
     OTHER_CODES,
+    OTHER_KIND,
     OtherCode,
     WITHOUT_DIGIT,
     WrongDigit,
 )
-from labeltools.tables.columns import Column, column_names, columns_of, Head
+from labeltools.tables.columns import Column, columns_of, Start
 from labeltools.tables.drafts import DraftReader
 from labeltools.tables.findings import Findings
 from labeltools.tables.line_writer import LineWriter
@@ -40,7 +49,7 @@ PICTURE = re.compile(
 # options that only CSV has, or only workbooks
 OF_CSV = ("delimiter", "encoding")
 OF_WORKBOOKS = ("sheet", "hidden", "date_as", "links")
-SO = Text("Read it all the same")
+SO = Text("read it all the same")
 MOST_HELD = 1000  # rows that are wrong, before the first one that is right
 BETWEEN = 256  # rows between two calls of `go_on`
 
@@ -58,49 +67,42 @@ class Lines:
     totals: Totals
 
 
-class Start(NamedTuple):
-    """A table that is open: its head, the rows below, and how its numbers are shown."""
-
-    head: Head
-    rows: Iterator[Row]
-    formatter: Formatter
-
-
 def lines_of_table(data: bytes, name: str, options: TableOptions, talk: Talk) -> Lines:
     """Returns the lines of a table; what is left out, and why, is told.
 
-    `name` is for messages. Raises `ToolError` where the table cannot be read, a column is not sure,
-    or no row is there, and `Cancelled` where the talk wants no more.
+    `name` is for messages. Raises `ToolError` if the table cannot be read, a column is not sure, or
+    no row is there, and `Cancelled` if the talk wants no more.
     """
-    start = head_of(data, name, options, talk)
-    columns = columns_of(start.head, start.rows, options)
+    return lines_of_rows(head_of(data, name, options, talk), name, options, talk)
+
+
+def lines_of_rows(start: Start, name: str, options: TableOptions, talk: Talk) -> Lines:
+    """Returns the lines of a table that is open, as `lines_of_table` does."""
+    columns = columns_of(start, options)
     work = TableRun(options, columns, start, talk)
     work.take_all(start.rows)
     writer, findings = work.writer, work.findings
     work.refuse_other_codes(name)
     has_rows = writer.taken or writer.left_out or findings.hidden or work.unmarked
     if not has_rows:
-        row = start.head.row.number
+        row = start.row.number
         raise ToolError(
             Text("{} has no row below row {}, which has the names of the columns", name, row)
         )
     if work.unmarked and not writer.taken:
         raise nothing_marked(columns, name)
     output = writer.finish()
-    findings.say_all(talk, start.formatter)
-    left_out = tuple(writer.left_out)
-    return Lines(output, findings.count, left_out, findings.hidden, findings.totals)
+    findings.say_all(talk)
+    left_out, totals = tuple(writer.left_out), findings.totals
+    return Lines(output, totals.rows, left_out, findings.hidden, totals)
 
 
-def head_of(
-    data: bytes, name: str, options: TableOptions, talk: Talk, budget: Budget | None = None
-) -> Start:
+def head_of(data: bytes, name: str, options: TableOptions, talk: Talk) -> Start:
     """Returns a table that is open; raises `ToolError` where it cannot be read. A window shows its
-    first rows. A table that is read several times may have one budget for all of them.
+    first rows.
     """
-    budget = budget or Budget(name, len(data))
     formatter = Formatter(local_signs(options.file.decimal), options.file.date_as, local_date())
-    rows = table_rows(data, options, formatter, talk, budget)
+    rows = table_rows(data, name, options, formatter, talk)
     wanted = options.file.header_row
     first = row_of_names(rows, wanted)
     if first is None and wanted:
@@ -108,11 +110,11 @@ def head_of(
     if first is None:
         raise ToolError(Text("{} has only empty cells", name))
     if first.problem:
-        problem = first.problem
-        raise ToolError(Text("{}: row {}: {}", name, first.number, problem.what), problem.hint)
-    if options.file.has_header is False:
-        return Start(Head(first, ()), chain([first], rows), formatter)
-    return Start(Head(first, column_names(first)), rows, formatter)
+        what = Text("{}: row {}: {}", name, first.number, first.problem.what)
+        raise ToolError.of(replace(first.problem.problem, what=what))
+    if not options.file.has_names:
+        return Start(first, (), chain([first], rows), formatter)
+    return Start(first, first.names, rows, formatter)
 
 
 def row_of_names(rows: Iterator[Row], wanted: int | None) -> Row | None:
@@ -127,12 +129,11 @@ def row_of_names(rows: Iterator[Row], wanted: int | None) -> Row | None:
 
 
 def table_rows(
-    data: bytes, options: TableOptions, formatter: Formatter, talk: Talk, budget: Budget
+    data: bytes, name: str, options: TableOptions, formatter: Formatter, talk: Talk
 ) -> Iterator[Row]:
     """Returns the rows of a table, whose kind its first bytes say; raises `ToolError` for another
     kind.
     """
-    name = budget.name
     if NO_TABLE.match(data):
         what = Text("{} is an old .xls, XML, HTML, or has a password", name)
         raise ToolError(what, Text("save it as .xlsx, without a password"))
@@ -144,18 +145,18 @@ def table_rows(
         if getattr(options if option == "links" else options.file, option):
             what = Text("{} is CSV", name) if is_csv else Text("{} is not CSV", name)
             remedy = Remedy(option.replace("_", "-"), "", SO, is_less=True)
-            raise ToolError(what, Text("leave out {}", remedy), BAD_ARGUMENTS)
+            raise ToolError(what, status=BAD_ARGUMENTS, remedies=(remedy,))
     if is_csv:
         how = CsvOptions(options.file, options.columns.asked, options.codes.is_free)
-        return csv_table(data, how, budget).read_rows()
-    return rows_of_workbook(data, options.file.sheet, formatter, talk, budget)
+        return csv_table(data, name, how).read_rows()
+    return rows_of_workbook(data, name, options.file.sheet, formatter, talk)
 
 
 def rows_of_workbook(
-    data: bytes, wanted: str | None, formatter: Formatter, talk: Talk, budget: Budget
+    data: bytes, name: str, wanted: str | None, formatter: Formatter, talk: Talk
 ) -> Iterator[Row]:
     """Yields the rows of a sheet of a workbook."""
-    with named_errors(budget.name), opened(data, budget) as archive:
+    with named_errors(name), opened(data) as archive:
         kind = rows_of_ods if is_ods(archive) else rows_of_xlsx
         yield from kind(archive, wanted, formatter, talk)
 
@@ -186,8 +187,8 @@ class TableRun:
     wrong_digits: int = 0
 
     def __post_init__(self) -> None:
-        self.findings = Findings(self.options, self.columns)
-        self.reader = DraftReader(self.options, self.columns, self.start.head.names, self.findings)
+        self.findings = Findings(self.options, self.columns, self.start.formatter)
+        self.reader = DraftReader(self.options, self.columns, self.start.names, self.findings)
         self.writer = LineWriter(self.options, self.columns, self.talk, self.findings)
 
     def take_all(self, rows: Iterator[Row]) -> None:
@@ -203,22 +204,29 @@ class TableRun:
                 self.take_row(row)
 
     def take_row(self, row: Row) -> None:
-        """Takes one row that is not blank, or leaves it out."""
+        """Takes one row that is not blank, or leaves it out, whatever it raises."""
         try:
             draft = self.reader.draft(row)
+            if draft is None:
+                self.unmarked += 1
+                return
+            self.leave_out_held()
+            self.writer.take_draft(draft)
         except RowError as problem:
-            place = self.columns.code.place if problem.column is None else problem.column
-            cell = seen_text(row.cells[place] if place < len(row.cells) else "")
-            self.wrong_digits += isinstance(problem, WrongDigit)
-            self.held.append((row.number, cell, problem))
-            if not self.is_holding or len(self.held) > MOST_HELD:
-                self.leave_out_held()
-            return
-        if draft is None:
-            self.unmarked += 1
-            return
-        self.leave_out_held()
-        self.writer.take_draft(draft)
+            self.hold(row, problem)
+        except (ToolError, MemoryError):
+            raise
+        except Exception as error:
+            self.hold(row, RowError(fault_of(error)))
+
+    def hold(self, row: Row, problem: RowError) -> None:
+        """Leaves a row out, at once or later."""
+        place = self.columns.code.place if problem.column is None else problem.column
+        cell = seen_text(row.cells[place] if place < len(row.cells) else "")
+        self.wrong_digits += isinstance(problem, WrongDigit)
+        self.held.append((row.number, cell, problem))
+        if not self.is_holding or len(self.held) > MOST_HELD:
+            self.leave_out_held()
 
     def leave_out_held(self) -> None:
         """Leaves out the rows that are held, and holds no more: one message is not for all."""
@@ -235,13 +243,9 @@ class TableRun:
         others = sum(isinstance(problem, OtherCode) for _, _, problem in self.held)
         if 2 * others > len(self.held):
             what = Text("{}: no row has an EAN or UPC in {}", name, title)
-            raise ToolError(what, OTHER_CODES)
+            raise ToolError(what, OTHER_KIND, remedies=OTHER_CODES)
         self.leave_out_held()
         if self.wrong_digits > max(1, self.reader.right_codes):
             what = Text("{}: most codes in {} have a wrong check digit", name, title)
-            hint = Text(
-                "if they have none, give {}, or {} if they have 12 digits",
-                kind_remedy(CODE128.name),
-                WITHOUT_DIGIT,
-            ).in_window(Text("maybe they have none"))
-            raise ToolError(what, hint)
+            remedies = (WITHOUT_DIGIT, kind_remedy(CODE128.name))
+            raise ToolError(what, ARE_MISSING, remedies=remedies)

@@ -47,10 +47,14 @@ class Columns(Generic[C]):
         return Columns(**found)
 
     @property
+    def prices(self) -> tuple[C | None, C | None, C | None]:
+        """Those of the price, the price of a unit, and the old price."""
+        return self.price, self.unit_price, self.old_price
+
+    @property
     def asked(self) -> tuple[C, ...]:
         """All of them."""
-        prices = (self.price, self.unit_price, self.old_price)
-        others = (*prices, self.currency, self.copies, self.symbology, self.variants_of)
+        others = (*self.prices, self.currency, self.copies, self.symbology, self.variants_of)
         given = (column for column in others if column is not None)
         return (self.code, *self.title, *self.text, *given, *(column for column, _ in self.where))
 

@@ -7,7 +7,7 @@ from collections.abc import Sequence
 from contextlib import suppress
 from dataclasses import dataclass, field
 
-from labeltools.common.messages import quoted, RowError
+from labeltools.common.messages import Problem, quoted, RowError
 from labeltools.common.text import Text
 from labeltools.sheets.rows import Row
 from labeltools.tables.columns import Column
@@ -66,6 +66,6 @@ class Variants:
         key = self.columns.variants_of.compared_text(row)
         first, title = self.titles.get(key, (0, ""))
         if title:
-            said = Text("row {} has the title of row {}, {}", row.number, first, quoted(title))
-            self.findings.see("variant", said)
+            what = Text("row {} has the title of row {}, {}", row.number, first, quoted(title))
+            self.findings.see(self.columns.variants_of, Problem(what))
         return title

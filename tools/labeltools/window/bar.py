@@ -5,8 +5,10 @@ from collections.abc import Callable
 from dataclasses import dataclass, replace
 from typing import TYPE_CHECKING
 
+from labeltools.common.language import _
+from labeltools.common.text import Text, whole_sentence
 from labeltools.window.designs import without_folder
-from labeltools.window.gtk import Gtk
+from labeltools.window.gtk import do_soon, Gtk, widgets_within
 
 if TYPE_CHECKING:
     from labeltools.window.window import Window
@@ -41,8 +43,19 @@ class Bar:
 
     def __init__(self, window: "Window") -> None:
         self.window = window
+        self.widgets = window.widgets
         self.event: Event | None = None  # the one that is shown
+        self.widgets.bar.connect("response", lambda bar, _response: bar.hide())
+        for part in widgets_within(self.widgets.bar):
+            if isinstance(part, Gtk.Button) and part is not window.widgets.bar_act:
+                part.get_accessible().set_name(_("Close"))
         window.widgets.bar_act.connect("clicked", lambda _button: self.act())
+
+    def report(
+        self, kind: str, text: Text, about: object = None, answer: Answer | None = None
+    ) -> None:
+        """Says what happened."""
+        self.show_event(Event(kind, whole_sentence(text), answer, about))
 
     def show_event(self, event: Event) -> None:
         """Shows an event. One that is bad stays until it is closed or work begins: what is good
@@ -51,40 +64,40 @@ class Bar:
         named = self.window.of_printers.with_printer_names(without_folder(event.sentence))
         event = replace(event, sentence=named)
         self.list(event)
-        shown = self.event if self.window.widgets.bar.get_visible() else None
+        shown = self.event if self.widgets.bar.get_visible() else None
         is_other = shown is not None and shown.about not in (None, event.about)
         if is_other and shown is not None and shown.kind in BAD and event.kind not in BAD:
             return
         self.event = event
         kind, icon = KINDS[event.kind]
-        self.window.widgets.bar.set_message_type(kind)
-        style = self.window.widgets.bar.get_style_context()
+        self.widgets.bar.set_message_type(kind)
+        style = self.widgets.bar.get_style_context()
         for name in KINDS:
             (style.add_class if name == event.kind else style.remove_class)(f"is-{name}")
-        self.window.widgets.bar_icon.set_from_icon_name(icon, Gtk.IconSize.BUTTON)
-        self.window.widgets.bar_text.set_text(event.sentence)
-        self.window.widgets.bar_act.set_visible(event.answer)
+        self.widgets.bar_icon.set_from_icon_name(icon, Gtk.IconSize.BUTTON)
+        self.widgets.bar_text.set_text(event.sentence)
+        self.widgets.bar_act.set_visible(event.answer)
         if event.answer:
-            self.window.widgets.bar_act.set_label(event.answer[0])
-        self.window.widgets.bar.show()
+            self.widgets.bar_act.set_label(event.answer[0])
+        self.widgets.bar.show()
 
     def hide(self) -> bool:
         """Closes the bar; returns whether it was there."""
-        was_there = bool(self.window.widgets.bar.get_visible())
-        self.window.widgets.bar.hide()
+        was_there = bool(self.widgets.bar.get_visible())
+        self.widgets.bar.hide()
         return was_there
 
     def act(self) -> None:
         """Does what helps, and closes the bar."""
         answer = self.event.answer if self.event else None
-        self.window.widgets.panel.child_focus(Gtk.DirectionType.TAB_FORWARD)  # the button goes
+        self.widgets.panel.child_focus(Gtk.DirectionType.TAB_FORWARD)  # the button goes
         self.hide()
         if answer:
-            answer[1]()
+            do_soon(answer[1])
 
     def list(self, event: Event) -> None:
         """Adds an event to the list, in front of those before it."""
-        rows = self.window.widgets.history_list
+        rows = self.widgets.history_list
         line = Gtk.Box(spacing=8, margin=4)
         image = Gtk.Image(icon_name=KINDS[event.kind][1])
         image.get_style_context().add_class(f"is-{event.kind}")
@@ -96,4 +109,4 @@ class Bar:
         rows.insert(line, 0)
         for old in rows.get_children()[MOST_EVENTS:]:
             old.destroy()
-        self.window.widgets.history_button.set_sensitive(True)
+        self.widgets.history_button.set_sensitive(True)

@@ -2,18 +2,22 @@
 the tools, as files that a keeper may also change.
 """
 
-from collections.abc import Iterator
+from collections.abc import Iterator, Mapping
 from contextlib import suppress
 from functools import cache
 from pathlib import Path
-from typing import Any
+from typing import Any, TYPE_CHECKING
 
 import cairo
 
 from labeltools.common.text import Text, translated
+from labeltools.designs.svg_design import is_file
 from labeltools.layout.area import ARTICLE, SHELF
 from labeltools.paper.stock import Size
-from labeltools.window.gtk import Gdk, GdkPixbuf, GLib, Gtk
+from labeltools.window.gtk import Gdk, GdkPixbuf, GLib, Gtk, show_pictures
+
+if TYPE_CHECKING:
+    from labeltools.window.window import Window
 
 A_FILE = "file"  # the choice of a design in a file
 TOOLS = Path(__file__).resolve().parents[2]  # of a checkout, or as they are installed
@@ -37,6 +41,60 @@ BARS = (0, 2, 3, 6, 8, 11, 12, 15, 17, 18, 21)  # where the bars of a drawn code
 # the built-in designs as they are drawn small: the height of the digits of the price, and where the
 # price and the bars are
 DRAWN = {ARTICLE.name: (11, (34, 26), (5, 15, 18)), SHELF.name: (19, (16, 27), (5, 31, 5))}
+
+
+class Designs:
+    """The designs of a window: a list, and two of them in sight."""
+
+    def __init__(self, window: "Window") -> None:
+        self.window = window
+        self.widgets = window.widgets
+        self.last = ARTICLE.name  # that was chosen
+        # the buttons of the designs in sight
+        self.looks: Mapping[str, Any] = {
+            ARTICLE.name: self.widgets.till,
+            SHELF.name: self.widgets.shelf,
+        }
+        for folder in filter(Path.is_dir, folders()[:1]):
+            self.widgets.design_opener.add_shortcut_folder(str(folder))
+        add_pictures(self.widgets.design)
+        self.widgets.design.connect("changed", self.on_design)
+        for name, button in self.looks.items():
+            button.set_property("image", Gtk.Image.new_from_pixbuf(picture_of_design(name)))
+            button.connect("clicked", self.on_look, name)
+
+    def on_design(self, design: Any) -> None:
+        """Makes the labels in another design; asks for its file where that is chosen, once the list
+        of choices is closed.
+        """
+        name = design.get_active_id()
+        if name == A_FILE:
+            GLib.idle_add(self.ask_for_file)
+        elif name:
+            self.last = name
+            self.show_look()
+            self.window.follow()
+
+    def on_look(self, button: Any, name: str) -> None:
+        """Chooses one of the designs that are in sight."""
+        if button.get_active():
+            self.window.take_values(design=name)
+
+    def show_look(self) -> None:
+        """Shows which of the designs in sight is chosen; neither if it is another one."""
+        for name, button in self.looks.items():
+            button.set_inconsistent(self.last not in self.looks)
+            if name == self.last:
+                button.set_active(True)
+
+    def ask_for_file(self) -> None:
+        """Asks for the file of a design."""
+        opener = self.widgets.design_opener
+        last = Path(self.last) if is_file(self.last) else self.window.path
+        opener.set_current_folder(str((last or Path()).absolute().parent))
+        is_found = opener.run() == Gtk.ResponseType.ACCEPT
+        self.window.take_values(design=opener.get_filename() if is_found else self.last)
+        self.window.make()  # the file may have another drawing now
 
 
 def folders() -> tuple[Path, Path]:
@@ -76,12 +134,7 @@ def add_pictures(choice: Any) -> None:
     picture = Gtk.CellRendererPixbuf(width=WIDE + 8, xalign=0)
     choice.pack_start(picture, False)
     choice.reorder(picture, 0)
-    choice.set_cell_data_func(picture, show_picture_of_design, None)
-
-
-def show_picture_of_design(_layout: Any, renderer: Any, model: Any, row: Any, _data: Any) -> None:
-    """Shows the picture of the design of a row; a file of the keeper has none."""
-    renderer.set_property("pixbuf", picture_of_design(model[row][1]))
+    show_pictures(choice, picture, lambda row: picture_of_design(row[1]))
 
 
 @cache

@@ -3,16 +3,20 @@ button chose or the window guessed, which it says in words.
 """
 
 import shlex
-from collections.abc import Callable, Iterator, Mapping
+from collections.abc import Callable, Collection, Iterator, Mapping
 from dataclasses import replace
-from functools import reduce
 from typing import NamedTuple
 
-from labeltools.common.messages import named_character, ToolError
-from labeltools.common.text import Remedy, Text
+from labeltools.common.messages import named_character, Remedy, ToolError
+from labeltools.common.text import Text
 from labeltools.sheets.encoding import letters_by
+from labeltools.tables.codes import NO_CHECK_DIGIT, ZEROS_ARE_LOST
 
 DATES = {"dd.mm.yyyy": "31.12.2026"}  # a date by each pattern that a button gives
+DIGITS = {
+    ZEROS_ARE_LOST: Text("lost zeros are put back in front"),
+    NO_CHECK_DIGIT: Text("the codes have no check digit"),
+}
 SIGNS = {
     "comma": Text("the comma is before the cents"),
     "point": Text("the point is before the cents"),
@@ -31,21 +35,6 @@ class Further(NamedTuple):
     def words(self) -> tuple[str, ...]:
         """All as words of a command; what is typed counts more. Raises `ToolError`."""
         return (*option_words(self.given), *option_words(self.typed))
-
-    @classmethod
-    def from_text(cls, text: str) -> "Further":
-        """Returns the options of a text, such as an older window kept: those that a button gives
-        are not taken as typed.
-
-        >>> Further.from_text("--sheet Bread --where Name=Tea --hidden")
-        Further(typed='--where Name=Tea', given='--sheet Bread --hidden')
-        """
-        try:
-            given = [option for option in options_in(text) if option.option in SAID]
-        except ToolError:  # somebody has written into the file of choices
-            return cls(text)
-        typed = reduce(typed_without, given, text)
-        return cls(typed, reduce(typed_with, given, ""))
 
 
 def option_words(argument: str) -> tuple[str, ...]:
@@ -78,19 +67,37 @@ def typed_with(typed: str, remedy: Remedy) -> str:
     >>> typed_with("--hidden --delimiter=tab", Remedy("delimiter", is_less=True))
     '--hidden'
     """
-    words = [*option_words(typed)]
-    name = f"--{remedy.option}"
-    while name in (names := [word.split("=")[0] for word in words]):
-        place = names.index(name)
-        following = words[place + 1 : place + 2]
-        has_value = words[place] == name and following and not following[0].startswith("--")
-        del words[place : place + (2 if has_value else 1)]
-    return shlex.join([*words, *([] if remedy.is_less else remedy.words)])
+    rest, _ = parted(typed, {remedy.option})
+    return shlex.join([*rest, *([] if remedy.is_less else remedy.words)])
 
 
 def typed_without(typed: str, remedy: Remedy) -> str:
     """Returns options as they are typed, without the option of a remedy."""
     return typed_with(typed, replace(remedy, is_less=True))
+
+
+def with_part(text: str, other: str, names: Collection[str]) -> str:
+    """Returns options as they are typed, but those of some names as in another text.
+
+    >>> with_part("--shift=0,-1 --only 3", "--edge 1 --only 7", {"shift", "edge"})
+    '--only 3 --edge 1'
+    """
+    try:
+        (rest, before), (_, wanted) = parted(text, names), parted(other, names)
+    except ToolError:  # it is being typed
+        return text
+    return text if before == wanted else shlex.join([*rest, *wanted])
+
+
+def parted(text: str, names: Collection[str]) -> tuple[list[str], list[str]]:
+    """Returns the words of options but for those of some names, and those; raises `ToolError`."""
+    parts: tuple[list[str], list[str]] = [], []
+    is_of_names = False
+    for word in option_words(text):
+        if word.startswith("--"):
+            is_of_names = word[2:].partition("=")[0] in names
+        parts[is_of_names].append(word)
+    return parts
 
 
 def between_cells(mark: str) -> Text:
@@ -112,17 +119,15 @@ SAID: Mapping[str, Callable[[str], Text]] = {
     "date-as": lambda pattern: Text("dates look like {}", DATES.get(pattern, pattern)),
     "decimal": lambda sign: SIGNS.get(sign, Text("{} is before the cents", sign)),
     "delimiter": between_cells,
+    "digits": lambda which: DIGITS[which],
     "edge": lambda _edges: Text("labels keep away from the edge"),
     "encoding": lambda codec: Text("the letters are {}", letters_by(codec)),
-    "fill-zeros": lambda _value: Text("lost zeros are put back in front"),
     "hidden": lambda _value: Text("hidden rows are printed too"),
     "links": lambda _value: Text("the code is the address behind a cell"),
     "paper-as-given": lambda _value: Text("the paper need not be one of the driver's"),
-    "price-text": lambda _value: Text("prices may be any text"),
     "sheet": lambda name: Text("the worksheet is {}", name),
     "title": lambda column: Text("the title goes on with {}", column),
     "variants-of": lambda column: Text("rows of the same {} have one title", column),
-    "without-check-digit": lambda _value: Text("the codes have no check digit"),
 }
 
 

@@ -9,7 +9,8 @@ from typing import Any, TYPE_CHECKING
 import gi
 
 from labeltools.common.language import _
-from labeltools.common.text import Remedy, whole_sentence
+from labeltools.common.messages import Remedy
+from labeltools.common.text import whole_sentence
 from labeltools.window.further import options_in, said_of, typed_without
 
 try:
@@ -50,7 +51,10 @@ __all__ = [
     "Pango",
     "add_actions",
     "add_style",
+    "do_soon",
     "leave_wheel",
+    "show_pictures",
+    "show_rows",
     "widen",
     "widgets_within",
 ]
@@ -73,7 +77,6 @@ infobar label, infobar image { color: @theme_fg_color; text-shadow: none; }
 .working progress { min-height: 4px; border: none;
   background: mix(@theme_selected_bg_color, @theme_fg_color, .4); }
 .working { padding: 8px; background: mix(@theme_bg_color, @theme_selected_bg_color, .12); }
-button.fold:checked { background: none; border-color: transparent; box-shadow: none; }
 .given button { padding: 0; min-width: 22px; min-height: 22px; }
 combobox { -GtkComboBox-appears-as-list: 1; }
 image.is-success { color: @success_color; }
@@ -89,9 +92,17 @@ def add_actions(owner: Any, called: Mapping[str, Callable[..., object]], kind: s
     for name, call in called.items():
         action = Gio.SimpleAction.new(name, GLib.VariantType.new(kind) if kind else None)
         action.connect(
-            "activate", lambda _, value, call=call: call(*([value.unpack()] if kind else ()))
+            "activate",
+            lambda _, value, call=call: do_soon(call, *([value.unpack()] if kind else ())),
         )
         owner.add_action(action)
+
+
+def do_soon(act: Callable[..., object], *values: Any) -> None:
+    """Does something as soon as nothing else is under way: a screen reader that presses a button
+    waits for what that does, and could read nothing in a dialog that it opens.
+    """
+    GLib.idle_add(lambda: act(*values) and False)
 
 
 def add_style() -> None:
@@ -134,6 +145,28 @@ def widen(choice: Any, *columns: int) -> None:
         shown.set_size_request(min(sum(widths) + beside, WIDEST), -1)
 
 
+def show_pictures(layout: Any, cell: Any, picture_of: Callable[[Any], Any]) -> None:
+    """Shows a picture in each row of a list that is seen; None is none."""
+
+    def show(_layout: Any, cell: Any, model: Any, row: Any, _data: Any) -> None:
+        cell.set_property("pixbuf", picture_of(model[row]))
+
+    layout.set_cell_data_func(cell, show, None)
+
+
+def show_rows(model: Any, rows: Sequence[tuple[str, ...]]) -> None:
+    """Shows rows in a list, which may be open: it is made anew only for other ids, which are at the
+    end of rows.
+    """
+    if [row[-1] for row in model] != [row[-1] for row in rows]:
+        model.clear()
+        for new in rows:
+            model.append(new)
+    for old, new in zip(model, rows):
+        if tuple(old) != new:
+            model[old.iter] = new
+
+
 def widgets_within(widget: Any) -> Iterator[Any]:
     """Yields a widget, and all that are in it, those of GTK's own too."""
     yield widget
@@ -144,23 +177,11 @@ def widgets_within(widget: Any) -> Iterator[Any]:
             yield from widgets_within(part)
 
 
-class Report(Gtk.InfoBar):
-    """What is reported, until it is closed."""
-
-    __gtype_name__ = "LabelsReport"
-
-    def __init__(self, **properties: Any) -> None:
-        super().__init__(**properties)
-        self.connect("response", lambda bar, _response: bar.hide())
-        for part in widgets_within(self):
-            if isinstance(part, Gtk.Button):
-                part.get_accessible().set_name(_("Close"))
-
-
 class Question(Gtk.Box):
     """A question below a control, with its answers as buttons."""
 
     __gtype_name__ = "LabelsQuestion"
+    control = GObject.Property(type=Gtk.Widget)  # that it is about
 
     def __init__(self, **properties: Any) -> None:
         super().__init__(**properties)
@@ -175,9 +196,7 @@ class Question(Gtk.Box):
             box.add(part)
             part.show()
 
-    def ask_with_buttons(
-        self, text: str, answers: Sequence[tuple[str, Callable[[], object]]]
-    ) -> None:
+    def ask(self, text: str, answers: Sequence[tuple[str, Callable[[], object]]]) -> None:
         """Asks, with a button for each answer."""
         self.text.set_text(text)
         self.answers.foreach(Gtk.Widget.destroy)
@@ -189,13 +208,19 @@ class Question(Gtk.Box):
             )
             widest = max(widest, self.create_pango_layout(shown).get_pixel_size()[0])
             button = Gtk.Button(child=label)
-            button.connect("clicked", lambda _button, act=act: act())
+            button.connect("clicked", lambda _button, act=act: self.end(act))
             self.answers.add(button)
             button.show_all()
         is_short = widest <= SIDE and len(answers) < 3
         kind = Gtk.Orientation.HORIZONTAL if is_short else Gtk.Orientation.VERTICAL
         self.answers.set_orientation(kind)
         self.show()
+
+    def end(self, act: Callable[[], object]) -> None:
+        """Does what was answered; the focus stays beside the answer, which goes."""
+        self.control.grab_focus()
+        self.hide()
+        do_soon(act)
 
 
 class Given(Gtk.Box):
@@ -204,7 +229,6 @@ class Given(Gtk.Box):
     """
 
     __gtype_name__ = "LabelsGiven"
-    __gsignals__ = {"changed": (GObject.SignalFlags.RUN_FIRST, None, ())}
     words = GObject.Property(type=str, default="")
 
     def __init__(self, **properties: Any) -> None:
@@ -212,12 +236,11 @@ class Given(Gtk.Box):
         self.set_properties(orientation=Gtk.Orientation.VERTICAL, spacing=4, no_show_all=True)
         self.get_style_context().add_class("given")
         self.word_by: Callable[[str], str] = lambda _codec: ""  # a word as an encoding reads it
-        self.told = ""  # the words that were there when a change was told
         self.shown: list[str] = []  # what is said of each option
         self.connect("notify::words", lambda given, _property: given.show_options())
 
     def show_options(self) -> None:
-        """Shows each option in words, and tells that they are others than before."""
+        """Shows each option in words."""
         options = [*options_in(self.words)]
         shown = [whole_sentence(said_of(option, self.encoding_word(option))) for option in options]
         if shown != self.shown:  # else a button that has the focus would lose it
@@ -226,9 +249,6 @@ class Given(Gtk.Box):
             for place, (option, said) in enumerate(zip(options, shown)):
                 self.add(self.option_line(said, partial(self.take_back, place, option)))
         self.set_visible(self.words)
-        if self.words != self.told:
-            self.told = self.words
-            self.emit("changed")
 
     def encoding_word(self, option: Remedy) -> str:
         """Returns the word by which an encoding is known; nothing for another option."""
@@ -257,22 +277,6 @@ class Given(Gtk.Box):
             lines[min(place, len(lines) - 1)].get_children()[-1].grab_focus()
 
 
-class Fold(Gtk.Expander):
-    """Controls behind a line that opens them. GTK leaves those of a closed one in the order of the
-    Tab key, unless they are hidden.
-    """
-
-    __gtype_name__ = "LabelsFold"
-
-    def __init__(self, **properties: Any) -> None:
-        super().__init__(**properties)
-        self.connect("notify::expanded", lambda fold, _property: fold.refold())
-
-    def refold(self) -> None:
-        """Shows what is in it, or hides that."""
-        self.get_child().set_visible(self.get_expanded())
-
-
 class Number(Gtk.SpinButton):
     """A whole number."""
 
@@ -287,9 +291,12 @@ class Number(Gtk.SpinButton):
 
 
 class Choice(Gtk.ComboBoxText):
-    """A choice from a list whose rows have a text, and an id behind it."""
+    """A choice from a list whose rows have a text, and an id behind it. A value that is not in the
+    list is shown before its last row, if `shown_of` has a text for it.
+    """
 
     __gtype_name__ = "LabelsChoice"
+    shown_of: Callable[[str], str] | None = None
 
     def __init__(self, **properties: Any) -> None:
         super().__init__(**properties)
@@ -299,6 +306,16 @@ class Choice(Gtk.ComboBoxText):
         self.set_button_sensitivity(Gtk.SensitivityType.ON)  # else an empty list takes the focus
         self.connect("show", shorten)
         self.connect("map", widen, 0)
+
+    def choose(self, value: str | None) -> None:
+        """Chooses the row of a value, and adds it if need be."""
+        rows = self.get_model()
+        if value and self.shown_of and value not in [row[1] for row in rows]:
+            if shown := self.shown_of(value):
+                self.insert(len(rows) - 1, value, shown)
+        self.set_active_id(value)
+
+    value = GObject.Property(Gtk.ComboBoxText.get_active_id, choose, type=str)
 
 
 class Caption(Gtk.Label):
@@ -310,17 +327,3 @@ class Caption(Gtk.Label):
         super().__init__(**properties)
         self.set_use_underline(True)
         self.set_xalign(1)
-
-
-class Heading(Gtk.Label):
-    """What a group of controls is about, above it."""
-
-    __gtype_name__ = "LabelsHeading"
-
-    def __init__(self, **properties: Any) -> None:
-        super().__init__(**properties)
-        self.set_xalign(0)
-        self.set_margin_top(2)
-        bold = Pango.AttrList()
-        bold.insert(Pango.attr_weight_new(Pango.Weight.BOLD))
-        self.set_attributes(bold)

@@ -1,59 +1,69 @@
 """Which remedies leave the rows alone that are right without them: a window offers no others."""
 
-import json
 import re
-from collections.abc import Sequence
+from collections.abc import Callable, Mapping, Sequence
+from dataclasses import replace
 
-from labeltools.common.text import Remedy
+from labeltools.common.messages import Remedy, RowError
+from labeltools.lines.file import Record
+from labeltools.tables.codes import AUTO, code_of, FILL_ZEROS
+from labeltools.tables.money import ANY_TEXT, PROGRAM_DECIMALS, read_price
+from labeltools.tables.prices import PricePattern
+from labeltools.tables.table_options import TableOptions
 
-# remedies that answer how cells are read or look, which only the keeper knows
-ANSWERS = frozenset(("date-as", "decimal", "encoding", "links"))
-PRICES = ("price", "unit", "was")
+# remedies that only add rows, or answer how cells are read, which only the keeper knows
+HARMLESS = frozenset("allow-zeros currency-name date-as decimal encoding hidden links".split())
 LAST_ZEROS = re.compile(r"\.0+(?![0-9])|(?<=\.[0-9])0+(?![0-9])")
-LABEL = b'\n#{"row":'  # how the remark of a label begins, in a file that label-table makes
-END = b'\n#{"end":'  # and that behind the last one
 
 
-def is_answer(remedy: Remedy) -> bool:
-    """Returns whether a remedy answers a question about the cells that it changes."""
-    return remedy.option in ANSWERS
-
-
-def keeps_good_rows(before: bytes, after: bytes) -> bool:
-    """Returns whether each label of a file of lines is in a later one, too, with the same code, the
-    same texts, and prices of the same value.
+def keeps_good_rows(remedy: Remedy, good: Sequence[Record], options: TableOptions) -> bool:
+    """Returns whether each label that options make keeps its code, its texts, and prices of the
+    same value with a remedy. One without a rule does not.
     """
-    later = labels_of_table(after)
-    same = frozenset(later)
-    changed = [label for label in labels_of_table(before) if label not in same]
-    by_row = {row_of_label(label): label for label in later} if changed else {}
-    return all(worth(label) == worth(by_row.get(row_of_label(label), b"")) for label in changed)
+    rule = RULES.get(remedy.option)
+    is_kept = rule is not None and rule(remedy, good, options)
+    return not good or remedy.option in HARMLESS or is_kept
 
 
-def labels_of_table(lines: bytes) -> Sequence[bytes]:
-    r"""Returns the labels of a file of lines: of each its remark from the row on, and its line.
+def keeps_kinds(remedy: Remedy, good: Sequence[Record], options: TableOptions) -> bool:
+    """Returns whether codes are of a kind already, or found to be of theirs."""
+    if not remedy.is_less and remedy.value != AUTO:
+        return {label.symbology for label in good} == {remedy.value}
+    rules = replace(options.codes, symbology=AUTO)
+    try:
+        found = [code_of(label.data.decode(), rules).symbology for label in good]
+    except RowError:
+        return False
+    return found == [label.symbology for label in good]
 
-    >>> labels_of_table(b'#{"labels":1}\n#{"row":2}\nqr a\n#{"row":3}\nqr b\n#{"end":1}\n')
-    [b'2}\nqr a', b'3}\nqr b']
+
+def keeps_prices(remedy: Remedy, good: Sequence[Record], options: TableOptions) -> bool:
+    """Returns whether prices are the same by a pattern, but for zeros at their end; or, where they
+    may be any text, are printed as the table has them already.
     """
-    return lines.partition(END)[0].split(LABEL)[1:]
+    if remedy.value == ANY_TEXT.value:
+        return options.prices.pattern is None and options.columns.currency is None
+    pattern = PricePattern.from_text(remedy.value)
+    return all(
+        worth_of_price(price) == worth_of_price(price_by(pattern, price))
+        for label in good
+        for price in filter(None, (label.price, label.unit, label.was))
+    )
 
 
-def row_of_label(label: bytes) -> bytes:
-    """Returns the row of a label."""
-    return re.split(b"[,}]", label, maxsplit=1)[0]
+def price_by(pattern: PricePattern, price: str) -> str:
+    """Returns a price as a pattern writes it; nothing if it is none."""
+    try:
+        return pattern.write(read_price(price, most_decimals=PROGRAM_DECIMALS), "")
+    except RowError:
+        return ""
 
 
-def worth(label: bytes) -> object:
-    """Returns what a label has for those who scan and read it: the code, of which the bars of UPC-A
-    are those of the EAN-13 with a zero before it, and the texts, but for how prices look.
-    """
-    remark, _, line = label.partition(b"\n")
-    if not line:
-        return None
-    fields = json.loads(b'{"row":' + remark)
-    prices = {name: worth_of_price(fields.get(name, "")) for name in PRICES}
-    return {**fields, **prices}, line.replace(b"upca ", b"ean13 0")
+RULES: Mapping[str, Callable[[Remedy, Sequence[Record], TableOptions], bool]] = {
+    "digits": lambda remedy, _good, _options: remedy == FILL_ZEROS,
+    "price-as": keeps_prices,
+    "symbology": keeps_kinds,
+}
 
 
 def worth_of_price(price: str) -> str:

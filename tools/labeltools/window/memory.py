@@ -28,6 +28,10 @@ class Memory:
             return {name: value for name, value in found if isinstance(value, self.kind)}
         return {}
 
+    def get(self, name: str, default: Any) -> Any:
+        """Returns what is kept by a name."""
+        return self.all().get(name, default)
+
     def keep(self, name: str, value: Any) -> None:
         """Keeps a value, in place of an older one of its name; or forgets that, if it is None. A
         folder that takes no file is no reason to stop.
@@ -40,6 +44,8 @@ class Memory:
         with suppress(OSError):
             write_own(FOLDER / self.file, json.dumps(kept, indent=1).encode())
 
+    __setitem__ = keep
+
 
 def write_own(path: Path, data: bytes) -> None:
     """Writes a file that its owner alone may read, in a folder of such files; raises `OSError`."""
@@ -51,6 +57,8 @@ def write_own(path: Path, data: bytes) -> None:
 
 
 TABLES = Memory("window.json", dict)  # what was chosen, by the names of columns
-FILES = Memory("files.json", str)  # the words by which files were read, by their names
-PRINTERS = Memory("printers.json", dict)  # what is known of printers: language, dots, tray
+FILES = Memory("files.json", dict)  # the words by which files were read, by their names
+PRINTERS = Memory("printers.json", dict)  # what is known of printers: language, dots, roll, tray
+PAPERS = Memory("papers.json", dict)  # what papers need in a printer, and where sheets begin
+SHEETS = Memory("sheets.json", dict)  # sheets of the keeper's own, by their names
 PRESETS = Memory("setups.json", dict)  # papers and printers, by names such as "shelf roll"

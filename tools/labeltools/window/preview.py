@@ -8,13 +8,16 @@ import cairo
 
 from labeltools.common.messages import Silence
 from labeltools.drawing.dots import drawn_surface
-from labeltools.drawing.forms import PBM, SVG
+from labeltools.drawing.pen import Pen
 from labeltools.layout.layout import Page
 from labeltools.layout.letters import Letters
-from labeltools.printing.press import pens_of, Prepared, Press
+from labeltools.layout.medium import Medium
+from labeltools.printing.press import Prepared, Press
 
 USED = (0.90, 0.91, 0.92)
 EDGE = (0.80, 0.83, 0.87)
+FRAME = (0.21, 0.52, 0.89)
+LARGE = 0.94  # of the page: a label that is shown large
 
 
 class Preview:
@@ -23,7 +26,7 @@ class Preview:
     """
 
     def __init__(self, labels: Prepared, is_single: bool = False) -> None:
-        job = replace(labels.job, form=SVG if labels.job.form.is_drawn else PBM)
+        job = labels.job
         self.prints = labels.prints
         self.sheet = job.plan.sheet
         self.size = self.sheet.page
@@ -38,7 +41,9 @@ class Preview:
             self.size = self.sheet.cell
             self.corner = self.sheet.places[0]
         self.count = max(1, job.pages_of(len(self.prints)))  # of pages
-        self.press = Press(job, labels.laid_out, pens_of(job, Letters(job.options.font)), Silence())
+        screen = Medium(job.plan.dpi, not job.form.is_drawn, is_smooth=job.form.is_drawn)
+        pen = Pen(screen, Letters(job.options.font), job.design)
+        self.press = Press(job, labels.laid_out, [pen], Silence())
 
     def cell_at(self, x: float, y: float) -> int:
         """Returns the number of the cell at a place of a page, from 1; 0 for none."""
@@ -76,6 +81,27 @@ class Preview:
             self.press.draw(canvas, page)
         else:
             self.draw_seen_dots(canvas, page)
+
+    def draw_large(self, canvas: Any, number: int, cell: int) -> None:
+        """Draws the label in a cell of a page large, on the half of the page that it is not on."""
+        place = (number - 1) * len(self.sheet.places) + cell - self.press.job.options.first
+        (left, top), (width, height) = self.sheet.places[cell - 1], self.sheet.cell
+        scale = LARGE * min(self.size[0] / width, self.size[1] / 2 / height)
+        if scale < 1 or not 0 <= place < len(self.prints):
+            return
+        is_above = top + height / 2 < self.size[1] / 2
+        middle = self.size[1] * (0.75 if is_above else 0.25)
+        canvas.save()
+        canvas.translate(self.size[0] / 2, middle)
+        canvas.scale(scale, scale)
+        canvas.rectangle(-width / 2, -height / 2, width, height)
+        canvas.set_source_rgb(*FRAME)
+        canvas.set_line_width(canvas.device_to_user_distance(4, 4)[0])
+        canvas.stroke_preserve()
+        canvas.clip()
+        canvas.translate(-left - width / 2, -top - height / 2)
+        self.draw(canvas, number)
+        canvas.restore()
 
     def draw_seen_dots(self, canvas: Any, page: Page) -> None:
         """Draws the dots that are seen, on a canvas whose unit is a dot."""

@@ -10,13 +10,7 @@ from typing import Any, TYPE_CHECKING
 from labeltools.common.language import _
 from labeltools.common.messages import ToolError
 from labeltools.common.text import translated
-from labeltools.printing.job import (
-    DRAWING_DPI,
-    is_direct,
-    LABELS_DPI,
-    planned,
-    PrintOptions,
-)
+from labeltools.printing.job import DRAWING_DPI, is_direct, LABELS_DPI, planned, PrintOptions
 from labeltools.printing.press import labels_of
 from labeltools.sending.network import address_of, SCHEME
 from labeltools.sending.printers import (
@@ -29,10 +23,10 @@ from labeltools.sending.printers import (
 )
 from labeltools.sending.queue import Queue, queue_of
 from labeltools.sending.sender import send_labels_to
-from labeltools.window.choices import Kept
-from labeltools.window.gtk import GLib, Gtk, widen
+from labeltools.window.choices import Choices, Kept
+from labeltools.window.gtk import GLib, Gtk, leave_wheel, show_rows, widen
 from labeltools.window.memory import PRINTERS
-from labeltools.window.questions import reason_and_hint
+from labeltools.window.questions import in_sentences
 from labeltools.window.shop import WindowTalk
 
 if TYPE_CHECKING:
@@ -41,10 +35,9 @@ if TYPE_CHECKING:
 ADD, FILE, NONE = "add", "file", "-"  # rows of the list that are no printers
 ICONS = {QUEUE: "printer-symbolic", USB: "printer-symbolic"}
 LANGUAGES = ("zpl", "escpos")  # of printers that take labels one by one
-PDF = ("pdf", DRAWING_DPI)  # a form, and its dots an inch
-NAMES = {"pdf": "PDF", "zpl": "ZPL", "escpos": "ESC/POS"}
+PDF = "pdf"
+NAMES = {PDF: "PDF", "zpl": "ZPL", "escpos": "ESC/POS"}
 TEST = b'#{"title":"Test","price":"1,00"}\ncode128 TEST-123\n'
-Shown = tuple[str, str, str, str]  # of the list: a name, an icon, a state, a key
 TEST_SIZE = (50.0, 25.0)  # millimetres of a test label
 
 
@@ -53,14 +46,17 @@ class Printers:
 
     def __init__(self, window: "Window") -> None:
         self.window = window
+        self.widgets = window.widgets
         self.all: dict[str, Printer] = {}
         self.wanted = ""  # the key of the one that is chosen, or was when labels went out
-        self.is_decided = False  # what it is sent, by choices of older versions
-        self.of_files = {False: PDF, True: PDF}  # the form of a file of sheets, and of a roll
-        self.of_rolls: set[str] = set()  # the queues whose drivers have paper for labels alone
+        # what queues say of themselves, or why they do not, once they do
+        self.answers: dict[str, Future[Queue | ToolError]] = {}
         self.thread = ThreadPoolExecutor(1)
         window.widgets.printer.set_row_separator_func(lambda model, row: model[row][3] == NONE)
         window.widgets.printer.connect("notify::popup-shown", lambda *_: self.refresh())
+        window.widgets.printer.connect("scroll-event", leave_wheel)
+        window.widgets.printer.connect("changed", self.on_chosen)
+        window.widgets.to.connect("changed", lambda _list: window.act_soon(self.on_language))
         self.fill_list([])
         self.refresh()
 
@@ -74,14 +70,19 @@ class Printers:
         if future.exception() is not None or not self.window.get_visible():
             return
         found, default = future.result()
+        was_asked = self.wanted in self.answers
         self.fill_list(found)
         if not self.wanted:
             first = default or next((printer.key for printer in found), FILE)
             first = first if first in self.all else FILE
-            (self.settle if self.is_decided else self.choose)(first)
+            self.choose(first)
+        elif not was_asked and self.wanted in self.answers:
+            self.window.make()
 
     def fill_list(self, found: Sequence[Printer]) -> None:
-        """Fills the list; a printer that is wanted and not there is in it, too."""
+        """Fills the list; a printer that is wanted and not there is in it, too. The queue that is
+        chosen is asked what paper and which dots it has, once it is there.
+        """
         self.all = {printer.key: printer for printer in found}
         if self.wanted and self.wanted not in (*self.all, FILE):
             self.all[self.wanted] = lost_printer(self.wanted)
@@ -92,10 +93,12 @@ class Printers:
         rows += [(NONE, "", "", NONE)] if rows else []
         rows.append((_("Network printer…"), "list-add-symbolic", "", ADD))
         rows.append((_("Save a file…"), "document-save-symbolic", "", FILE))
-        with self.window.filling():
-            show_rows(self.window.widgets.printers, rows)
-            widen(self.window.widgets.printer, 0, 2)
-            self.window.widgets.printer.set_active_id(self.wanted or None)
+        show_rows(self.widgets.printers, rows)
+        widen(self.widgets.printer, 0, 2)
+        self.widgets.printer.set_active_id(self.wanted or None)
+        printer = self.chosen
+        if printer and self.says_itself(printer) and printer.key not in self.answers:
+            self.answers[printer.key] = self.thread.submit(queue_or_problem, printer.key)
 
     @property
     def chosen(self) -> Printer | None:
@@ -106,7 +109,29 @@ class Printers:
     def is_of_labels(self) -> bool:
         """Whether the printer that is chosen prints on a roll, and has no sheets."""
         printer = self.chosen
-        return printer is not None and (printer.form in LANGUAGES or printer.key in self.of_rolls)
+        if printer is None or printer.form in LANGUAGES:
+            return printer is not None
+        queue = self.queue
+        return queue is not None and bool(queue.papers.known) and not queue.papers.is_office
+
+    @property
+    def answer(self) -> "Future[Queue | ToolError] | None":
+        """What the queue that is chosen says of itself, once it does; None for another printer."""
+        return self.answers.get(self.wanted)
+
+    @property
+    def is_silent(self) -> bool:
+        """Whether the queue that is chosen has not said yet what it has."""
+        return self.answer is not None and not self.answer.done()
+
+    @property
+    def queue(self) -> Queue | None:
+        """The queue that is chosen, if it has said what it has."""
+        answer = self.answer
+        if answer is None or self.is_silent or answer.exception():
+            return None
+        found = answer.result()
+        return found if isinstance(found, Queue) else None
 
     def shown_name(self, key: str) -> str:
         """Returns the name of a printer, as the list shows it."""
@@ -118,52 +143,43 @@ class Printers:
             text = text.replace(key, self.all[key].name)
         return text
 
-    def recall(self, kept: Kept) -> None:
-        """Takes the printer of choices by which labels went out before. Older ones have no more
-        than the address of one in the network, if they have that.
-        """
-        key = kept.get("printer", "")
-        if not key and kept.get("to") in LANGUAGES and kept.get("address"):
-            key = SCHEME + kept["address"].removeprefix(SCHEME)
-            name = key.removeprefix(SCHEME)
-            known = {"name": name, "to": kept["to"], "dpi": str(kept.get("dpi", LABELS_DPI))}
-            PRINTERS.keep(key, known)
-            self.all |= {
-                printer.key: printer
-                for printer in known_printers({key: known})
-                if printer.key == key
-            }
-        self.is_decided = bool(kept.get("to"))
-        form, is_roll = kept.get("to"), kept.get("roll")
-        if is_roll and form in LANGUAGES:
-            self.of_files[True] = form, int(kept.get("dpi") or LABELS_DPI)
-        if key:
-            self.settle(key)
-        if key == FILE:
-            self.fit_file()
-
     def settle(self, key: str) -> None:
         """Shows a printer as chosen; it decides nothing."""
         self.wanted = key
         self.fill_list([printer for printer in self.all.values() if not printer.is_lost])
-        self.window.fit_paper()
-        self.show_button()
+
+    def says_itself(self, printer: Printer) -> bool:
+        """Returns whether the queue of a printer says what it has, by its driver."""
+        return printer.way == QUEUE and printer.form == PDF and not printer.is_lost
+
+    def key_of_language(self, chosen: Choices) -> str:
+        """Returns the key by which is kept what a printer is sent, or files of sheets or of rolls;
+        nothing as long as it is not known.
+        """
         printer = self.chosen
-        if printer and printer.way == QUEUE and printer.form not in LANGUAGES:
-            future = self.thread.submit(queue_of, key)
-            future.add_done_callback(partial(GLib.idle_add, self.learn_paper, key))
+        if printer is None:
+            return f"{FILE} of {'a roll' if chosen.roll else 'sheets'}"
+        is_known = printer.form and (self.queue or not self.says_itself(printer))
+        return printer.key if is_known else ""
 
-    def learn_paper(self, key: str, future: "Future[Queue]") -> None:
-        """Learns whether a queue has sheets; one that does not answer may have some."""
-        if future.exception() is None and self.window.get_visible():
-            self.see_paper(key, future.result())
+    def usual_language(self, _chosen: Choices) -> Kept:
+        """Returns what a printer is sent of which nothing else is kept: None where only the keeper
+        knows.
+        """
+        return {"to": (self.chosen.form or None) if self.chosen else PDF}
 
-    def see_paper(self, key: str, queue: Queue) -> bool:
-        """Returns whether a queue has paper for labels alone, and shows no sheets for it."""
-        is_roll = bool(queue.papers.known) and not queue.papers.is_office
-        (self.of_rolls.add if is_roll else self.of_rolls.discard)(key)
-        self.window.fit_paper()
-        return is_roll
+    def key_of_dots(self, chosen: Choices) -> str:
+        """Returns the key by which the dots of a printer are kept, or of files, in a language."""
+        key = self.key_of_language(chosen)
+        return dots_key(chosen.to or "", key) if key else ""
+
+    def usual_dots(self, chosen: Choices) -> Kept:
+        """Returns the dots of a printer of which no others are kept."""
+        usual = LABELS_DPI if chosen.to in LANGUAGES else DRAWING_DPI
+        found = self.queue.dpi_for(not chosen.roll) if self.queue and chosen.to == PDF else 0
+        if self.chosen and self.chosen.form == chosen.to:
+            found = self.chosen.dpi or found
+        return {"dpi": str(found or usual)}
 
     def show_button(self) -> None:
         """Names the button after what it does, and a file after its form."""
@@ -171,125 +187,63 @@ class Printers:
         if self.wanted == FILE:
             form = self.window.choices().to or ""
             text = _("Sa_ve {form}…").format(form=NAMES.get(form, form))
-        self.window.widgets.print_button.set_label(text)
+        self.widgets.print_button.set_label(text)
 
     def choose(self, key: str) -> None:
-        """Chooses a printer: it decides the language, the dots, and sheets or a roll."""
-        self.wanted = key
-        with self.window.filling():
-            self.window.widgets.printer.set_active_id(key)
-        self.show_button()
-        self.window.questions.clear()
-        printer = self.chosen
-        self.window.fit_paper()
-        if key == FILE:
-            self.fit_file()
-            self.window.make()
-        elif printer is None or printer.is_lost:
-            self.window.make()
-        elif not printer.form:
-            self.ask_language(printer)
-        elif printer.form in LANGUAGES:
-            self.of_files[True] = printer.form, printer.dpi or LABELS_DPI
-            self.decide(*self.of_files[True], True)
-        else:
-            self.window.has_labels = False  # they are for another printer
-            self.window.let_out(False)
-            future = self.thread.submit(queue_of, key)
-            future.add_done_callback(partial(GLib.idle_add, self.decide_by_queue, key))
-
-    def stop_looking(self) -> None:
-        """Looks for no printers any more."""
-        self.thread.shutdown(wait=False)
-
-    def on_chosen(self, key: str) -> None:
-        """Does what is chosen in the list by the keeper."""
-        if key == ADD:
-            with self.window.filling():
-                self.window.widgets.printer.set_active_id(self.wanted or None)
-            self.ask_for_printer()
-        elif key:
-            self.choose(key)
-
-    def fit_file(self) -> None:
-        """Takes the form of a file, if one is saved: of sheets PDF or what was chosen for them, of
-        a roll the language of the last label printer.
+        """Chooses a printer: it decides the language, the dots, and sheets or a roll. A queue is
+        asked again what it has; it has sheets unless it says that it has a roll.
         """
-        chosen = self.window.choices()
-        form, dpi = self.of_files[chosen.roll]
-        if self.wanted in (FILE, "") and chosen.to != form:
-            with self.window.filling():
-                self.window.take_values(to=form, dpi=str(dpi))
-        self.show_button()
-
-    def decide_by_queue(self, key: str, future: "Future[Queue]") -> None:
-        """Makes the labels for a queue, whose driver is known now."""
-        if key != self.wanted or not self.window.get_visible():
-            return
-        error = future.exception()
-        if isinstance(error, ToolError):
-            self.window.show_problem(error)
-            return
-        queue = future.result()
-        is_roll = self.see_paper(key, queue)
-        self.decide("pdf", queue.dpi_for(not is_roll) or DRAWING_DPI, is_roll)
-
-    def decide(self, form: str, dpi: int, is_roll: bool) -> None:
-        """Makes the labels for a printer."""
-        with self.window.filling():
-            self.window.take_values(to=form, dpi=str(dpi))
-            self.window.take_values(**{"roll" if is_roll else "sheet": True})
+        self.answers.pop(key, None)
+        self.settle(key)
+        if self.answer:
+            self.window.take_values(sheet=True)
+        self.window.owners.take_anew()
         self.window.make()
 
+    def on_chosen(self, choice: Any) -> None:
+        """Does what the keeper chooses in the list, once that is closed."""
+        key = choice.get_active_id()
+        if key == ADD:
+            self.window.act_soon(self.ask_for_printer)
+        elif key not in (None, self.wanted):
+            self.window.act_soon(partial(self.choose, key))
+
     def ask_about_chosen(self) -> None:
-        """Asks what is not known of the printer that is chosen."""
+        """Asks once what the printer that is chosen understands, if it does not say it."""
         printer = self.chosen
-        if printer is not None and not printer.form and not printer.is_lost:
-            self.ask_language(printer)
-
-    def take_language(self, form: str) -> bool:
-        """Keeps the language of a printer that takes labels one by one, which understands nothing
-        else, or that of a file; returns whether there is such a printer.
-        """
-        printer = self.chosen
-        if printer is None:
-            self.of_files[self.window.choices().roll] = form, usual_dpi(form)
-            self.show_button()
-        if printer is None or printer.way == QUEUE:
-            return False
-        if form in LANGUAGES:
-            self.know(printer.key, {"to": form})
-        else:
-            with self.window.filling():
-                self.window.take_values(to=printer.form or LANGUAGES[0])
-        return True
-
-    def ask_language(self, printer: Printer) -> None:
-        """Asks once what a printer understands that does not say it."""
+        if printer is None or printer.form or printer.is_lost:
+            return
         shown = (_("Labels (ZPL)"), _("Receipts (ESC/POS)"))
         answers = [
             (text, partial(self.know, printer.key, {"to": language}))
             for text, language in zip(shown, LANGUAGES)
         ]
-        self.window.questions.ask_below("printer", _("What does this printer print?"), answers)
-        self.window.let_out(self.window.has_labels)
+        self.window.questions.below("printer").ask(_("What does this printer print?"), answers)
+        self.window.let_out()
+
+    def on_language(self) -> None:
+        """Makes the labels in the language that is chosen. A printer that takes labels one by one
+        understands nothing else from now on, if it may be its.
+        """
+        printer, form = self.chosen, self.widgets.to.value
+        if printer and printer.way != QUEUE and form not in (None, printer.form):
+            self.know(printer.key, {"to": form} if form in LANGUAGES else {})
+        else:
+            self.window.keep_up()
 
     def know(self, key: str, more: Mapping[str, str]) -> None:
         """Keeps what is known of a printer from now on, and chooses it."""
-        PRINTERS.keep(key, {**PRINTERS.all().get(key, {}), **more})
-        known = PRINTERS.all()
-        self.all = {printer.key: printer for printer in self.all.values()} | {
-            printer.key: printer
-            for printer in known_printers({key: known[key]})
-            if printer.key == key
-        }
-        self.wanted = key
-        self.fill_list([*self.all.values()])
+        PRINTERS.keep(key, {**PRINTERS.get(key, {}), **more})
+        if "dpi" in more:
+            PRINTERS.keep(dots_key(more["to"], key), None)
+        found = known_printers({key: PRINTERS.get(key, {})})
+        self.all |= {printer.key: printer for printer in found if printer.key == key}
         self.choose(key)
 
     def ask_for_printer(self) -> None:
         """Asks for a printer in the network, and chooses it."""
         window = self.window
+        window.widgets.printer.set_active_id(self.wanted or None)
         window.widgets.new_said.set_text("")
         window.widgets.new_address.grab_focus()
         tests = window.widgets.new_test.connect("clicked", lambda _button: self.test())
@@ -299,7 +253,7 @@ class Printers:
             try:
                 address_of(key)
             except ToolError as error:
-                window.widgets.new_said.set_text(reason_and_hint(error.what, error.hint))
+                window.widgets.new_said.set_text(in_sentences(error.problem))
                 continue
             self.know(key, kept)
             break
@@ -308,19 +262,19 @@ class Printers:
 
     def new(self) -> tuple[str, Mapping[str, str]]:
         """Returns the printer that is typed: its address, and what is kept of it."""
-        address = self.window.widgets.new_address.get_text().strip().removeprefix(SCHEME)
-        name = self.window.widgets.new_name.get_text().strip() or address
-        form = LANGUAGES[0] if self.window.widgets.new_zpl.get_active() else LANGUAGES[1]
+        address = self.widgets.new_address.get_text().strip().removeprefix(SCHEME)
+        name = self.widgets.new_name.get_text().strip() or address
+        form = LANGUAGES[0] if self.widgets.new_zpl.get_active() else LANGUAGES[1]
         return SCHEME + address, {
             "name": name,
             "to": form,
-            "dpi": self.window.widgets.new_dpi.get_active_id(),
+            "dpi": self.widgets.new_dpi.get_active_id(),
         }
 
     def test(self) -> None:
         """Prints a test label, and says what came of it."""
         key, kept = self.new()
-        self.window.widgets.new_said.set_text("…")
+        self.widgets.new_said.set_text("…")
         future = self.thread.submit(print_test, key, kept)
         future.add_done_callback(partial(GLib.idle_add, self.tested))
 
@@ -329,26 +283,15 @@ class Printers:
         error = future.exception()
         text = _("Sent: look whether it comes out.")
         if isinstance(error, ToolError):
-            text = reason_and_hint(error.what, error.hint)
+            text = in_sentences(error.problem)
         elif error is not None:
             text = str(error)
-        self.window.widgets.new_said.set_text(text)
+        self.widgets.new_said.set_text(text)
 
 
-def usual_dpi(form: str) -> int:
-    """Returns the dots an inch that printers of a form mostly have."""
-    return LABELS_DPI if form in LANGUAGES else DRAWING_DPI
-
-
-def show_rows(model: Any, rows: Sequence[Shown]) -> None:
-    """Shows rows in a list, which may be open: it is made anew only for other printers."""
-    if [row[3] for row in model] != [row[3] for row in rows]:
-        model.clear()
-        for new in rows:
-            model.append(new)
-    for old, new in zip(model, rows):
-        if tuple(old) != new:
-            model[old.iter] = new
+def dots_key(form: str, printer: str) -> str:
+    """Returns the key by which the dots of a printer in a language are kept."""
+    return f"{form} to {printer}"
 
 
 def icon_of(printer: Printer) -> str:
@@ -361,6 +304,14 @@ def icon_of(printer: Printer) -> str:
 def found_printers() -> tuple[Sequence[Printer], str]:
     """Returns the printers, and the queue that is used if none is named."""
     return [*known_printers(PRINTERS.all())], default_queue()
+
+
+def queue_or_problem(name: str) -> Queue | ToolError:
+    """Returns what a queue says of itself, or why it does not."""
+    try:
+        return queue_of(name)
+    except ToolError as error:
+        return error
 
 
 def print_test(key: str, kept: Mapping[str, str]) -> None:

@@ -11,14 +11,13 @@ from urllib.parse import quote
 from labeltools.common.language import _, ngettext
 from labeltools.common.report import is_in_ranges, Ranges
 from labeltools.common.text import whole_sentence
-from labeltools.layout.layout import LaidOut
 from labeltools.printing.job import is_direct
 from labeltools.printing.press import Prepared
 from labeltools.printing.selection import ranges_in
 from labeltools.sending.printers import MEDIA, Printer, TRAY
-from labeltools.window.gtk import Gio, GLib, Gtk
+from labeltools.window.gtk import do_soon, Gio, GLib, Gtk
 from labeltools.window.memory import PRINTERS
-from labeltools.window.rows import Rows
+from labeltools.window.rows import labels_of_rows, parts_in, Rows
 from labeltools.window.shop import skipped
 
 if TYPE_CHECKING:
@@ -48,6 +47,7 @@ class Printing:
 
     def __init__(self, window: "Window") -> None:
         self.window = window
+        self.widgets = window.widgets
         window.widgets.print_rows.connect("changed", self.on_typed)
         for button in (
             window.widgets.print_all,
@@ -57,7 +57,7 @@ class Printing:
             button.connect("toggled", self.show_what)
         window.widgets.print_what.connect("changed", self.show_what)
         window.widgets.print_settings.connect("activate-link", self.on_settings)
-        window.widgets.print_choose.connect("clicked", self.on_choose)
+        window.widgets.print_choose.connect("clicked", lambda _button: do_soon(self.choose_rows))
         self.rows = Rows(window)
         self.printer = ""
 
@@ -87,7 +87,7 @@ class Printing:
     def fill_options(self, options: Options) -> None:
         """Fills the choices of a driver, with those of the last time."""
         kept = PRINTERS.all().get(self.printer, {})
-        for name, choice in ((TRAY, self.window.widgets.tray), (MEDIA, self.window.widgets.media)):
+        for name, choice in ((TRAY, self.widgets.tray), (MEDIA, self.widgets.media)):
             choice.remove_all()
             choice.append("", _("as the printer is set"))
             for word, shown in options.get(name, {}).items():
@@ -96,26 +96,26 @@ class Printing:
             choice.set_active_id(kept[name] if is_known else "")
             for part in (choice, *choice.list_mnemonic_labels()):
                 part.set_visible(name in options)
-        self.window.widgets.print_queue.set_visible(not is_direct(self.printer))
+        self.widgets.print_queue.set_visible(not is_direct(self.printer))
 
-    def on_choose(self, _button: Any) -> None:
+    def choose_rows(self) -> None:
         """Asks for the rows in a list."""
-        chosen = self.rows.ask_for_rows(self.labels, self.window.widgets.print_rows.get_text())
+        chosen = self.rows.ask_for_rows(self.labels, self.widgets.print_rows.get_text())
         if chosen is not None:
-            self.window.widgets.print_what.set_active_id("rows")
-            self.window.widgets.print_rows.set_text(chosen)
+            self.widgets.print_what.set_active_id("rows")
+            self.widgets.print_rows.set_text(chosen)
 
     def on_typed(self, entry: Any) -> None:
         """Prints only some, once they are typed."""
         if entry.get_text():
-            self.window.widgets.print_some.set_active(True)
+            self.widgets.print_some.set_active(True)
         self.show_what()
 
     def show_what(self, _control: Any = None) -> None:
         """Shows how many sheets are needed, and whether there is something to print."""
         wanted = self.wanted()
         prints, job = wanted.labels.prints, wanted.labels.job
-        self.window.widgets.printing.set_response_sensitive(Gtk.ResponseType.OK, bool(prints))
+        self.widgets.printing.set_response_sensitive(Gtk.ResponseType.OK, bool(prints))
         count = job.pages_of(len(prints))
         stock = job.options.stock or _("labels")
         text = ngettext(
@@ -129,23 +129,25 @@ class Printing:
         put = text.format(count=count, stock=stock) if is_sheet else ""
         count = self.window.made.left_out
         left_out = whole_sentence(skipped(count)) if count else ""
-        self.window.widgets.print_put.set_text("\n".join(filter(None, (put, left_out))))
+        self.widgets.print_put.set_text("\n".join(filter(None, (put, left_out))))
 
     def wanted(self) -> Printout:
         """Returns what is chosen."""
-        chosen = {TRAY: self.window.widgets.tray, MEDIA: self.window.widgets.media}
+        chosen = {TRAY: self.widgets.tray, MEDIA: self.widgets.media}
         options = {name: choice.get_active_id() for name, choice in chosen.items()}
         options = {name: word for name, word in options.items() if word}
-        if self.window.widgets.print_trial.get_active():
+        if self.widgets.print_trial.get_active():
             is_single = self.labels.job.plan.sheet.is_single or self.labels.job.form.is_roll
             first = replace(self.labels, prints=self.labels.prints[:1])
             trial = first if is_single else on_sheets(self.labels, ((1, 1),))
             return Printout(trial, {}, True)
-        if not self.window.widgets.print_some.get_active():
+        if not self.widgets.print_some.get_active():
             return Printout(self.labels, options)
-        ranges = ranges_in(self.window.widgets.print_rows.get_text().replace(" ", ""))
-        pick = on_sheets if self.window.widgets.print_what.get_active_id() == "sheets" else of_rows
-        return Printout(pick(self.labels, ranges), options)
+        typed = self.widgets.print_rows.get_text()
+        if self.widgets.print_what.get_active_id() == "sheets":
+            return Printout(on_sheets(self.labels, ranges_in(typed.replace(" ", ""))), options)
+        prints = labels_of_rows(self.labels.prints, parts_in(typed))
+        return Printout(replace(self.labels, prints=prints), options)
 
     def on_settings(self, _link: Any) -> bool:
         """Opens the settings of printers of the desktop, or else the page of CUPS."""
@@ -171,18 +173,6 @@ def all_text(labels: Prepared, is_roll: bool) -> str:
     pages = labels.job.pages_of(count)
     sheets = ngettext("{count} sheet", "{count} sheets", pages).format(count=pages)
     return f"{text}, {sheets}"
-
-
-def of_rows(labels: Prepared, ranges: Ranges) -> Prepared:
-    """Returns the labels of some rows of the table."""
-    return replace(
-        labels, prints=[item for item in labels.prints if is_in_ranges(table_row(item), ranges)]
-    )
-
-
-def table_row(item: LaidOut) -> int:
-    """Returns the row of a label in its table."""
-    return item.record.origin_number
 
 
 def on_sheets(labels: Prepared, ranges: Ranges) -> Prepared:

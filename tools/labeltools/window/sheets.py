@@ -1,42 +1,153 @@
-"""The list of sheets, with a picture of the grid of each, by which a keeper knows hers."""
+"""The list of sheets, with a picture of the grid of each, by which a keeper knows hers; and sheets
+of the keeper's own by the names that she gives them: a grid on a page of A4. Lengths are in
+millimetres.
+"""
 
 from collections.abc import Mapping
 from contextlib import suppress
-from functools import cache
+from dataclasses import dataclass
+from functools import cache, lru_cache
 from typing import Any
 
 import cairo
 
 from labeltools.common.messages import ToolError
 from labeltools.common.text import counted, Text, translated
-from labeltools.paper.stock import glabels_parts, glabels_sheet, list_stock, Sheet, size_text
-from labeltools.window.gtk import Gdk
+from labeltools.paper.sizes import A4
+from labeltools.paper.stock import (
+    glabels_parts,
+    glabels_sheet,
+    Grid,
+    grid_sheet,
+    list_stock,
+    parts_named,
+    Sheet,
+    Size,
+    size_text,
+)
+from labeltools.window.gtk import Gdk, show_pictures
+from labeltools.window.memory import SHEETS
 
 SIDE = 40  # pixels of the longer side of a picture
 GAP = 1.0  # pixels between two cells at least
 BETWEEN = (0.55, 0.6, 0.68)
+LEAST_GAP = 0.05  # of two labels beside one another: makers round sizes
+
+
+@dataclass(frozen=True)
+class OwnSheet:
+    """A sheet: how many labels are beside and below one another, the size of one, and where the
+    first one begins; without that they touch, and are in the middle of the page.
+    """
+
+    columns: int
+    rows: int
+    width: float
+    height: float
+    left: float | None = None
+    top: float | None = None
+
+    @property
+    def middle(self) -> Size:
+        """Where the first label begins if all touch."""
+        return (A4[0] - self.columns * self.width) / 2, (A4[1] - self.rows * self.height) / 2
+
+    @property
+    def margin(self) -> Size:
+        """Where the first label begins."""
+        left, top = self.middle
+        return left if self.left is None else self.left, top if self.top is None else self.top
+
+    @property
+    def gap(self) -> Size:
+        """What is between two labels, since a page has the same margin on both sides."""
+        size = self.width, self.height
+        counts = self.columns, self.rows
+        across, down = (
+            gap_of(A4[side], self.margin[side], counts[side], size[side]) for side in (0, 1)
+        )
+        return across, down
+
+    @property
+    def sheet(self) -> Sheet:
+        """The sheet; raises `ToolError` where its labels leave the page."""
+        size = self.width, self.height
+        return grid_sheet(Grid(A4, size, self.columns, self.rows, self.margin, self.gap))
+
+    @property
+    def options(self) -> dict[str, Any]:
+        """The options of label-print for it."""
+        found: dict[str, Any] = {"grid": f"{self.columns}x{self.rows}"}
+        found["cell"] = f"{self.width:g}x{self.height:g}"
+        if (self.left, self.top) != (None, None):
+            found["margin"] = "x".join(f"{round(side, 3):g}" for side in self.margin)
+            found["gap"] = "x".join(f"{round(side, 3):g}" for side in self.gap)
+        return found
+
+
+def gap_of(page: float, margin: float, count: int, size: float) -> float:
+    """Returns what is between labels that fill a side of a page but for its margins; nothing where
+    that is too little to be meant.
+
+    >>> gap_of(210, 7.25, 3, 63.5), round(gap_of(297, 15.1, 7, 38.1), 3), gap_of(210, 9, 1, 192)
+    (2.5, 0.0, 0.0)
+    """
+    gap = (page - 2 * margin - count * size) / (count - 1) if count > 1 else 0.0
+    return gap if gap > LEAST_GAP else 0.0
+
+
+def own_sheet(name: str | None) -> OwnSheet | None:
+    """Returns the sheet of the keeper's own that has a name; nothing if none has."""
+    kept = SHEETS.get(name, None) if name else None
+    if kept is None:
+        return None
+    try:
+        return OwnSheet(**kept)
+    except TypeError:  # somebody has written something else there
+        return None
+
+
+def complete(completion: Any, picture: Any) -> None:
+    """Lets a completion show all sheets that its list is filled with, each with its picture."""
+    completion.set_match_func(lambda *_: True)
+    show_pictures(completion, picture, lambda row: grid_of(sheet_named(row[0])))
 
 
 def fill_with_sheets(model: Any, typed: str) -> None:
-    """Fills a model with the sheets that label-print lists for what is typed, first those that
-    begin so.
+    """Fills a model with the sheets of the keeper's own and those that label-print lists for what
+    is typed, first those that begin so.
     """
     model.clear()
-    with suppress(ToolError):  # glabels, which has the sheets, is not there
-        lines = list_stock(typed) if len(typed) > 1 else ()
-        for line in sorted(lines, key=lambda line: not line.lower().startswith(typed)):
-            name = line.partition(": ")[0]
-            sheet = glabels_sheet(keys()[name])
-            sizes = size_text(sheet.cell), size_text(sheet.page)
-            text = counted(
-                "{} label of {} on {}", "{} labels of {} on {}", len(sheet.places), *sizes
-            )
-            model.append([name, translated(Text("{}: {}", name, text))])
+    if len(typed) < 2:
+        return
+    names = [name for name in SHEETS.all() if typed in name.lower()]
+    with suppress(ToolError):  # glabels, which has the others, is not there
+        names += [line.partition(": ")[0] for line in list_stock(typed)]
+    for name in sorted(dict.fromkeys(names), key=lambda name: not name.lower().startswith(typed)):
+        with suppress(ToolError, KeyError):
+            model.append([name, described(name, sheet_named(name))])
 
 
-def show_picture(_layout: Any, renderer: Any, model: Any, row: Any, _data: Any) -> None:
-    """Shows the picture of the sheet of a row; GTK asks for those that are seen."""
-    renderer.set_property("pixbuf", picture_of(model[row][0]))
+def described(name: str, sheet: Sheet) -> str:
+    """Returns what the list shows of a sheet."""
+    sizes = size_text(sheet.cell), size_text(sheet.page)
+    text = counted("{} label of {} on {}", "{} labels of {} on {}", len(sheet.places), *sizes)
+    return translated(Text("{}: {}", name, text))
+
+
+def sheet_named(name: str) -> Sheet:
+    """Returns the sheet of a name in the list; raises `ToolError`, and `KeyError` if there is
+    none.
+    """
+    own = own_sheet(name)
+    return own.sheet if own else glabels_sheet(keys()[name])
+
+
+def is_sheet(name: str) -> bool:
+    """Returns whether the list has a sheet of a name, or of a part of one."""
+    with suppress(ToolError):  # glabels, which has the list, is not there
+        return bool(name and parts_named(name))
+    return False
 
 
 @cache
@@ -45,18 +156,11 @@ def keys() -> Mapping[str, tuple[str, str]]:
     return {" ".join(key): key for key in glabels_parts()}
 
 
-@cache
-def picture_of(name: str) -> Any:
-    """Returns a picture of a sheet; None where there is none."""
-    with suppress(ToolError, KeyError):
-        return grid_of(glabels_sheet(keys()[name]))
-    return None
-
-
-def grid_of(sheet: Sheet) -> Any:
-    """Returns a picture of the grid of a sheet."""
+@lru_cache(500)
+def grid_of(sheet: Sheet, side: int = SIDE) -> Any:
+    """Returns a picture of the grid of a sheet, whose longer side has some pixels."""
     width, height = sheet.page
-    scale = SIDE / max(width, height)
+    scale = side / max(width, height)
     sides = max(3, round(width * scale)), max(3, round(height * scale))
     surface = cairo.ImageSurface(cairo.FORMAT_ARGB32, *sides)
     canvas = cairo.Context(surface)

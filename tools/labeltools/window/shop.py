@@ -3,56 +3,55 @@ was chosen the last time.
 """
 
 import hashlib
-import shlex
 import time
-from collections.abc import Iterable, Iterator, Sequence
+from collections.abc import Callable, Iterator, Mapping, Sequence
 from contextlib import suppress
 from dataclasses import dataclass
 from functools import reduce
 from pathlib import Path
+from typing import Any
 
-from labeltools.commands import label_table as table_command
+from labeltools.commands import label_print as print_command, label_table as table_command
+from labeltools.common.apart import read_apart
 from labeltools.common.arguments import words_of
-from labeltools.common.budget import Budget, TABLE
-from labeltools.common.messages import Cancelled, Origin, Talk, ToolError
+from labeltools.common.budget import TABLE
+from labeltools.common.messages import Cancelled, Origin, Problem, Remedy, Talk, ToolError
 from labeltools.common.process import read_input
 from labeltools.common.report import LeftOut
-from labeltools.common.text import counted, NOTHING, remedies_of, Remedy, shell_line, Text
+from labeltools.common.text import counted, shell_line, Text
 from labeltools.lines.file import first_remark, last_remark, read_lines, Record, record_lines
+from labeltools.lines.symbologies import CODE128
 from labeltools.printing.job import planned
 from labeltools.printing.press import labels_of, Prepared
 from labeltools.sending.job import job_of, SentJob
-from labeltools.sheets.csv_table import csv_table
-from labeltools.sheets.file_options import CsvOptions
-from labeltools.tables.codes import AUTO
+from labeltools.tables.code_readings import is_code, passing_share
+from labeltools.tables.codes import AUTO, FILL_ZEROS, kind_remedy, ZEROS_ARE_LOST
 from labeltools.tables.columns import column_word
+from labeltools.tables.first_labels import said_of_unused
 from labeltools.tables.guess import guess_of
 from labeltools.tables.money import NotMoney, PROGRAM_DECIMALS, read_price
-from labeltools.tables.name_words import column_words, words_in
 from labeltools.tables.old_encoding import old_encoding
 from labeltools.tables.prices import PricePattern
 from labeltools.tables.summary import labels_from, sentences
-from labeltools.tables.table import Lines, lines_of_table, ZIP
+from labeltools.tables.table import Lines, lines_of_table
 from labeltools.tables.table_options import TableOptions
 from labeltools.window import memory
 from labeltools.window.choices import (
     Choices,
-    chosen_with,
-    further_kept,
-    header_of,
+    COLUMNS,
     is_of_table,
     Kept,
     kept_of,
-    print_options_of,
     print_words,
-    table_options_of,
     table_words,
+    values_kept,
 )
 from labeltools.window.further import Further, typed_with
-from labeltools.window.harmless import is_answer, keeps_good_rows
+from labeltools.window.harmless import keeps_good_rows
 from labeltools.window.memory import FILES, TABLES
+from labeltools.window.owners import KEPT_OF_TABLE, OF_TABLE, READ_BY, SUGGESTED
 
-PAPER = ("sheet", "roll", "stock", "width", "height", "design", "to", "dpi", "printer")
+Pressed = Callable[[], object]  # what a button does with labels, such as Print
 WAITING = ".waiting"  # what a file of lines ends with whose job is not over
 PATTERNS = ("0,00 €", "€0.00", "£0.00", "$0.00", "CHF 0.00", "0,00 kr", "0,00 zł")  # of prices
 
@@ -62,9 +61,17 @@ class WindowTalk(Talk):
     next time that it talks; a printer that takes labels one by one gets no more of them.
     """
 
-    def __init__(self, doing: str = "", is_sending: bool = False) -> None:
+    def __init__(
+        self,
+        doing: str = "",
+        is_sending: bool = False,
+        is_making: bool = False,
+        pressed: Pressed | None = None,
+    ) -> None:
         self.doing = doing  # what is shown while it is not known how much there is to do
         self.is_sending = is_sending  # labels, whose end is always shown
+        self.is_making = is_making  # labels
+        self.pressed = pressed  # while it goes on; what is made in place of it is for this, too
         self.printer = ""  # that takes them one by one, until `stops` has one
         self.notes: list[LeftOut] = []
         self.done = 0  # of the work
@@ -75,13 +82,13 @@ class WindowTalk(Talk):
         """Stops the work."""
         self.stops.append(None)
 
-    def note(self, origin: Origin | None, cell: str, reason: Text, hint: Text) -> None:
+    def note(self, origin: Origin | None, cell: str, problem: Problem) -> None:
         """Keeps why a row is left out."""
-        self.notes.append(LeftOut(origin, cell, reason, hint))
+        self.notes.append(LeftOut(origin, cell, problem))
 
-    def say(self, text: Text, hint: Text = NOTHING) -> None:
+    def say(self, problem: Problem) -> None:
         """Keeps something about the whole."""
-        self.note(None, "", text, hint)
+        self.note(None, "", problem)
 
     def go_on(self, done: int, total: int) -> None:
         """Keeps how far the work is; raises `Cancelled` where it is stopped."""
@@ -89,17 +96,6 @@ class WindowTalk(Talk):
             raise Cancelled(Text("stopped"))
         self.done = done
         self.total = total
-
-
-class Unheard(Talk):
-    """A talk of which nothing is kept, of work within other work, with which it is stopped."""
-
-    def __init__(self, outer: Talk) -> None:
-        self.outer = outer
-
-    def go_on(self, done: int, total: int) -> None:
-        """Raises `Cancelled` where the work is stopped."""
-        self.outer.go_on(done, total)
 
 
 @dataclass(frozen=True)
@@ -125,6 +121,26 @@ class MadeLabels:
             return sentences(self.lines.totals)
         return Text("{}.", labels_from(len(self.labels.prints), count))
 
+    @property
+    def asked(self) -> Sequence[LeftOut]:
+        """The notes about the signs of prices, of which only the keeper knows."""
+        return [
+            note
+            for note in self.notes
+            if any(remedy.option == "decimal" for remedy in note.problem.remedies)
+        ]
+
+    @property
+    def told(self) -> Sequence[LeftOut]:
+        """The notes about rows, and about the whole what is no question."""
+        return [note for note in self.notes if note.origin or note not in self.asked]
+
+    @property
+    def helps(self) -> Sequence[Remedy]:
+        """What helps with notes that are no question, but for what does harm."""
+        found = (note.problem.remedies for note in self.told if note not in self.asked)
+        return [remedy for part in found for remedy in part if remedy not in self.harmful]
+
 
 class Table:
     """A table that is open."""
@@ -133,9 +149,9 @@ class Table:
     said: Sequence[LeftOut]  # about them
     harmful: frozenset[Remedy]  # of the remedies that are said
     words: Sequence[str] = ()
-    delimiter = ""  # between the cells of CSV, if the names of its columns show that it is right
     further: Further  # options by which it is read
     kept: Kept  # for tables with the same names
+    chosen: Choices | None = None  # by what its labels were last made
     of_file: Sequence[LeftOut] = ()  # what is said of how it is read
 
     def __init__(
@@ -147,35 +163,34 @@ class Table:
         _, self.data = read_input(str(path), TABLE)
         self.path = path
         is_first = further is None  # time that it is read
-        before = Further.from_text(FILES.all().get(path.name, "")) if is_first else Further()
+        before = further_of(FILES.get(path.name, {}) if is_first else {})
         try:
             self.guess_columns(further or before, header, talk)
         except ToolError:
-            old = old_encoding(self.data, path.name, TableOptions()) if is_first else None
+            old = None
+            if is_first:
+                old = read_apart(old_encoding, self.data, path.name, TableOptions(), talk)
             if not any(before) and old is None:
                 raise
             # it has another encoding now, or other sheets
             encoding = Remedy("encoding", old.name) if old else Remedy("encoding", is_less=True)
             self.guess_columns(Further(given=typed_with("", encoding)), header, talk)
-            self.of_file = [LeftOut(None, "", old.text, old.hint)] if old else ()
-        kept = further_kept(self.kept, "for_table")
+            self.of_file = [LeftOut(None, "", old.problem)] if old else ()
+        kept = further_of(self.kept)
         if is_first and any(kept) and kept != self.further:
             with suppress(ToolError):
                 self.guess_columns(kept, header, talk)
                 self.of_file = ()
         if (is_first or header is not None) and not self.kept:
             self.further = self.with_guessed()
-        last: Kept = next(reversed(TABLES.all().values()), {})
-        self.paper = {name: value for name, value in last.items() if name in PAPER}
-        self.settle_waiting()
 
     def guess_columns(self, further: Further, header: int | None, talk: WindowTalk) -> None:
         """Guesses the columns of the table as options read it, and finds what is kept for these."""
-        columns = {"code": "1", "title": ["1"], "price": "1"}
-        arguments = table_command.understood(further.words, {**columns, **header_of(header)})
+        columns = {"code": "1", "title": "1", "price": "1"}
+        words = words_of({**columns, "header-row": "" if header is None else str(header)})
+        arguments = table_command.understood([*words, *further.words])
         options = table_command.table_options(arguments)
-        self.guess = guess_of(self.data, self.path.name, options, talk)
-        self.delimiter = self.known_delimiter(options)
+        self.guess = read_apart(guess_of, self.data, self.path.name, options, talk)
         self.further = further
         self.key = "\n".join(self.guess.names) if any(self.guess.names) else ""
         self.kept = TABLES.all().get(self.key, {}) if self.key else {}
@@ -188,96 +203,107 @@ class Table:
         price = self.guess.columns.get("price")
         more = table_command.more_options(self.guess, nothing, price)
         found = [Remedy(name, value) for name, value in more.items() if name != "price-as"]
-        if "code" in self.guess.columns and self.guess.rules.fill_zeros:
-            found.append(Remedy("fill-zeros"))
+        if "code" in self.guess.columns and self.guess.rules.digits == ZEROS_ARE_LOST:
+            found.append(FILL_ZEROS)
         if "title" in self.guess.beside:
             second = column_word(self.guess.names, self.guess.beside["title"])
             found.append(Remedy("title", second))
         return self.further._replace(given=reduce(typed_with, found, self.further.given))
 
-    def guessed_pattern(self, price: str) -> str:
+    @property
+    def columns(self) -> Mapping[str, int]:
+        """The columns by their kinds, with those that are the only ones which may be meant."""
+        doubts = self.guess.doubts
+        only = {kind: places[0] for kind, places in doubts.items() if len(places) == 1}
+        return {**self.guess.columns, **only}
+
+    @property
+    def doubts(self) -> Mapping[str, Sequence[int]]:
+        """The columns of which only the keeper knows the right one."""
+        return {kind: places for kind, places in self.guess.doubts.items() if len(places) > 1}
+
+    def unprinted(self, choices: Choices) -> Iterator[LeftOut]:
+        """Yields that there are columns of amounts, though no price is on the labels."""
+        if not choices.price:
+            chosen = {getattr(choices, name) for name in COLUMNS}
+            places = [place for place in self.guess.amounts if str(place + 1) not in chosen]
+            pairs = [f"{self.guess.names[place]} {self.guess.examples[place]}" for place in places]
+            if pairs:
+                yield LeftOut(None, "", said_of_unused(pairs, False))
+
+    def numbers_as_text(self, choices: Choices) -> Iterator[LeftOut]:
+        """Yields that all codes are numbers of articles, though they are drawn as any text: a digit
+        that is wrong would not be seen.
+        """
+        if choices.symbology == CODE128.name and self.lines.count:
+            records = read_lines(self.lines.output, self.path.name).records
+            if passing_share([record.data.decode() for record in records], is_code) == 1:
+                what = Text("all codes are EAN or UPC numbers, and are drawn as {}", CODE128.title)
+                yield LeftOut(None, "", Problem(what, remedies=(kind_remedy(AUTO),)))
+
+    @property
+    def chosen_before(self) -> dict[str, Any]:
+        """What was chosen for such a table, or for its print by the last table that went out."""
+        last: Kept = next(reversed(TABLES.all().values()), {})
+        return {**values_kept(last, SUGGESTED), **values_kept(self.kept, OF_TABLE)}
+
+    def usual_kind(self, chosen: Choices) -> Kept:
+        """Returns the kind of the codes in the column that is chosen, by the guess of it."""
+        return {"symbology": self.guess.rules_of(int(chosen.code or 0) - 1).symbology}
+
+    def usual_form(self, chosen: Choices) -> Kept:
+        """Returns how the prices of the column are to be printed if that is guessed."""
+        return {"price-as": self.guessed_pattern(chosen.price)}
+
+    def guessed_pattern(self, price: str | None) -> str:
         """Returns how the prices of a column are to be printed if that is guessed; else nothing."""
         return self.guess.formats.get(int(price or 0) - 1, "")
 
-    def price_patterns(
-        self, price: str, patterns: Iterable[str] = PATTERNS
-    ) -> Iterator[tuple[str, str]]:
+    def price_patterns(self, price: str) -> Iterator[tuple[str, str]]:
         """Yields how the prices of a column may be printed: the first one as it would be, and the
         pattern; the one that is guessed in front.
         """
         example = self.guess.examples[int(price) - 1]
         place = self.guess.beside.get("currency")
         currency = "" if place is None else self.guess.examples[place]
-        for pattern in filter(None, (self.guessed_pattern(price), *patterns)):
+        for pattern in filter(None, (self.guessed_pattern(price), *PATTERNS)):
             with suppress(NotMoney):
                 money = read_price(example, most_decimals=PROGRAM_DECIMALS)
                 yield PricePattern.from_text(pattern).write(money, currency), pattern
 
     def made(self, choices: Choices, talk: WindowTalk) -> MadeLabels:
         """Returns what is made by choices; raises `ToolError` and `OSError`."""
-        options = print_options_of(choices)
-        job = planned(options)
+        printed = print_words(choices)
+        job = planned(print_command.print_options(printed))
         since = str(self.last_printed) if choices.new_only else None
-        delimiter = self.delimiter_for(choices)
-        own = words_of({"new-since": since, "delimiter": delimiter})
-        words = [*own, *table_words(choices), "--", str(self.path)]
+        words = words_of({"new-since": since})
+        words += [*table_words(choices), "--", str(self.path)]
         if words != self.words:  # other paper needs no other lines
-            to_read = table_options_of(choices, str(self.path), since, delimiter)
-            self.lines = lines_of_table(self.data, self.path.name, to_read, talk)
+            to_read = table_command.table_options(table_command.understood(words))
+            self.lines = read_apart(lines_of_table, self.data, self.path.name, to_read, talk)
             self.said = tuple(talk.notes)
-            self.harmful = frozenset(self.harmful_remedies(choices, talk))
+            self.harmful = frozenset(self.harmful_remedies(to_read))
             self.words = words
         found = labels_of(job, self.path.name, self.lines.output, talk)
         rows = set(self.lines.left_out)
         more = [note for note in found.left_out if note.origin and note.origin.number not in rows]
-        commands = ["label-table", *words], ["label-print", *print_words(choices)]
+        commands = ["label-table", *words], ["label-print", *printed]
         command = " | ".join(map(shell_line, commands)) + f" > labels.{job.form.name}"
-        notes = sorted((*self.of_file, *self.said, *more, *found.remarks), key=row_of_note)
+        about = *self.of_file, *self.unprinted(choices), *self.numbers_as_text(choices), *self.said
+        notes = sorted((*about, *more, *found.remarks), key=row_of_note)
         count = len(rows) + len(more)
         return MadeLabels(self, self.lines, found, notes, count, command, self.harmful)
 
-    def delimiter_for(self, choices: Choices) -> str | None:
-        """Returns the character between cells if it is known and has to be given: label-table asks
-        for it where nothing is wanted but a code that may have any character. Raises `ToolError`.
+    def harmful_remedies(self, options: TableOptions) -> Iterator[Remedy]:
+        """Yields the remedies in what is said that would leave rows worse that are right, of a
+        table that is read by options.
         """
-        options = table_options_of(choices)
-        is_asked = options.file.delimiter is None and csv_options(options).may_have_delimiter
-        return self.delimiter if self.delimiter and is_asked else None
-
-    def known_delimiter(self, options: TableOptions) -> str:
-        """Returns the character that divides the names of the columns, which are known as such;
-        empty if none does.
-        """
-        if self.data.startswith(ZIP) or not self.guess.header or not are_known(self.guess.names):
-            return ""
-        budget = Budget(self.path.name, len(self.data))
-        found = csv_table(self.data, csv_options(options), budget).delimiter
-        return "tab" if found == "\t" else found
-
-    def harmful_remedies(self, choices: Choices, talk: WindowTalk) -> Iterator[Remedy]:
-        """Yields the remedies in what is said that would leave rows worse that are right; raises
-        `Cancelled`.
-        """
-        found = (remedy for note in self.said for remedy in remedies_of(note.hint) if remedy.says)
-        for remedy in dict.fromkeys(found):
-            is_tried = is_of_table(remedy) and not is_answer(remedy)
-            if is_tried and self.lines.count and not self.is_harmless(remedy, choices, talk):
+        found = (remedy for note in self.said for remedy in note.problem.remedies if remedy.says)
+        wanted = [remedy for remedy in dict.fromkeys(found) if is_of_table(remedy)]
+        good = read_lines(self.lines.output, self.path.name).records if wanted else ()
+        for remedy in wanted:
+            if not keeps_good_rows(remedy, good, options):
                 yield remedy
-
-    def is_harmless(self, remedy: Remedy, choices: Choices, talk: WindowTalk) -> bool:
-        """Returns whether the rows that are right stay so with a remedy; raises `Cancelled`."""
-        if remedy.option == "symbology" and remedy.value != AUTO and not remedy.is_less:
-            if {*self.lines.totals.symbologies} != {remedy.value}:
-                return False  # as it would be found below, but at once
-        try:
-            chosen = chosen_with(choices, remedy)
-            options = table_options_of(chosen, delimiter=self.delimiter_for(chosen))
-            lines = lines_of_table(self.data, self.path.name, options, Unheard(talk))
-        except Cancelled:
-            raise
-        except ToolError:
-            return False
-        return keeps_good_rows(self.lines.output, lines.output)
 
     @property
     def last_printed(self) -> Path:
@@ -317,7 +343,8 @@ class Table:
         """Keeps the lines of the labels of a job until it is known whether they were printed, for a
         later window too; returns their file.
         """
-        path = self.last_printed.with_suffix(f".{job.name_of_file}{WAITING}")
+        name = f".{len(sent.prints)}.{job.name_of_file}{WAITING}"
+        path = self.last_printed.with_suffix(name)
         with suppress(OSError):
             data = file_of(self.records_of(made, sent)) if self.key else b""
             memory.write_own(path, data)
@@ -331,21 +358,16 @@ class Table:
                 self.keep_records(read_lines(data, path.name).records)
         path.unlink(missing_ok=True)
 
-    def waiting_jobs(self) -> dict[SentJob, Path]:
-        """Returns the jobs of which it is not known yet whether they were printed."""
+    def waiting_jobs(self) -> dict[SentJob, tuple[Path, int]]:
+        """Returns the jobs of which it is not known yet whether they were printed, each with the
+        file of its lines, and how many labels it has.
+        """
         found = {}
         for path in sorted(memory.FOLDER.glob(f"{self.last_printed.stem}.*{WAITING}")):
             with suppress(ValueError):  # of another version
-                found[job_of(path.name.removesuffix(WAITING).partition(".")[2])] = path
+                count, name = path.name.removesuffix(WAITING).split(".", 2)[1:]
+                found[job_of(name)] = path, int(count)
         return found
-
-    def settle_waiting(self) -> None:
-        """Asks CUPS what became of jobs that waited when a window was closed."""
-        for job, path in self.waiting_jobs().items() if self.key else ():
-            with suppress(ToolError):  # CUPS has forgotten it, or is not there: it is asked for
-                state = job.state()
-                if state.is_over:
-                    self.end_waiting(path, state.is_printed)
 
     def printed_records(self) -> tuple[Record, ...]:
         """Returns the lines that went out before; none where they cannot be read."""
@@ -358,8 +380,15 @@ class Table:
         since two tables without names have nothing in common. The words by which the file was read
         are kept for its name, too: without its sheet or encoding it would not open.
         """
-        TABLES.keep(self.key, kept_of(choices))
-        FILES.keep(self.path.name, shlex.join(choices.further_of_table.words) or None)
+        TABLES.keep(self.key, kept_of(choices, KEPT_OF_TABLE))
+        typed = kept_of(choices, READ_BY)
+        FILES.keep(self.path.name, typed if any(typed.values()) else None)
+
+
+def further_of(kept: Kept) -> Further:
+    """Returns the further options by which a table was read."""
+    found = values_kept(kept, READ_BY)
+    return Further(found.get("for_table", ""), found.get("given_table", ""))
 
 
 def skipped(count: int) -> Text:
@@ -376,21 +405,3 @@ def file_of(records: Sequence[Record]) -> bytes:
     """Returns a file of lines."""
     lines = (record_lines(record, record.line.decode(), True) for record in records)
     return "".join([first_remark(""), *lines, last_remark(len(records), ())]).encode()
-
-
-def are_known(names: Sequence[str]) -> bool:
-    """Returns whether several names of columns have words that such names have.
-
-    >>> are_known(["Code", "Name"]), are_known(["WIFI:S:shop", "T:WPA", "", ""])
-    (True, False)
-    """
-    kinds = column_words().values()
-    return (
-        sum(any(kind.knows(word) for kind in kinds for word in words_in(name)) for name in names)
-        > 1
-    )
-
-
-def csv_options(options: TableOptions) -> CsvOptions:
-    """Returns how a file of CSV is read by options."""
-    return CsvOptions(options.file, options.columns.asked, options.codes.is_free)

@@ -3,7 +3,7 @@ label is compared before, as label-print does.
 """
 
 import time
-from collections.abc import Callable
+from collections.abc import Callable, Mapping
 from concurrent.futures import Future
 from dataclasses import replace
 from functools import partial
@@ -12,17 +12,17 @@ from typing import Any, NamedTuple, TYPE_CHECKING
 
 from labeltools.common.language import _
 from labeltools.common.messages import ToolError
-from labeltools.common.text import counted, joined, Text, translated, whole_sentence, windowed
+from labeltools.common.text import counted, joined, Text, translated, whole_sentence
 from labeltools.printing.press import Prepared
-from labeltools.sending.job import AWAY, JobState, SentJob, UnknownJob
-from labeltools.sending.on_queue import print_by_cups
+from labeltools.sending.job import AWAY, JobState, print_by_cups, SentJob, UnknownJob
 from labeltools.sending.outcomes import Unfinished
 from labeltools.sending.printers import choices_of, Printer, QUEUE
 from labeltools.sending.queue import Queue, queue_of
-from labeltools.sending.sender import save_to, send_labels_to, Sender
-from labeltools.window.bar import Answer, ERROR, Event, INFO, SUCCESS, WARNING
+from labeltools.sending.sender import save_to, send_labels_to
+from labeltools.window.bar import ERROR, Event, INFO, SUCCESS, WARNING
 from labeltools.window.gtk import GLib, Gtk
-from labeltools.window.memory import PRINTERS
+from labeltools.window.memory import PAPERS, PRINTERS
+from labeltools.window.owners import sheet_key
 from labeltools.window.printing import open_settings, Options, Printing, Printout
 from labeltools.window.shop import MadeLabels, Table, WindowTalk
 
@@ -34,13 +34,13 @@ Way = Callable[[Prepared, WindowTalk], "Sent"]
 
 
 class Sent(NamedTuple):
-    """What went out: a job of CUPS if it is one, what is reported, of how many labels, and as what
-    kind of event.
+    """What went out: a job of CUPS if it is one, what is reported, the labels that would have been
+    drawn wrongly and were left out, by the numbers of their lines, and as what kind of event.
     """
 
     job: SentJob | None
     text: Text
-    how_many: int
+    wrong: Mapping[int, ToolError]
     kind: str = INFO
 
 
@@ -49,11 +49,15 @@ class WaysOut:
 
     def __init__(self, window: "Window") -> None:
         self.window = window
+        self.widgets = window.widgets
         self.waiting: dict[SentJob, tuple[Table, Path]] = {}  # jobs whose labels may be printed
-        self.on_sheets: dict[SentJob, Prepared] = {}  # the labels of jobs of this window
+        # the labels of jobs of this window, and the names of their sheets
+        self.on_sheets: dict[SentJob, tuple[Prepared, str]] = {}
         self.told: dict[SentJob, str] = {}  # what was said of each last
+        self.states: dict[SentJob, JobState] = {}  # what CUPS reported of each last
         self.away: dict[SentJob, float] = {}  # since when CUPS does not answer about them
         self.sending: tuple[Prepared, bool]  # the labels that are sent, and whether they count
+        self.wrong: set[int] = set()  # of these, by their lines: they would be drawn wrongly
         self.of: tuple[Table, MadeLabels]  # what they are of
         self.printing = Printing(window)
 
@@ -65,72 +69,75 @@ class WaysOut:
         """
         made = self.window.made
         table = made.table
-        table.keep_choices(self.window.choices())
+        chosen = self.window.choices()
+        table.keep_choices(chosen)
         self.of = table, made
         if not is_rest:
             self.sending = labels, counts
-        then = partial(self.on_sent, table, made)
-        self.window.work.begin_work(partial(way, labels), then, is_sending=True)
+            self.wrong = set()
+        then = partial(self.on_sent, table, made, chosen.stock)
+        self.window.work.begin_work(partial(way, labels), then, WindowTalk(is_sending=True))
 
-    def on_sent(self, table: Table, made: MadeLabels, sent: Sent) -> None:
-        """Says which labels went out, and from then on what becomes of a job of CUPS. Keeps them,
-        those of a job once it is printed.
+    def on_sent(self, table: Table, made: MadeLabels, stock: str, sent: Sent) -> None:
+        """Says which labels went out, on sheets of a name, and from then on what becomes of a job
+        of CUPS. Keeps them, those of a job once it is printed.
         """
-        job, text, count, kind = sent
+        job, text, wrong, kind = sent
         labels, counts = self.sending
+        self.wrong.update(wrong)
+        right = labels.without(self.wrong)
         if not counts:
             text = Text("{} It was a trial, so these labels do not count as printed.", text)
         elif job is None:
-            table.keep_printed(made, labels)
+            table.keep_printed(made, right)
         else:
-            self.waiting[job] = table, table.keep_waiting(made, labels, job)
-            self.on_sheets[job] = labels
-        self.report(kind, text, job)
+            self.waiting[job] = table, table.keep_waiting(made, right, job)
+            self.on_sheets[job] = labels, stock
+            self.begin_at(stock, behind(labels))
+        self.window.events.report(kind, text, job)
+        for error in wrong.values():
+            self.window.events.report(ERROR, error.problem.line, about=error)
         if job is not None:
-            self.watch(job, count)
+            self.watch(job, len(right.prints))
 
     def keep_taken(self, problem: Exception) -> None:
         """Keeps the labels that a printer took before there was a problem, however it goes on."""
         if isinstance(problem, Unfinished):
+            self.wrong.update(problem.wrong)
             labels, counts = self.sending
             done = problem.done - labels.job.options.after
             if counts and done > 0:
                 table, made = self.of
-                table.keep_printed(made, replace(labels, prints=labels.prints[:done]))
+                taken = replace(labels, prints=labels.prints[:done])
+                table.keep_printed(made, taken.without(self.wrong))
 
-    def move_on(self, labels: Prepared) -> str:
-        """Lets the next labels begin behind those that were printed on a sheet; returns what is
-        said of it.
-        """
-        job = labels.job
-        cells = len(job.plan.places)
-        following = (job.options.first - 1 + len(labels.prints)) % cells + 1
-        if cells < 2 or following == self.window.choices().first:
+    def begin_at(self, stock: str, first: int) -> None:
+        """Lets the next labels on sheets of a name begin at a label; 0 for those without a next."""
+        if first:
+            PAPERS.keep(sheet_key(stock), {"first": first})
+            self.window.owners.take_anew()
+            self.window.keep_up()
+
+    def is_last_on_sheet(self, job: SentJob) -> bool:
+        """Returns whether no other labels on such sheets were sent behind those of a job."""
+        labels, stock = self.on_sheets[job]
+        return bool(PAPERS.get(sheet_key(stock), {}).get("first") == behind(labels))
+
+    def said_of_next(self, job: SentJob) -> str:
+        """Returns what is said of where the next labels begin, if such sheets are chosen."""
+        labels, stock = self.on_sheets[job]
+        first, chosen = behind(labels), self.window.choices()
+        is_chosen = chosen.sheet and sheet_key(chosen.stock) == sheet_key(stock)
+        if first < 2 or not is_chosen or not self.is_last_on_sheet(job):
             return ""
-        self.window.take_values(first=following)
-        text = Text("The next labels begin at label {} of the last sheet.", following)
-        return translated(text) if following > 1 else ""
+        return translated(Text("The next labels begin at label {} of the last sheet.", first))
 
     def look_back(self, table: Table) -> None:
-        """Says which jobs of a table are not over since a window was closed, and looks at them; of
-        one that CUPS has forgotten the keeper is asked whether it was printed.
-        """
-        for job, path in table.waiting_jobs().items():
-            if job in self.waiting:
-                continue
-            self.waiting[job] = table, path
-            future = self.window.work.thread.submit(job.state)
-            future.add_done_callback(partial(GLib.idle_add, self.look_again, job))
-
-    def look_again(self, job: SentJob, future: "Future[JobState]") -> None:
-        """Looks at a job that was sent before, or asks the keeper what became of it."""
-        if future.exception() is None:
-            self.show_state(job, 0, future)
-        elif self.window.get_visible():
-            name = self.window.of_printers.shown_name(job.queue)
-            what = Text("Nobody knows whether job {} was printed on {}.", job.number, name)
-            ask = partial(self.ask_of_job, job, translated(what))
-            self.report(WARNING, what, job, (_("Was it printed?"), ask))
+        """Says what became of jobs of a table that were not over when a window was closed."""
+        for job, (path, count) in table.waiting_jobs().items():
+            if job not in self.waiting:
+                self.waiting[job] = table, path
+                self.watch(job, count)
 
     def ask_of_job(self, job: SentJob, text: str) -> None:
         """Asks whether a job was printed."""
@@ -140,16 +147,19 @@ class WaysOut:
             self.end_job(job, is_printed)
 
     def end_job(self, job: SentJob, is_printed: bool) -> None:
-        """Counts the labels of a job as printed, or forgets them."""
+        """Counts the labels of a job as printed, or forgets them: then the next ones begin where
+        these did.
+        """
         if job in self.waiting:
             table, path = self.waiting.pop(job)
             table.end_waiting(path, is_printed)
-
-    def report(
-        self, kind: str, text: Text, job: SentJob | None = None, answer: Answer | None = None
-    ) -> None:
-        """Says what happened to labels."""
-        self.window.events.show_event(Event(kind, whole_sentence(text), answer, job))
+            if table is self.window.table:
+                self.window.offer_new(table)
+        if job in self.on_sheets:
+            is_last = self.is_last_on_sheet(job)
+            labels, stock = self.on_sheets.pop(job)
+            if is_last and not is_printed:
+                self.begin_at(stock, labels.job.options.first)
 
     def watch(self, job: SentJob, count: int) -> None:
         """Looks at a job."""
@@ -169,17 +179,19 @@ class WaysOut:
             return
         self.away.pop(job, None)
         state = future.result()
+        state = self.states[job] = state.after(self.states.get(job, state))
         event = event_of(job, count, state, name)
         if event is not None and state.is_printed and job in self.on_sheets:
-            moved = self.move_on(self.on_sheets.pop(job))
-            event = replace(event, sentence=f"{event.sentence} {moved}".strip())
-        if event is not None and self.told.get(job) != event.sentence:
-            self.told[job] = event.sentence
-            self.window.events.show_event(event)
+            event = replace(event, sentence=f"{event.sentence} {self.said_of_next(job)}".strip())
         if state.is_over:
+            if state.is_begun:
+                self.on_sheets.pop(job, None)  # some of its labels may be on paper
             self.end_job(job, state.is_printed)
         else:
             GLib.timeout_add(WATCH, self.watch, job, count)
+        if event is not None and self.told.get(job) != event.sentence:
+            self.told[job] = event.sentence
+            self.window.events.show_event(event)
 
     def show_away(self, job: SentJob, count: int, error: BaseException) -> None:
         """Shows that nobody says what became of a job, and looks again for a minute if CUPS does
@@ -190,15 +202,13 @@ class WaysOut:
         is_given_up = is_gone or time.monotonic() - since > AWAY
         told = error if isinstance(error, UnknownJob) else job.unseen()
         name = self.window.of_printers.shown_name(job.queue)
-        sent = Text("Job {} was sent to {}.", job.number, name)
-        if count:
-            sent = counted(
-                "{} label was sent to {} as job {}.",
-                "{} labels were sent to {} as job {}.",
-                count,
-                name,
-                job.number,
-            )
+        sent = counted(
+            "{} label was sent to {} as job {}.",
+            "{} labels were sent to {} as job {}.",
+            count,
+            name,
+            job.number,
+        )
         hint = told.hint if is_given_up else Text("it is looked for again")
         parts = sent, whole_sentence(told.what), whole_sentence(hint)
         text = joined(" ", parts)
@@ -206,31 +216,24 @@ class WaysOut:
         answer = (_("Was it printed?"), partial(self.ask_of_job, job, said))
         if self.told.get(job) != said:
             self.told[job] = said
-            self.report(WARNING, text, job, answer if is_given_up else None)
+            self.window.events.report(WARNING, text, job, answer if is_given_up else None)
         if not is_given_up:
             GLib.timeout_add(WATCH, self.watch, job, count)
 
     def ask_file(self) -> None:
         """Asks for a file, and writes it."""
-        chooser = self.window.widgets.saver
+        chooser = self.widgets.saver
         path = self.window.made.table.path
         chooser.set_current_folder(str(path.absolute().parent))
         kind, form = _("labels"), self.window.made.labels.job.form.name
         chooser.set_current_name(f"{path.stem}-{kind}.{form}")
         if chooser.run() == Gtk.ResponseType.ACCEPT:
-            self.save(Path(chooser.get_filename()))
+            path = Path(chooser.get_filename())
+            self.window.when_made(partial(self.save, path))
 
     def save(self, path: Path) -> None:
         """Writes what label-print writes."""
-
-        def way(labels: Prepared, talk: WindowTalk) -> Sent:
-            save_to(labels, path, talk)
-            count = len(labels.prints)
-            name = path.name
-            text = counted("{} label is saved as {}.", "{} labels are saved as {}.", count, name)
-            return Sent(None, text, count, SUCCESS)
-
-        self.send_out(way, self.window.made.labels)
+        self.send_out(partial(saved, path), self.window.made.labels)
 
     def ask_and_print(self) -> None:
         """Asks what is printed, and prints it; or asks for a file, if that is chosen."""
@@ -241,7 +244,9 @@ class WaysOut:
             hint = Text("switch it on, or choose another printer")
             self.window.show_problem(ToolError(Text("{} is not found", printer.name), hint))
         elif printer.way == QUEUE:
-            self.window.work.begin_work(partial(queue_and_choices, printer.key), self.ask_queue)
+            key, talk = printer.key, WindowTalk(pressed=self.ask_and_print)
+            work = self.window.work.begin_work
+            work(lambda _talk: (queue_of(key), choices_of(key)), self.ask_queue, talk)
         else:
             self.ask_direct(printer)
 
@@ -250,41 +255,40 @@ class WaysOut:
         these, to be looked at.
         """
         queue, options = found
-        labels = self.window.made.labels
-        job = labels.job
+        self.window.work.talk.pressed = None  # it is asked now
+        job = self.window.made.labels.job
         dpi = queue.dpi_for(not job.plan.sheet.is_single) or job.plan.dpi
         printer = self.window.of_printers.chosen
         if job.form.is_drawn and dpi % job.plan.dpi:
             what = Text("{} prints at {} dpi: the labels are drawn for it now", queue.name, dpi)
             self.window.take_values(dpi=str(dpi))
             self.window.make(problem=ToolError(what, Text("check them, and print again")))
-        elif printer and (wanted := self.printing.ask_what_is_printed(printer, labels, options)):
+        elif printer and (wanted := self.ask_what_is_printed(printer, options)):
             if not wanted.is_trial:
                 kept = PRINTERS.all().get(printer.key, {})
                 others = {name: word for name, word in kept.items() if name not in options}
                 PRINTERS.keep(printer.key, {**others, **wanted.options})
-            self.print_on(queue, wanted)
+            name = self.window.of_printers.shown_name(queue.name)
+            way = partial(queued, queue, wanted.options, name)
+            self.send_out(way, wanted.labels, not wanted.is_trial)
 
-    def print_on(self, queue: Queue, wanted: Printout) -> None:
-        """Prints labels on a queue as label-print does."""
-        name = self.window.of_printers.shown_name(queue.name)
-
-        def way(labels: Prepared, talk: WindowTalk) -> Sent:
-            sent, _text = print_by_cups(labels, queue, talk, wanted.options)
-            count = len(labels.prints)
-            doubt = windowed(queue.resolution_doubt(labels.job))
-            parts = whole_sentence(sent_to(count, name)), whole_sentence(doubt)
-            return Sent(sent, joined(" ", filter(None, parts)), count)
-
-        self.send_out(way, wanted.labels, not wanted.is_trial)
+    def ask_what_is_printed(self, printer: Printer, options: Options) -> Printout | None:
+        """Asks what is printed; and once more if the labels were made again meanwhile, as when a
+        job before has ended, since these may be others. Returns nothing if that is cancelled.
+        """
+        labels = self.window.made.labels
+        wanted = self.printing.ask_what_is_printed(printer, labels, options)
+        if wanted and not (self.window.are_made and self.window.made.labels is labels):
+            self.window.when_made(self.ask_and_print)
+            return None
+        return wanted
 
     def ask_direct(self, printer: Printer) -> None:
         """Asks what is printed on a printer that takes labels one by one."""
-        labels = self.window.made.labels
-        if not labels.job.form.is_roll:
+        if not self.window.made.labels.job.form.is_roll:
             what = Text("{} needs labels one by one", printer.name)
             self.window.show_problem(ToolError(what, Text("choose what the printer takes")))
-        elif wanted := self.printing.ask_what_is_printed(printer, labels, {}):
+        elif wanted := self.ask_what_is_printed(printer, {}):
             self.send_to(printer.key, wanted.labels, not wanted.is_trial)
 
     def ask_to_go_on(self, problem: Unfinished) -> None:
@@ -305,7 +309,7 @@ class WaysOut:
         if done - labels.job.options.after < len(labels.prints):
             self.send_rest(problem.printer, done)
         elif counts:
-            self.window.made.table.keep_printed(self.window.made, labels)
+            self.window.made.table.keep_printed(self.window.made, labels.without(self.wrong))
 
     def send_rest(self, printer: str, done: int) -> None:
         """Sends the labels of a job to a printer that took some of them, behind these."""
@@ -320,13 +324,7 @@ class WaysOut:
     ) -> None:
         """Sends to a printer in the network or on USB what label-print sends."""
         name = self.window.of_printers.shown_name(printer)
-
-        def way(labels: Prepared, talk: WindowTalk) -> Sent:
-            talk.printer = name
-            sender = send_labels_to(labels, printer, talk, talk.stops)
-            return direct_sent(sender, name, len(labels.prints))
-
-        self.send_out(way, labels, counts, is_rest)
+        self.send_out(partial(direct_sent, printer, name), labels, counts, is_rest)
 
 
 def confirmed(dialog: Any) -> bool:
@@ -335,6 +333,13 @@ def confirmed(dialog: Any) -> bool:
     answer = dialog.run()
     dialog.hide()
     return bool(answer == Gtk.ResponseType.OK)
+
+
+def behind(labels: Prepared) -> int:
+    """Returns the label of a sheet behind those that are sent; 0 on paper without a next one."""
+    job = labels.job
+    cells = len(job.plan.places)
+    return (job.options.first - 1 + len(labels.prints)) % cells + 1 if cells > 1 else 0
 
 
 def sent_to(count: int, printer: str) -> Text:
@@ -347,53 +352,63 @@ def printed_on(count: int, printer: str) -> Text:
     return counted("{} label is printed on {}.", "{} labels are printed on {}.", count, printer)
 
 
-def direct_sent(sender: Sender, name: str, count: int) -> Sent:
-    """Returns what there is to say of labels that a printer took one by one, and says itself."""
-    if sender.is_printed:
-        return Sent(None, printed_on(count, name), count, SUCCESS)
-    parts = sent_to(count, name), *map(whole_sentence, sender.troubles)
-    return Sent(None, joined(" ", parts), count, WARNING if sender.is_stuck else INFO)
+def saved(path: Path, labels: Prepared, talk: WindowTalk) -> Sent:
+    """Writes labels into a file; returns what there is to say of it. Raises `ToolError`."""
+    sent = save_to(labels, path, talk).progress
+    text = counted("{} label is saved as {}.", "{} labels are saved as {}.", sent.taken, path.name)
+    return Sent(None, text, sent.wrong, SUCCESS)
+
+
+def queued(
+    queue: Queue, options: Mapping[str, str], name: str, labels: Prepared, talk: WindowTalk
+) -> Sent:
+    """Prints labels on a queue, whose name is shown so; returns what there is to say. Raises
+    `ToolError`.
+    """
+    job, sender = print_by_cups(labels, queue, talk, options)
+    doubt = queue.resolution_doubt(labels.job)
+    parts = sent_to(sender.progress.taken, name), whole_sentence(doubt)
+    return Sent(job, joined(" ", filter(None, parts)), sender.progress.wrong)
+
+
+def direct_sent(printer: str, name: str, labels: Prepared, talk: WindowTalk) -> Sent:
+    """Sends labels to a printer that takes them one by one, whose name is shown so; returns what it
+    says itself, or what there is to say. Raises `ToolError`.
+    """
+    talk.printer = name
+    sender = send_labels_to(labels, printer, talk, talk.stops)
+    count, wrong = sender.progress.taken, sender.progress.wrong
+    if sender.watch.is_printed:
+        return Sent(None, printed_on(count, name), wrong, SUCCESS)
+    parts = sent_to(count, name), *map(whole_sentence, sender.watch.troubles)
+    return Sent(None, joined(" ", parts), wrong, WARNING if sender.watch.is_stuck else INFO)
 
 
 def event_of(job: SentJob, count: int, state: JobState, name: str) -> Event | None:
-    """Returns what there is to say of a job of some labels (0: not known) in a state, on a printer
-    of this name; nothing while it goes on.
+    """Returns what there is to say of a job of some labels in a state, on a printer of this name;
+    nothing while it goes on.
     """
+    if state.is_repeated:
+        return Event(WARNING, whole_sentence(Text("{}: {}", name, state.told)), None, job)
     if state.is_printed:
-        text = Text("Job {} is printed on {}.", job.number, name)
-        if count and state.is_raw:
+        text = printed_on(count, name)
+        if state.is_raw:
             text = joined(" ", (sent_to(count, name), whole_sentence(state.told)))
-        elif count:
-            text = printed_on(count, name)
         return Event(SUCCESS, whole_sentence(text), None, job)
+    why = state.trouble
     if state.is_over and state.is_begun:
-        why = state.trouble
-        text = Text("Labels of job {} may be on paper: {}", job.number, why)
-        if count:
-            text = counted(
-                "{} label may be on paper: {}", "Some of {} labels may be on paper: {}", count, why
-            )
+        text = counted(
+            "{} label may be on paper: {}", "Some of {} labels may be on paper: {}", count, why
+        )
         return Event(ERROR, whole_sentence(text), None, job)
     if state.is_over:
-        why = state.trouble
-        text = Text("Job {} is not printed: {}", job.number, why)
-        if count:
-            text = counted(
-                "{} label is not printed: {}", "{} labels are not printed: {}", count, why
-            )
+        text = counted("{} label is not printed: {}", "{} labels are not printed: {}", count, why)
         return Event(ERROR, whole_sentence(text), None, job)
     if state.is_waiting or state.trouble:
-        text = Text("Job {} is waiting.", job.number)
-        if count:
-            text = counted("{} label is waiting.", "{} labels are waiting.", count)
+        text = counted("{} label is waiting.", "{} labels are waiting.", count)
         _queue, reason = state.trouble.fields if state.trouble else ("", state.said)
-        parts = text, Text("{}: {}", name, reason), windowed(state.cure)
+        parts = text, Text("{}: {}", name, reason), state.cure
         show = partial(open_settings, job.queue)
         answer = _("Show the queue"), show
         return Event(WARNING, " ".join(filter(None, map(whole_sentence, parts))), answer, job)
     return None
-
-
-def queue_and_choices(name: str, _talk: WindowTalk) -> tuple[Queue, Options]:
-    """Returns what a queue says, and what its driver offers; raises `ToolError`."""
-    return queue_of(name), choices_of(name)

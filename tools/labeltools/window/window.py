@@ -2,93 +2,76 @@
 printed, and the rows that are skipped. Its widgets are those of window.ui.
 """
 
-from collections.abc import Callable, Collection, Iterable, Iterator, Mapping, Sequence
-from contextlib import contextmanager, suppress
-from dataclasses import dataclass, replace
+import re
+from collections.abc import Callable, Iterable, Mapping, Sequence
+from contextlib import suppress
 from functools import partial
 from itertools import chain
 from pathlib import Path
+from types import SimpleNamespace
 from typing import Any
 
 from labeltools.common.language import _
-from labeltools.common.messages import ToolError
-from labeltools.common.text import (
-    NOTHING,
-    remedies_of,
-    Remedy,
-    Text,
-    translated,
-)
+from labeltools.common.messages import Remedy, ToolError
+from labeltools.common.text import capitalized, Text, translated, whole_sentence
 from labeltools.designs.svg_design import is_file
-from labeltools.layout.area import ARTICLE
 from labeltools.lines.symbologies import SYMBOLOGIES
 from labeltools.paper.stock import size_text
 from labeltools.printing.press import check_count
 from labeltools.sending.outcomes import Unfinished
+from labeltools.sending.queue import Queue
 from labeltools.sheets.encoding import first_word
-from labeltools.window import designs, sheets
+from labeltools.tables.money import ANY_TEXT
+from labeltools.window import sheets
 from labeltools.window.bar import Bar, ERROR, Event, INFO
-from labeltools.window.choices import (
-    Choices,
-    chosen_with,
-    COLUMNS,
-    FURTHER,
-    Kept,
-    kept_of,
-    values_kept,
-    with_further,
-)
+from labeltools.window.choices import Choices, COLUMNS, kept_of, values_kept, values_with
+from labeltools.window.designs import A_FILE, Designs, size_of
 from labeltools.window.further import Further
 from labeltools.window.gtk import (
     add_actions,
     ApplicationWindow,
     Caption,
+    do_soon,
     Gdk,
     Gio,
     GLib,
+    GObject,
     Gtk,
-    leave_wheel,
+    show_rows,
     widen,
     widgets_within,
 )
-from labeltools.window.presets import Presets
-from labeltools.window.preview import Preview
-from labeltools.window.printers import Printers, usual_dpi
-from labeltools.window.questions import Answers, asked_at, CENTS, Questions, reason_and_hint, which
-from labeltools.window.shop import MadeLabels, skipped, Table
+from labeltools.window.owners import OF_TABLE, Owners, READ_BY
+from labeltools.window.presets import add_presets
+from labeltools.window.printers import Printers
+from labeltools.window.questions import Answers, ASKED_AT, in_sentences, Questions, WHICH
+from labeltools.window.result import ShownLabels
+from labeltools.window.sheet_dialog import SheetDialog
+from labeltools.window.shop import MadeLabels, Pressed, Table, WindowTalk
+from labeltools.window.typed_label import ask_for_label
 from labeltools.window.ways import WaysOut
-from labeltools.window.widgets import widgets_of
-from labeltools.window.work import Work
+from labeltools.window.work import STOPPED, Work
 
 FILE = Path(__file__).with_name("window.ui")
 # the controls by the fields of choices, and the property of each that has what is chosen
 CONTROLS = {
-    **dict.fromkeys((*COLUMNS, "symbology", "price_as", "design", "to", "dpi"), "active-id"),
-    **dict.fromkeys(("stock", "for_table", "for_print"), "text"),
+    **dict.fromkeys((*COLUMNS, "symbology", "price_as", "design", "to", "dpi"), "value"),
+    **dict.fromkeys(("stock", "for_table", "for_print", "edge", "note"), "text"),
     **dict.fromkeys(("given_table", "given_print"), "words"),
-    **dict.fromkeys(("header_row", "first", "width", "height"), "value"),
+    **dict.fromkeys(("header_row", "first", "width", "height", "right", "down"), "value"),
     **dict.fromkeys(("sheet", "roll", "new_only"), "active"),
 }
 RANGES = {"header_row": (0, 1000), "first": (1, 10_000), "width": (5, 500), "height": (5, 500)}
-MOST_NOTES = 2000
-MOST_HELPS = 3  # buttons above the notes
-LOW = 700  # pixels of a window in which the list of notes is closed at first
+RANGES |= {"right": (-50, 50), "down": (-50, 50)}
+# what is shown of a value that is not in the list of usual ones; nothing if it is none
+OTHERS: Mapping[str, Callable[[str], str]] = {
+    "symbology": lambda kind: SYMBOLOGIES[kind].title if kind in SYMBOLOGIES else "",
+    "price_as": str,
+    "design": lambda path: Path(path).name if is_file(path) else "",
+    "dpi": lambda dots: f"{dots} dpi" if dots.isdecimal() else "",
+}
+SYNC = GObject.BindingFlags.SYNC_CREATE
 LISTED = 400  # milliseconds after a letter in which GTK shows the list of what fits
-LEAST_WRAP = 150  # pixels in which reasons are wrapped
-WRAP_MARGIN = 20  # pixels of the list beside the reasons
-
-
-@dataclass(frozen=True)
-class Before:
-    """A table that was open: its file, what was chosen, the names of its columns, the options by
-    which it is read; and why the file that was opened then is no table.
-    """
-
-    path: Path
-    choices: Choices | None
-    names: Sequence[str]
-    further: Further
-    problem: ToolError | None = None
 
 
 class Window(ApplicationWindow):
@@ -96,48 +79,56 @@ class Window(ApplicationWindow):
 
     __gtype_name__ = "LabelsWindow"
     made: MadeLabels  # what was made last
-    shown: Preview
 
     def __init__(self, **properties: Any) -> None:
         super().__init__(**properties)
         self.path: Path | None = None
         self.table: Table | None = None  # once it is read
-        self.chosen: Choices | None = None  # what labels were last made by
-        self.names: Sequence[str] = ()  # of the columns of the table
         self.further = Further()  # options by which the table is read
-        self.last_design = ARTICLE.name
+        self.header = 0  # the row of its names
         self.has_labels = False  # that are chosen
-        self.is_filling = False  # controls, for labels that are made then
         self.is_new = False  # a table, whose labels were not shown yet
-        self.before: Before | None = None  # the table that was open when another one was opened
+        self.before: Table | None = None  # the one that was open when another one was opened
+        self.again: Table | None = None  # the one that is read again, by other words
         self.builder = Gtk.Builder()
         text = FILE.read_bytes()
         self.builder.extend_with_template(self, self.__gtype__, text.decode(), len(text))
-        self.widgets = widgets_of(self.builder)
+        ids = re.findall(r' id="(\w+)"', text.decode())
+        self.widgets: Any = SimpleNamespace(**{name: self.builder.get_object(name) for name in ids})
         self.events = Bar(self)
         self.questions = Questions(self)
         self.work = Work(self)
         self.ways = WaysOut(self)
         self.of_printers = Printers(self)
-        self.presets = Presets(self)
+        self.owners = Owners(self)
+        add_presets(self)
+        self.own_sheets = SheetDialog(self)
+        self.designs = Designs(self)
+        self.result = ShownLabels(self.widgets)
         add_actions(
             self,
             {
                 "open": self.ask_table,
                 "save": partial(self.when_made, self.ways.ask_file),
                 "print": partial(self.when_made, self.ways.ask_and_print),
-                "command": self.widgets.line.popup,
+                "command": partial(self.when_made, self.widgets.line.popup),
+                "sheet": self.own_sheets.ask_for_sheet,
+                "type": partial(ask_for_label, self),
             },
         )
+        self.add_action(self.result.large)
         self.builder.connect_signals(self)
-        self.let_out(False)
+        self.let_out()
         self.set_up()
 
     def set_up(self) -> None:
         """Sets up what window.ui does not say."""
         for name, (lowest, highest) in RANGES.items():
             self.control(name).set_range(lowest, highest)
-        dialogs = (self.widgets.printing, self.widgets.adding, self.widgets.choosing)
+        for name, shown_of in OTHERS.items():
+            self.control(name).shown_of = shown_of
+        names = "printing", "adding", "choosing", "describing", "typing"
+        dialogs = map(self.control, names)
         inner = ((dialog.get_header_bar(), dialog.get_content_area()) for dialog in dialogs)
         for part in (self.widgets.head, self.get_child(), *chain(*inner)):
             part.show_all()
@@ -148,33 +139,34 @@ class Window(ApplicationWindow):
             self.widgets.working,
         ):
             part.foreach(Gtk.Widget.show_all)  # but not the part itself
-        for fold in (self.widgets.more_of_table, self.widgets.more_of_paper):
-            fold.refold()
+        # GTK leaves what is in a closed fold in the order of the Tab key, unless it is hidden
+        for fold in (self.widgets.more_of_table, self.widgets.more_of_paper, self.widgets.fold):
+            fold.bind_property("expanded", fold.get_child(), "visible", SYNC)
+        first = self.widgets.first
         self.names_width = Gtk.SizeGroup(mode=Gtk.SizeGroupMode.HORIZONTAL)
         for part in (*self.widgets.of_label.get_children(), *self.widgets.of_paper.get_children()):
             if isinstance(part, Caption):
                 self.names_width.add_widget(part)
-        for folder in filter(Path.is_dir, designs.folders()[:1]):
-            self.widgets.design_opener.add_shortcut_folder(str(folder))
-        designs.add_pictures(self.widgets.design)
-        self.fit_paper()
+        for choice, parts in {
+            self.widgets.roll: (self.widgets.size, self.widgets.size_caption),
+            self.widgets.sheet: (self.widgets.stock, first, *first.list_mnemonic_labels()),
+        }.items():
+            for part in parts:
+                choice.bind_property("active", part, "visible", SYNC)
         self.connect_after("key-press-event", self.on_key)
-        self.widgets.completion.set_match_func(lambda *_: True)
-        self.widgets.completion.set_cell_data_func(
-            self.widgets.sheet_picture, sheets.show_picture, None
-        )
+        sheets.complete(self.widgets.completion, self.widgets.sheet_picture)
         self.drag_dest_set(Gtk.DestDefaults.ALL, [], Gdk.DragAction.COPY)
         self.drag_dest_add_uri_targets()
 
-    def let_out(self, is_ready: bool) -> None:
-        """Lets labels go out, or not, as while something is asked; while they go out nothing else
-        is chosen.
+    def let_out(self) -> None:
+        """Lets labels go out, those that are still made too; but not while something is asked, or
+        while others go out: then nothing else is chosen.
         """
         is_asked = self.questions.is_open
-        is_ready = is_ready and not is_asked
         hint = _("First answer the question at the left") if is_asked else None
         self.widgets.print_button.set_tooltip_text(hint)
         is_idle = not self.work.talk.is_sending
+        is_ready = (self.has_labels or self.work.talk.is_making) and is_idle and not is_asked
         self.widgets.stack.set_sensitive(is_idle)
         for name in ("open", "preset"):
             self.lookup_action(name).set_enabled(is_idle)
@@ -196,63 +188,36 @@ class Window(ApplicationWindow):
         the table is not read.
         """
         remedies = [
-            remedy
-            for remedy in remedies_of(problem.hint)
-            if remedy.says and remedy.option != "after"
+            remedy for remedy in problem.remedies if remedy.says and remedy.option != "after"
         ]
-        found = [*self.remedies([problem.hint]), *self.ways_on(problem), *answers]
-        found += self.size_of_design()
-        places = [*filter(None, (asked_at(remedy.option) for remedy in remedies))]
-        if self.table is None and not remedies and self.before and not self.before.problem:
-            self.go_back(replace(self.before, problem=problem))
+        found = [*self.remedies(problem.remedies), *self.ways_on(problem), *answers]
+        found += [*self.size_of_design(), *self.own_sheets.answers_to(problem)]
+        places = [ASKED_AT[remedy.option] for remedy in remedies if remedy.option in ASKED_AT]
+        if self.table is None and not remedies and self.before:
+            self.go_back(self.before, problem)
             return
         if self.table is None and not remedies and not any(self.further):
             self.widgets.stack.set_visible_child_name("empty")
         if self.table is None and remedies:
-            hint = reason_and_hint(NOTHING, problem.hint)
-            self.questions.ask_of_file(reason_and_hint(problem.what), hint, found)
+            what, hint = map(whole_sentence, (problem.what, problem.hint))
+            self.questions.ask_of_file(what, hint, found)
         elif len(found) > 1 and places:
-            self.questions.ask_below(places[0], reason_and_hint(problem.what, problem.hint), found)
+            self.questions.below(places[0]).ask(in_sentences(problem.problem), found)
         else:
-            text = reason_and_hint(problem.what, problem.hint)
+            text = in_sentences(problem.problem)
             self.events.show_event(Event(ERROR, text, found[0] if found else None))
 
-    def offer(self, box: Any, answers: Answers) -> None:
-        """Offers answers in a box, a button for each."""
-        box.foreach(Gtk.Widget.destroy)
-        for shown, act in answers:
-            button = Gtk.Button(label=shown, visible=True)
-            button.connect("clicked", lambda _button, act=act: self.help_by(act))
-            box.add(button)
-            button.get_parent().set_can_focus(False)  # but the button has the focus
-
-    def help_by(self, act: Callable[[], object]) -> None:
-        """Does what helps; the focus stays beside the button for it, which goes."""
-        self.widgets.fold.grab_focus()
-        act()
-
-    def remedies(self, texts: Iterable[Text], harmful: Collection[Remedy] = ()) -> Answers:
-        """Returns the remedies of some texts as answers, each once, but for harmful ones."""
-        every = dict.fromkeys(remedy for text in texts for remedy in remedies_of(text))
-        found = [
-            remedy
-            for remedy in every
-            if remedy.says and self.is_wanted(remedy) and remedy not in harmful
+    def remedies(self, found: Iterable[Remedy]) -> Answers:
+        """Returns remedies as answers, each once."""
+        return [
+            (capitalized(remedy.says), partial(self.take_remedy, remedy))
+            for remedy in dict.fromkeys(found)
+            if remedy.says and remedy.option != "after"
         ]
-        return [(translated(remedy.says), partial(self.take_remedy, remedy)) for remedy in found]
-
-    def is_wanted(self, remedy: Remedy) -> bool:
-        """Returns whether a button gives a remedy: prices whose form is chosen are no texts."""
-        is_text = remedy.option == "price-text" and not remedy.is_less
-        return remedy.option != "after" and not (is_text and self.choices().price_as)
 
     def take_remedy(self, remedy: Remedy) -> None:
-        """Takes a choice that helps: what is typed first, since its control is slow to tell."""
-        choices = self.choices()
-        changed = choices.differing_values(chosen_with(choices, remedy))
-        given = {name: value for name, value in changed.items() if name in FURTHER.values()}
-        self.take_values(**{name: value for name, value in changed.items() if name not in given})
-        self.take_values(**given)
+        """Takes a choice that helps."""
+        self.take_values(**values_with(self.choices(), remedy))
 
     def ways_on(self, problem: ToolError) -> Answers:
         """Returns how labels go on that a printer took some of."""
@@ -268,7 +233,7 @@ class Window(ApplicationWindow):
 
     def size_of_design(self) -> Answers:
         """Returns the answer that labels on a roll have the size that their design is drawn for."""
-        size = designs.size_of(self.choices().design or "")
+        size = size_of(self.choices().design or "")
         if not self.widgets.roll.get_active() or size is None:
             return []
         if sorted(size) == sorted(
@@ -277,13 +242,7 @@ class Window(ApplicationWindow):
             return []
         sides = dict(zip(("width", "height"), size))
         text = translated(Text("Labels of {}", size_text(size)))
-        return [(text, partial(self.take_together, sides))]
-
-    def take_together(self, sides: Mapping[str, float]) -> None:
-        """Takes the sides of a label, and makes the labels once."""
-        with self.filling():
-            self.take_values(**sides)
-        self.make()
+        return [(text, partial(self.take_values, **sides))]
 
     def asked_in_dialog(self, text: str, answers: Mapping[bool, str]) -> bool | None:
         """Asks in a dialog; returns what was answered, None if it was closed."""
@@ -296,39 +255,15 @@ class Window(ApplicationWindow):
         dialog.destroy()
         return bool(found) if found in (0, 1) else None
 
-    def tell(self, text: str) -> None:
-        """Tells what happened that is neither good nor bad."""
-        self.events.show_event(Event(INFO, text))
-
     def on_key(self, _window: "Window", event: Any) -> bool:
         """Closes the bar by Escape, where nothing else takes that key."""
         return bool(event.keyval == Gdk.KEY_Escape and self.events.hide())
 
-    def fit_paper(self) -> None:
-        """Shows what a sheet is chosen by, or a roll."""
-        is_roll = self.widgets.roll.get_active()
-        for part in (self.widgets.kind, self.widgets.kind_caption):
-            part.set_visible(not (is_roll and self.of_printers.is_of_labels))
-        for part in (self.widgets.size, self.widgets.size_caption):
-            part.set_visible(is_roll)
-        for part in (
-            self.widgets.stock,
-            self.widgets.first,
-            *self.widgets.first.list_mnemonic_labels(),
-        ):
-            part.set_visible(not is_roll)
-
-    def on_paper(self, _sheet: Any) -> None:
-        """Makes labels on a sheet, or on a roll."""
-        self.fit_paper()
-        if not self.is_filling:
-            self.of_printers.fit_file()
-            self.make()
-
     def on_destroy(self, _window: "Window") -> None:
-        """Ends work."""
-        self.work.abandon()
-        self.of_printers.stop_looking()
+        """Ends work, of which nobody is told, and looks for no printers any more."""
+        self.work.talk.stop()
+        self.work.leave()
+        self.of_printers.thread.shutdown(wait=False)
 
     def on_stop(self, _button: Any) -> None:
         """Ends work; where a table was being read, another one can be opened."""
@@ -337,61 +272,47 @@ class Window(ApplicationWindow):
                 self.path = None
                 self.widgets.head.set_subtitle("")
                 self.widgets.stack.set_visible_child_name("empty")
-            self.tell(_("Stopped: nothing was printed"))
-
-    @contextmanager
-    def filling(self) -> Iterator[None]:
-        """Fills controls, without labels for each of them."""
-        before, self.is_filling = self.is_filling, True
-        try:
-            yield
-        finally:
-            self.is_filling = before
+            self.events.report(INFO, STOPPED)
 
     def open_table(self, path: Path, header: int | None = None, is_again: bool = False) -> None:
         """Reads a table, guesses its columns or takes those of the last time, and makes labels."""
         if not is_again:
             if self.work.talk.is_sending:
                 return
-            if self.table is not None and self.path is not None:
-                self.before = Before(self.path, self.chosen, self.names, self.further)
-            self.chosen = None
-        further = self.further_chosen() if path == self.path else None
+            self.before = self.table or self.before
+        if self.table is not None or not is_again:
+            self.again = self.table if is_again else None
+        further = self.choices().further_of_table if path == self.path else None
         self.further = further or Further()
         self.path = path
         self.table = None
         self.has_labels = False
-        with self.filling():
-            self.widgets.columns.clear()
-            self.widgets.price_as.remove_all()
-            self.take_values(**further_values(self.further))
-            self.take_values(symbology=None)  # nothing is read yet
+        self.header = self.header if header is None else header
+        self.widgets.columns.clear()
+        self.take_values(**dict(zip(READ_BY, self.further)))
+        self.take_values(symbology=None, price_as=None)  # nothing is read yet
         for part in (self.widgets.new_only, self.widgets.result):
             part.hide()
         self.questions.clear()
         self.widgets.head.set_subtitle(path.name)
         self.widgets.stack.set_visible_child_name("work")
         doing = _("reading {file}…").format(file=path.name)
-        self.work.begin_work(partial(Table, path, further, header), self.take_table, doing)
+        talk = WindowTalk(doing, pressed=self.work.talk.pressed if is_again else None)
+        self.work.begin_work(partial(Table, path, further, header), self.take_table, talk)
 
-    def go_back(self, before: "Before") -> None:
-        """Opens the table again that was open before a file that is no table, and says what that
+    def go_back(self, table: Table, problem: ToolError) -> None:
+        """Shows the table again that was open before a file that is no table, and says what that
         one is.
         """
-        self.before = before
-        self.chosen, self.names = before.choices, before.names
-        self.path = before.path
-        with self.filling():
-            self.take_values(**further_values(before.further))
-        self.open_table(before.path, is_again=True)
+        self.again, self.path = table, table.path
+        self.widgets.head.set_subtitle(table.path.name)
+        self.take_table(table, problem)
 
-    def take_table(self, table: Table) -> None:
+    def take_table(self, table: Table, problem: ToolError | None = None) -> None:
         """Makes the labels of a table that was read."""
-        with self.filling():
-            self.fill_columns(table)
-        self.is_new = self.table is None and not self.chosen
-        self.table = table
-        problem, self.before = self.before.problem if self.before else None, None
+        self.fill_columns(table)
+        self.is_new = self.again is None
+        self.table, self.before = table, None
         Gtk.RecentManager.get_default().add_item(table.path.absolute().as_uri())
         self.make(problem=problem)
 
@@ -402,55 +323,41 @@ class Window(ApplicationWindow):
         for number, (name, example) in enumerate(zip(guess.names, guess.examples), 1):
             name = name or _("column {number}").format(number=number)
             self.widgets.columns.append([with_example(name, example), str(number)])
-        columns = {field_of(kind): str(place + 1) for kind, place in guess.columns.items()}
+        columns = {field_of(kind): str(place + 1) for kind, place in table.columns.items()}
         self.take_values(**{**dict.fromkeys(COLUMNS, ""), "code": "1", **columns})
-        self.take_values(**dict.fromkeys(map(field_of, guess.doubts)))  # only the keeper knows
-        # a table that is read again, by other words, keeps what is chosen
-        is_same = guess.names == self.names
-        kept = kept_of(self.chosen) if self.chosen and is_same else self.kept(table)
-        own = {**values_kept(kept), **further_values(table.further)}
-        self.names = guess.names
+        self.take_values(**dict.fromkeys(map(field_of, table.doubts)))  # only the keeper knows
+        again = self.again.chosen if self.again and guess.names == self.again.guess.names else None
+        if again:  # it keeps what is chosen
+            own = values_kept(kept_of(again), OF_TABLE)
+        else:
+            own = table.chosen_before
+            self.owners.begin(table)
+        self.owners.take_anew()
         self.widgets.given_table.word_by = partial(first_word, table.data)
         for name in COLUMNS:
             widen(self.control(name), 0)
-        self.take_values(**{"symbology": guess.rules.symbology, **own})
-        self.of_printers.recall(kept)
-        self.offer_patterns(table)
-        self.take_values(**({"price_as": own["price_as"]} if "price_as" in own else {}))
-        self.widgets.text_2.set_visible(self.choices().text_2)
-        self.further = table.further
-        self.take_values(header_row=guess.header)
+        self.further, self.header = table.further, guess.header
+        values: dict[str, Any] = {**own, **dict(zip(READ_BY, self.further))}
+        self.take_values(**{**values, "header_row": self.header})
+        self.offer_new(table)
+
+    def offer_new(self, table: Table) -> None:
+        """Offers to print only what is new, if labels of such a table went out."""
         since = table.last_printed_on()
         text = _("Onl_y what is new or changed since {date}").format(date=since)
         self.widgets.new_only.set_label(text)
         self.widgets.new_only.get_child().set_line_wrap(True)  # of a label that is new, too
         self.widgets.new_only.set_visible(since)
-        if not since:
-            self.take_values(new_only=False)
-
-    def kept(self, table: Table) -> Kept:
-        """Returns the choices that are kept for a table, or else those of the one before."""
-        nothing = {"for-print": "", "given-print": ""}
-        return {**table.paper, **nothing, **with_further(table.kept), "first": 1}
-
-    def further_chosen(self) -> Further:
-        """Returns the further options by which a table is to be read."""
-        return self.choices().further_of_table
 
     def take_values(self, **values: Any) -> None:
         """Takes values of choices by their fields, but for what somebody has written into the file
         of them.
         """
+        if "printer" in values:
+            self.of_printers.settle(values.pop("printer"))
         for name, value in values.items():
-            kind = CONTROLS[name]
             with suppress(KeyError, TypeError, ValueError):
-                if name == "design":
-                    self.offer_design(value)
-                if name == "dpi":
-                    self.offer_resolution(value)
-                if name in ("symbology", "price_as"):
-                    self.offer_other(name, value)
-                self.control(name).set_property(kind, value)
+                self.control(name).set_property(CONTROLS[name], value)
 
     def choices(self) -> Choices:
         """Returns what is chosen; while a file is asked for, the design before it."""
@@ -458,48 +365,102 @@ class Window(ApplicationWindow):
             name: self.control(name).get_property(kind) for name, kind in CONTROLS.items()
         }
         found |= {name: int(found[name]) for name in ("header_row", "first")}
-        if found["design"] == designs.A_FILE:
-            found["design"] = self.last_design
+        if found["design"] == A_FILE:
+            found["design"] = self.designs.last
         return Choices(**found, printer=self.of_printers.wanted)
 
-    def when_made(self, act: Callable[[], object]) -> None:
-        """Does something with the labels that are chosen: a number or the name of a sheet may just
-        have been typed, and labels are not made for it yet.
+    @property
+    def are_made(self) -> bool:
+        """Whether the labels that are chosen now are made."""
+        return self.table is not None and self.has_labels and not self.are_others_chosen(self.table)
+
+    def are_others_chosen(self, table: Table) -> bool:
+        """Returns whether others are chosen than those that were made last, or may be, since the
+        printer has not said yet what it has.
+        """
+        return self.of_printers.is_silent or self.settled() != table.chosen
+
+    def when_made(self, act: Pressed) -> None:
+        """Does something with the labels that are chosen, once they are made: a number or the name
+        of a sheet may just have been typed.
         """
         for name in RANGES:
             self.control(name).update()
-        if self.has_labels and self.choices() == self.chosen:
+        if self.are_made:
             act()
         else:
-            self.make(then=act)
+            self.work.talk.pressed = act
+            self.keep_up(True)
 
-    def make(
-        self,
-        _control: Any = None,
-        problem: ToolError | None = None,
-        then: Callable[[], object] | None = None,
-    ) -> None:
-        """Makes the labels that are chosen, and then says what problem they are made for, or does
-        something with them.
+    def follow(self, *_control: Any) -> None:
+        """Makes the labels that are chosen, once all is changed that is changed together: by the
+        keeper, by an answer, or by a job that has ended.
         """
-        if self.table is not None and not self.is_filling:
+        self.act_soon(self.keep_up)
+
+    def act_soon(self, act: Pressed) -> None:
+        """Does something as soon as nothing else is under way, if the window is still there."""
+        do_soon(lambda: self.get_visible() and act())
+
+    def keep_up(self, is_wanted: bool = False) -> None:
+        """Reads the table again if it is to be read by other words, or with names in another row;
+        else makes its labels if others are chosen, or if they are wanted in any case.
+        """
+        chosen = self.choices()
+        is_other_row = chosen.header_row != self.header
+        if self.path and (is_other_row or chosen.further_of_table != self.further):
+            header = chosen.header_row if is_other_row else None
+            self.open_table(self.path, header, is_again=True)
+        elif self.table and (is_wanted or self.are_others_chosen(self.table)):
+            self.make()
+
+    def make(self, _control: Any = None, problem: ToolError | None = None) -> None:
+        """Makes the labels that are chosen, once the printer has said what it has, and then says
+        what problem they are made for. If Print was pressed, and no labels went out yet, these do.
+        While labels go out it waits for their end.
+        """
+        if self.table is not None and not self.work.talk.is_sending:
             self.has_labels = False
-            chosen = self.choices()
-            self.chosen = chosen
+            doing = _("reading {file}…").format(file=self.table.path.name)
+            talk = WindowTalk(doing, is_making=True, pressed=self.work.talk.pressed)
+            answer = self.of_printers.answer
+            if answer and self.of_printers.is_silent:
+                self.work.wait_for(answer, partial(self.make_for, problem), talk)
+                return
+            chosen = self.table.chosen = self.settled()
             self.questions.clear()
             self.of_printers.ask_about_chosen()
-            guess = self.table.guess
-            doubts: dict[str, Sequence[int]] = {"code": [*guess.codes], **guess.doubts}
+            codes: Sequence[int] = [*self.table.guess.codes]
+            doubts = {"code": codes, **self.table.doubts}
             for kind, places in doubts.items():
                 column = getattr(chosen, field_of(kind))
                 if column is None or kind == "code" and not column:
                     self.ask_column(self.table, kind, places)
             if not chosen.code:
+                self.let_out()
                 self.questions.focus()
                 return
-            work = partial(self.table.made, chosen)
-            doing = _("reading {file}…").format(file=self.table.path.name)
-            self.work.begin_work(work, partial(self.show_labels, problem, then), doing)
+            then = partial(self.show_labels, problem)
+            self.work.begin_work(partial(self.table.made, chosen), then, talk)
+
+    def make_for(self, problem: ToolError | None, answer: Queue | ToolError) -> None:
+        """Makes the labels for a queue, whose driver is known now; for one that does not answer as
+        if it had sheets.
+        """
+        self.make(problem=answer if isinstance(answer, ToolError) else problem)
+
+    def settled(self) -> Choices:
+        """Returns what is chosen, once each choice is that of its owner."""
+        if self.of_printers.is_of_labels:
+            self.take_values(roll=True)
+        if self.table is not None:
+            self.offer_patterns(self.table)
+        self.owners.settle()
+        has_sheets = not (self.widgets.roll.get_active() and self.of_printers.is_of_labels)
+        for part in (self.widgets.kind, self.widgets.kind_caption):
+            part.set_visible(has_sheets)
+        self.of_printers.show_button()
+        return self.choices()
 
     def ask_column(self, table: Table, kind: str, places: Sequence[int]) -> None:
         """Asks which of some columns has something: only the keeper knows."""
@@ -511,142 +472,52 @@ class Window(ApplicationWindow):
             )
             for place in places
         ]
-        self.questions.ask_below(kind, which(kind), answers)
-
-    def on_price(self, _price: Any) -> None:
-        """Makes the labels with the prices of another column, which are printed as they are."""
-        if self.table is not None and not self.is_filling:
-            with self.filling():
-                self.offer_patterns(self.table)
-            self.make()
+        self.questions.below(kind).ask(translated(WHICH[kind]), answers)
 
     def offer_patterns(self, table: Table) -> None:
         """Offers how the prices of the column may be printed."""
-        self.widgets.price_as.remove_all()
-        price = self.choices().price
-        example = table.guess.examples[int(price) - 1] if price else ""
-        self.widgets.price_as.append("", with_example(_("as in the table"), example))
-        for shown, pattern in table.price_patterns(price) if price else ():
-            self.widgets.price_as.append(pattern, shown)
-        self.take_values(price_as=table.guessed_pattern(price or ""))
-
-    def on_more(self, _button: Any) -> None:
-        """Asks for a second text, or for none any more."""
-        is_asked = not self.widgets.text_2.get_visible()
-        self.widgets.text_2.set_visible(is_asked)
-        if not is_asked:
-            self.take_values(text_2="")
-
-    def on_printer(self, printer: Any) -> None:
-        """Makes the labels for another printer."""
-        if not self.is_filling:
-            GLib.idle_add(self.of_printers.on_chosen, printer.get_active_id())
-
-    def on_wheel(self, control: Any, event: Any) -> None:
-        """Leaves a turn of the wheel to the panel."""
-        leave_wheel(control, event)
-
-    def on_language(self, language: Any) -> None:
-        """Makes the labels in another language of printers, with the dots that these have."""
-        form = language.get_active_id()
-        if not self.is_filling and not self.of_printers.take_language(form):
-            with self.filling():
-                self.take_values(dpi=str(usual_dpi(form)))
-            self.make()
-
-    def offer_resolution(self, dpi: str) -> None:
-        """Offers the dots an inch of a printer."""
-        known = [int(row[1]) for row in self.widgets.dpi.get_model()]
-        if int(dpi) not in known:
-            place = sum(other < int(dpi) for other in known)
-            self.widgets.dpi.insert(place, dpi, f"{dpi} dpi")
-
-    def offer_other(self, name: str, value: str) -> None:
-        """Offers a kind of code, or a pattern of prices, that is not in the list of usual ones."""
-        control = self.control(name)
-        if value and value not in [row[1] for row in control.get_model()]:
-            is_kind = name == "symbology"
-            control.append(value, SYMBOLOGIES[value].title if is_kind else self.price_by(value))
-
-    def price_by(self, pattern: str) -> str:
-        """Returns how the first price is printed by a pattern, or else that."""
-        price = self.choices().price
-        found = self.table.price_patterns(price, [pattern]) if self.table and price else ()
-        return {found_pattern: shown for shown, found_pattern in found}.get(pattern, pattern)
-
-    def offer_design(self, name: str) -> None:
-        """Offers a design of a file, before the choice of another one."""
-        known = [row[1] for row in self.widgets.design.get_model()]
-        if name not in known and is_file(name):
-            self.widgets.design.insert(len(known) - 1, name, Path(name).name)
-
-    def on_design(self, design: Any) -> None:
-        """Makes the labels in another design; asks for its file where that is chosen, once the list
-        of choices is closed.
-        """
-        name = design.get_active_id()
-        if name == designs.A_FILE:
-            GLib.idle_add(self.ask_design)
-        elif name:
-            self.last_design = name
-            self.make()
-
-    def ask_design(self) -> None:
-        """Asks for the file of a design."""
-        last = Path(self.last_design) if is_file(self.last_design) else self.path
-        self.widgets.design_opener.set_current_folder(str((last or Path()).absolute().parent))
-        is_found = self.widgets.design_opener.run() == Gtk.ResponseType.ACCEPT
-        name = self.widgets.design_opener.get_filename() if is_found else self.last_design
-        self.take_values(design=name)
+        chosen = self.choices()
+        example = table.guess.examples[int(chosen.price) - 1] if chosen.price else ""
+        shown = {"": with_example(_("as in the table"), example)}
+        if chosen.price:
+            shown |= {pattern: price for price, pattern in table.price_patterns(chosen.price)}
+        shown.setdefault(chosen.price_as or "", chosen.price_as or "")
+        shown[ANY_TEXT.value] = _("any text")
+        rows = [(text, pattern) for pattern, text in shown.items()]
+        show_rows(self.widgets.price_as.get_model(), rows)
+        self.take_values(price_as=chosen.price_as)
 
     def on_sheet(self, entry: Any, _event: Any = None) -> bool:
         """Makes the labels once a sheet is named as it is listed; else they are made when its name
         is left, or Enter is typed.
         """
         is_listed = any(row[0] == entry.get_text() for row in self.widgets.sheets)
-        if self.choices() != self.chosen and (is_listed or not entry.has_focus()):
-            self.make()
+        if is_listed or not entry.has_focus():
+            self.follow()
         return False
 
-    def on_list_size(self, _list: Any, area: Any) -> None:
-        """Wraps the reasons at the right edge of the list."""
-        width = max(LEAST_WRAP, area.width - self.widgets.why.get_x_offset() - WRAP_MARGIN)
-        if width != self.widgets.reason.get_property("wrap-width"):
-            self.widgets.reason.set_property("wrap-width", width)
-            GLib.idle_add(self.widgets.why.queue_resize)
-
-    def show_labels(
-        self, problem: ToolError | None, then: Callable[[], object] | None, made: MadeLabels
-    ) -> None:
-        """Shows the labels that were made, and what there is to say about them."""
+    def show_labels(self, problem: ToolError | None, made: MadeLabels) -> None:
+        """Shows the labels that were made, and what there is to say about them; then does what was
+        pressed.
+        """
+        pressed, self.work.talk.pressed = self.work.talk.pressed, None
         self.made = made
-        self.widgets.command.set_text(made.command)
-        asked = [note for note in made.notes if is_of_signs(note.hint)]
-        is_waiting = bool(asked) and not made.labels.prints  # for an answer: no row is counted yet
-        self.widgets.count.set_text("" if is_waiting else translated(made.summary))
-        self.widgets.notes.clear()
-        notes = [note for note in made.notes if note.origin or note not in asked]
-        for note in notes[:MOST_NOTES]:
-            row = str(note.origin.number) if note.origin else ""
-            why = designs.without_folder(reason_and_hint(note.reason, note.hint))
-            self.widgets.notes.append([row, note.data, why])
-        hints = [note.hint for note in notes if note not in asked]
-        self.offer(self.widgets.helps, self.remedies(hints, made.harmful)[:MOST_HELPS])
-        self.widgets.helps.set_visible(self.widgets.helps.get_children())
-        self.show_left_out(notes, made.left_out)
-        self.show_view()
-        self.widgets.result.show()
-        if asked:
-            first = asked[0]
-            text = translated(CENTS) if first.origin else reason_and_hint(first.reason)
-            self.questions.ask_below("price", text, self.remedies([first.hint]))
-        if made.labels.prints or not asked:
+        self.result.show(made, self.remedies(made.helps), self.is_new)
+        if made.asked:
+            asked = made.asked[0]
+            problem_of_all = in_sentences(asked.problem)
+            text = whole_sentence(asked.problem.hint) if asked.origin else problem_of_all
+            self.questions.below("price").ask(text, self.remedies(asked.problem.remedies))
+        if self.choices().new_only and not made.lines.count:
+            since = made.table.last_printed_on()
+            self.events.report(INFO, Text("nothing is new since {}", since))
+        elif made.labels.prints or not made.asked:
             check_count(made.labels.job, made.labels.prints)
             self.has_labels = True
-        self.let_out(self.has_labels)
-        self.do_when_shown(problem, then)
+        self.let_out()
+        self.do_when_shown(problem, pressed)
 
-    def do_when_shown(self, problem: ToolError | None, then: Callable[[], object] | None) -> None:
+    def do_when_shown(self, problem: ToolError | None, pressed: Pressed | None) -> None:
         """Does what has to wait for labels, once they are shown."""
         if self.is_new:
             self.is_new = False
@@ -655,69 +526,8 @@ class Window(ApplicationWindow):
             self.show_problem(problem)
         if self.table is not None:
             self.ways.look_back(self.table)
-        if then is not None and self.widgets.print_button.get_sensitive():
-            then()
-
-    def show_left_out(self, notes: Sequence[Any], count: int) -> None:
-        """Shows how many rows are skipped, with their list where there is room for it; of a table
-        that is new, since the keeper may have opened or closed the list.
-        """
-        name = "dialog-warning-symbolic" if count else "dialog-information-symbolic"
-        self.widgets.left_out_icon.set_from_icon_name(name, Gtk.IconSize.BUTTON)
-        self.widgets.below.set_visible(notes)
-        if self.is_new:
-            self.widgets.fold.set_active(self.get_size()[1] > LOW)
-        self.on_fold(self.widgets.fold)
-
-    def on_fold(self, fold: Any) -> None:
-        """Shows the list of what is skipped, or hides it."""
-        is_open = fold.get_active()
-        self.widgets.notes_box.set_visible(is_open)
-        text = Text("Please look at this")
-        if count := self.made.left_out:
-            text = skipped(count) if is_open else Text("{}: click to see why", skipped(count))
-        self.widgets.left_out.set_text(translated(text))
-        name = "pan-down-symbolic" if is_open else "pan-end-symbolic"
-        self.widgets.fold_icon.set_from_icon_name(name, Gtk.IconSize.BUTTON)
-
-    def redraw(self, _number: Any) -> None:
-        """Draws the view again."""
-        self.widgets.paper.queue_draw()
-
-    def show_view(self, _control: Any = None) -> None:
-        """Shows pages, or each label, and how many there are."""
-        self.shown = Preview(self.made.labels, self.widgets.view.get_active_id() == "label")
-        self.widgets.number.set_range(1, self.shown.count)
-        self.widgets.of.set_text(_("of {all}").format(all=self.shown.count))
-        width, height = self.shown.size
-        self.widgets.desk.set_property("ratio", width / height)
-        has_cells = not self.made.labels.job.plan.sheet.is_single
-        self.widgets.click_here.set_visible(has_cells and self.begins_by_click())
-        self.widgets.paper.queue_draw()
-
-    def on_draw(self, paper: Any, canvas: Any) -> None:
-        """Draws the view."""
-        scale = paper.get_allocated_width() / self.shown.size[0]
-        canvas.scale(scale, scale)
-        self.shown.draw(canvas, self.widgets.number.get_value_as_int())
-
-    def on_click(self, paper: Any, event: Any) -> None:
-        """Begins at the cell of the first page that was clicked: those before it are used."""
-        scale = paper.get_allocated_width() / self.shown.size[0]
-        cell = self.shown.cell_at(event.x / scale, event.y / scale)
-        if cell and self.begins_by_click() and self.widgets.number.get_value_as_int() == 1:
-            self.widgets.first.set_value(cell)
-
-    def begins_by_click(self) -> bool:
-        """Returns whether a click on a page says where its labels begin."""
-        return bool(self.widgets.sheet.get_active() and self.widgets.view.get_active_id() == "page")
-
-    def on_note(self, selection: Any) -> None:
-        """Shows the label of the row that was chosen, where there is one."""
-        model, row = selection.get_selected()
-        page = self.shown.page_of(model[row][0]) if row else 0
-        if page:
-            self.widgets.number.set_value(page)
+        if pressed is not None and self.widgets.print_button.get_sensitive():
+            pressed()
 
     def ask_table(self) -> None:
         """Asks for a table, first where the last one was."""
@@ -736,14 +546,6 @@ class Window(ApplicationWindow):
         """Opens a table that was opened before."""
         self.open_table(Path(recent.get_current_item().get_uri_display()))
 
-    def reopen(self, control: Any) -> None:
-        """Reads the table by other words, such as its encoding, or with names in another row."""
-        if self.path is not None and not self.is_filling:
-            is_header = control is self.widgets.header_row
-            if is_header or self.further_chosen() != self.further:
-                header = control.get_value_as_int() if is_header else None
-                self.open_table(self.path, header, is_again=True)
-
 
 def show_first() -> bool:
     """Shows the first rows of a list beside what is typed: GTK shows the last ones where the list
@@ -757,19 +559,9 @@ def show_first() -> bool:
     return False
 
 
-def further_values(further: Further) -> Mapping[str, str]:
-    """Returns the further options by which a table is read, as fields of choices."""
-    return {"for_table": further.typed, "given_table": further.given}
-
-
 def field_of(kind: str) -> str:
     """Returns the field of choices that has the column of a kind."""
     return kind.replace("-", "_")
-
-
-def is_of_signs(hint: Text) -> bool:
-    """Returns whether a hint is about the signs of prices, of which only the keeper knows."""
-    return any(remedy.option == "decimal" for remedy in remedies_of(hint))
 
 
 def with_example(name: str, example: str) -> str:

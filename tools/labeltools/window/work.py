@@ -10,12 +10,15 @@ from typing import Any, TYPE_CHECKING
 
 from labeltools.common.language import _
 from labeltools.common.messages import Cancelled, fault_of, of_system, ToolError
+from labeltools.common.text import Text
+from labeltools.window.bar import INFO
 from labeltools.window.gtk import GLib
 from labeltools.window.shop import WindowTalk
 
 if TYPE_CHECKING:
     from labeltools.window.window import Window
 
+STOPPED = Text("stopped: nothing was printed")
 PATIENCE = 500  # milliseconds after which work is shown, and how far it is from then on
 
 
@@ -26,25 +29,27 @@ class Work:
 
     def __init__(self, window: "Window") -> None:
         self.window = window
+        self.widgets = window.widgets
         self.thread = ThreadPoolExecutor(1)
         self.talk = WindowTalk()
 
     def begin_work(
-        self,
-        work: Callable[[WindowTalk], Any],
-        then: Callable[[Any], object],
-        doing: str = "",
-        is_sending: bool = False,
+        self, work: Callable[[WindowTalk], Any], then: Callable[[Any], object], talk: WindowTalk
     ) -> None:
         """Does work, and then something with what came of it; nothing goes out until then."""
+        self.wait_for(self.thread.submit(work, talk), then, talk)
+
+    def wait_for(
+        self, future: "Future[Any]", then: Callable[[Any], object], talk: WindowTalk
+    ) -> None:
+        """Waits for what is under way, and then does something with what came of it."""
         self.talk.stop()
-        self.talk = WindowTalk(doing, is_sending)
+        self.talk = talk
         self.window.events.hide()
-        self.window.widgets.working.hide()
-        self.window.let_out(False)
-        future = self.thread.submit(work, self.talk)
-        future.add_done_callback(partial(GLib.idle_add, self.show_result, self.talk, then))
-        GLib.timeout_add(PATIENCE, self.show_progress, self.talk)
+        self.widgets.working.hide()
+        self.window.let_out()
+        future.add_done_callback(partial(GLib.idle_add, self.show_result, talk, then))
+        GLib.timeout_add(PATIENCE, self.show_progress, talk)
 
     def show_result(
         self, talk: WindowTalk, then: Callable[[Any], object], future: "Future[Any]"
@@ -53,25 +58,31 @@ class Work:
         is_wanted = talk.is_sending or not talk.stops
         if not (is_wanted and self.window.get_visible()):
             return
-        if talk is self.talk:
+        is_last = talk is self.talk
+        if is_last:
             self.leave()
+        if talk.is_sending:
+            self.window.keep_up()
         try:
             with suppress(SystemExit):  # --help was typed
-                then(future.result())
+                found = future.result()
+                if is_last:
+                    self.talk.pressed = talk.pressed
+                then(found)
         except Cancelled:
-            self.window.tell(_("Stopped: nothing was printed"))
+            self.window.events.report(INFO, STOPPED)
         except (ToolError, OSError) as error:
             problem = of_system(error) if isinstance(error, OSError) else error
             self.window.ways.keep_taken(problem)
             self.window.show_problem(problem)
         except Exception as error:
             self.window.show_problem(ToolError(fault_of(error)))
+        self.window.let_out()
 
     def leave(self) -> None:
-        """Lets labels go out again where there are some: there is no work that anyone waits for."""
+        """Shows no work any more: there is none that anyone waits for."""
         self.talk = WindowTalk()
-        self.window.widgets.working.hide()
-        self.window.let_out(self.window.has_labels)
+        self.widgets.working.hide()
 
     def stop(self) -> bool:
         """Ends work at the next label; returns whether that is its end, which is not so of labels
@@ -80,23 +91,19 @@ class Work:
         self.talk.stop()
         if not self.talk.is_sending:
             self.leave()
+            self.window.let_out()
         return not self.talk.is_sending
-
-    def abandon(self) -> None:
-        """Ends work, of which nobody is told."""
-        self.talk.stop()
-        self.talk = WindowTalk()
 
     def show_progress(self, talk: WindowTalk) -> bool:
         """Shows how far work is; returns whether it goes on."""
         if talk is not self.talk:
             return False
-        self.window.widgets.working.show()
+        self.widgets.working.show()
         if talk.total:
-            self.window.widgets.progress.set_fraction(talk.done / talk.total)
+            self.widgets.progress.set_fraction(talk.done / talk.total)
         else:
-            self.window.widgets.progress.pulse()
-        self.window.widgets.progress.set_text(progress_text(talk))
+            self.widgets.progress.pulse()
+        self.widgets.progress.set_text(progress_text(talk))
         return True
 
 

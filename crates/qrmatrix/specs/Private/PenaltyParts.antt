@@ -1,5 +1,5 @@
--- The parts of the penalty of a symbol of n by n modules, m x y being the module at column x and row y: that of finder
--- patterns, and the rest (in the manner of ISO/IEC 18004, 7.8.3).
+-- Parts of the penalty of a symbol of n by n modules, m x y being the module at column x and row y (in the manner of
+-- ISO/IEC 18004, 7.8.3).
 use Rattle.std.specs.Prelude.{ℕ, ◌+◌, ◌-◌, Bool, not, ◌&&◌}
 use Rattle.qrmatrix.specs.Penalty.{balance_penalty, dark_count, run_penalty, shows_finder, square_penalty}
 use Rattle.qrmatrix.specs.Private.Counting.{count_below, sum_below}
@@ -21,14 +21,6 @@ finder_from line i =
 abbrev pub light_from : (ℕ → Bool) → ℕ → Bool
 light_from line i = is_light (line i) (line (i + 1)) (line (i + 2)) (line (i + 3))
 
--- how many columns have a finder pattern down from row y, and then four light modules
-abbrev pub light_last : ℕ → (ℕ → ℕ → Bool) → ℕ → ℕ
-light_last n m y = count_below n (λ x. finder_from (m x) y && light_from (m x) (y + 7))
-
--- how many columns have four light modules down from row y, and then a finder pattern
-abbrev pub light_first : ℕ → (ℕ → ℕ → Bool) → ℕ → ℕ
-light_first n m y = count_below n (λ x. light_from (m x) y && finder_from (m x) (y + 4))
-
 -- how many windows of all rows and columns look like a finder pattern
 abbrev pub finder_windows : ℕ → (ℕ → ℕ → Bool) → ℕ
 finder_windows n m = sum_below n (λ y. count_below (n - 10) (shows_finder (λ x. m x y)))
@@ -38,7 +30,3 @@ finder_windows n m = sum_below n (λ y. count_below (n - 10) (shows_finder (λ x
 abbrev pub row_penalty : ℕ → (ℕ → ℕ → Bool) → ℕ
 row_penalty n m =
     sum_below n (λ y. run_penalty n (λ x. m x y)) + square_penalty n m + balance_penalty n (dark_count n m)
-
--- the penalty without that of finder patterns
-abbrev pub penalty_without_finders : ℕ → (ℕ → ℕ → Bool) → ℕ
-penalty_without_finders n m = row_penalty n m + sum_below n (λ x. run_penalty n (λ y. m x y))

@@ -1,5 +1,5 @@
 use Rattle.std.proofs.Common.{arith}
-use Rattle.filter.proofs.ReadLaws.{modules_of_data_read}
+use Rattle.filter.proofs.Laws.ReadLaws.{modules_of_data_read}
 use Rattle.capi.proofs.ModuleLaws.{lowered, reads_lowered}
 use Rattle.capi.specs.Private.Asking.{one_row}
 use Rattle.capi.proofs.symbol.modules_are_read.Goals as goal

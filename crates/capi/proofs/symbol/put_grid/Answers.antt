@@ -7,7 +7,7 @@ use Rattle.std.proofs.lemmas.Slice.{take-put_mid, drop-put_mid}
 use Rattle.std.proofs.lemmas.List.Concat.{flat_map-append}
 use Rattle.std.specs.List.{range_with_len}
 use borrow.Rule.Slice.PartMut.{put_mid, same_len_mid}
-use Rattle.picture.proofs.WritingLaws.{range_with_len-add}
+use Rattle.picture.proofs.Laws.WritingLaws.{range_with_len-add}
 use Rattle.picture.specs.Picture.{Picture}
 use Rattle.picture.specs.Text.{below, pixel_row}
 use Rattle.capi.proofs.symbol.put_grid.Goals as goal

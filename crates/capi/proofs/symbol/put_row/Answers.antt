@@ -4,7 +4,7 @@ use Rattle.std.proofs.lemmas.List.{length-take-le, take-append-le}
 use Rattle.std.proofs.lemmas.List.FromFn.{length-map-range_with_len, take-map-range_with_len}
 use Rattle.qrmatrix.specs.Bits.{bit}
 use Rattle.picture.specs.Text.{below, pixel_row}
-use Rattle.picture.proofs.GridLaws.{pixel_row-bits}
+use Rattle.picture.proofs.Laws.GridLaws.{pixel_row-bits}
 use Rattle.capi.proofs.symbol.put_row.Goals as goal
 
 long_bits : (row : ℕ) → length (map (bit row) (below 64)) ≡ 64

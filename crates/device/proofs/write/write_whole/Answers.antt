@@ -2,7 +2,7 @@ use Rattle.std.proofs.Common.{◌≡◌, List, ℕ, [], ◌++◌, take, ap, sym,
 use Rattle.std.proofs.lemmas.Bool.{false≢true}
 use Rattle.std.proofs.lemmas.List.{append-nil, nil_from_length}
 use Rattle.device.proofs.PassingLaws.{cut_more, is_nil}
-use Rattle.device.proofs.WritingLaws.{HasWritten, HasWritten-none, WritesText-fails, WritesText-whole}
+use Rattle.device.proofs.Laws.WritingLaws.{HasWritten, HasWritten-none, WritesText-fails, WritesText-whole}
 use Rattle.device.proofs.write.write_whole.Goals as goal
 
 pub loop-rest-init : goal.loop-rest-init

@@ -1,5 +1,5 @@
 use Rattle.std.proofs.Common.{◌≡◌, List, ℕ, ◌++◌, length}
-use Rattle.device.proofs.WritingLaws.{HasWritten}
+use Rattle.device.proofs.Laws.WritingLaws.{HasWritten}
 use Rattle.device.proofs.write.write_whole.Given as goal
 
 -- the bytes are those that were written, and the rest

@@ -2,9 +2,9 @@ use Rattle.std.proofs.Common.{◌<◌, ◌∷◌, [], ◌++◌, Ok, Err, arith, 
 use Rattle.std.proofs.lemmas.List.Elements.{All-append, All-from_get_or}
 use Rattle.std.proofs.lemmas.Result.{err_from_is_err_and}
 use Rattle.filter.specs.Filter.{taken}
-use Rattle.filter.proofs.FilterLaws.{ended_script-more, some_later}
-use Rattle.filter.proofs.RunLaws.{CountsFault-after, FlushesNeither-append, Produces-sends}
-use Rattle.filter.proofs.ScriptLaws.{Sends-append, Sends-longer}
+use Rattle.filter.proofs.Laws.FilterLaws.{ended_script-more, some_later}
+use Rattle.filter.proofs.Laws.RunLaws.{CountsFault-after, FlushesNeither-append, Produces-sends}
+use Rattle.filter.proofs.Laws.ScriptLaws.{Sends-append, Sends-longer}
 use Rattle.examples.proofs.pieces.draw_in_two.Goals as goal
 
 pub returns-in_err-feed-clause-produces : goal.returns-in_err-feed-clause-produces

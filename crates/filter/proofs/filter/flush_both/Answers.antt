@@ -1,5 +1,5 @@
-use Rattle.filter.proofs.Words.{[], Images, Messages, flushes}
-use Rattle.filter.proofs.ScriptLaws.{event_took, none_taken, Stops-first}
+use Rattle.filter.proofs.Laws.Words.{[], Images, Messages, flushes}
+use Rattle.filter.proofs.Laws.ScriptLaws.{event_took, none_taken, Stops-first}
 use Rattle.filter.proofs.filter.flush_both.Goals as goal
 
 pub returns-in_default-clause-sends : goal.returns-in_default-clause-sends

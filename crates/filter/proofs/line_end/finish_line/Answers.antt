@@ -1,9 +1,9 @@
-use Rattle.filter.proofs.Words.{◌∙◌, [], ap, refl, sym, subst, ◌≡◌, ℕ, List, ◌∷◌, Ok, Err, skipped, refused, Outcome}
-use Rattle.filter.proofs.Words.{item, Images, image_of, of_line, outcome_of, outcome_of_item, message_of, outcome}
-use Rattle.filter.proofs.Words.{arith, status_of, symbol_of, Options, Fault, Symbol, Clean, refusal_of, taken}
+use Rattle.filter.proofs.Laws.Words.{◌∙◌, [], ap, refl, sym, subst, ◌≡◌, ℕ, List, ◌∷◌, Ok, Err, skipped, refused, Outcome}
+use Rattle.filter.proofs.Laws.Words.{item, Images, image_of, of_line, outcome_of, outcome_of_item, message_of, outcome}
+use Rattle.filter.proofs.Laws.Words.{arith, status_of, symbol_of, Options, Fault, Symbol, Clean, refusal_of, taken}
 use Rattle.labelcore.specs.ItemView.{item_seen}
 use Rattle.labelcore.specs.declared.item.Item.{Item}
-use Rattle.filter.proofs.ScriptLaws.{both, event_stops, event_took, none_taken}
+use Rattle.filter.proofs.Laws.ScriptLaws.{both, event_stops, event_took, none_taken}
 use Rattle.filter.proofs.line_end.finish_line.Goals as goal
 
 -- what is drawn of a line, by the item that was found
@@ -68,11 +68,11 @@ returns-in-Ok-Err g c =
     let o = outcome_of (symbol_of c.in-Draw.own.label c.in-Draw.symbology c.in-Draw.bytes.now) in
     let h = c.in-Ok-Err.ensures.drawn in
     let is = refused_outcome o c.in-Ok-Err.fault (sym h.refusal ∙ c.in-Ok-Err.field-0-is) in
-    let none = subst (g.O.Sink.took c.args.out.now c.draw.new.out) (ap (image_of options.run) is) h.writes.bytes in
+    let none = subst (g.O.Sink.took c.args.out.now c.draw_in.new.out) (ap (image_of options.run) is) h.writes.bytes in
     let refuse = c.refuse-in-Ok-Err.ensures in
     record {
       sends = λ text at. rw (outcome-found options text c.in-Draw.is (c.parse.ensures.item text at) ∙ is)
-          (both g.met.O.Sink.took_joined g.met.E.Sink.took_joined options.run c.args.out.now c.draw.new.out
+          (both g.met.O.Sink.took_joined g.met.E.Sink.took_joined options.run c.args.out.now c.draw_in.new.out
           c.refuse-in-Ok-Err.new.out c.args.err.now c.args.err.now c.refuse-in-Ok-Err.new.err []
           (of_line c.args.number (refused c.in-Ok-Err.fault) ∷ []) c.refuse-in-Ok-Err.result
           (none_taken _ _ none (g.met.E.Sink.took_none c.args.err.now)) (refuse.sends options.run));
@@ -91,7 +91,7 @@ returns-in-Err g c =
     let options = c.args.options.now in
     let o = outcome_of (symbol_of c.in-Draw.own.label c.in-Draw.symbology c.in-Draw.bytes.now) in
     let writes = c.in-Err.ensures.drawn.writes in
-    let out = g.O.Sink.took c.args.out.now c.draw.new.out in
+    let out = g.O.Sink.took c.args.out.now c.draw_in.new.out in
     let err = g.E.Sink.took c.args.err.now c.args.err.now in
     record {
       sends = λ text at. rw (outcome-found options text c.in-Draw.is (c.parse.ensures.item text at))

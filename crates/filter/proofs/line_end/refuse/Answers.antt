@@ -1,5 +1,5 @@
-use Rattle.filter.proofs.Words.{[], refused, Images, Messages, of_line}
-use Rattle.filter.proofs.ScriptLaws.{event_stops, event_took, none_taken, Stops-first}
+use Rattle.filter.proofs.Laws.Words.{[], refused, Images, Messages, of_line}
+use Rattle.filter.proofs.Laws.ScriptLaws.{event_stops, event_took, none_taken, Stops-first}
 use Rattle.filter.proofs.line_end.refuse.Goals as goal
 
 pub returns-in_default-clause-sends : goal.returns-in_default-clause-sends

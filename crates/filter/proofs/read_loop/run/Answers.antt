@@ -1,9 +1,9 @@
-use Rattle.filter.proofs.Words.{◌<◌, ◌++◌, Err, take, ◌∙◌, subst, arith, length-append, length-take}
-use Rattle.filter.proofs.Words.{inl, inr, rules, sym, append-nil, All-append, err_from_is_err_and, OnOk}
-use Rattle.filter.proofs.Words.{Result, taken, ◌∷◌, []}
-use Rattle.filter.proofs.FilterLaws.{some_later}
-use Rattle.filter.proofs.RunLaws.{HasRun-append, HasRun-none, HasRun-passed, Runs-after, Runs-read, Runs-unpassed}
-use Rattle.filter.proofs.ScriptLaws.{Sends-longer}
+use Rattle.filter.proofs.Laws.Words.{◌<◌, ◌++◌, Err, take, ◌∙◌, subst, arith, length-append, length-take}
+use Rattle.filter.proofs.Laws.Words.{inl, inr, rules, sym, append-nil, All-append, err_from_is_err_and, OnOk}
+use Rattle.filter.proofs.Laws.Words.{Result, taken, ◌∷◌, []}
+use Rattle.filter.proofs.Laws.FilterLaws.{some_later}
+use Rattle.filter.proofs.Laws.RunLaws.{HasRun-append, HasRun-none, HasRun-passed, Runs-after, Runs-read, Runs-unpassed}
+use Rattle.filter.proofs.Laws.ScriptLaws.{Sends-longer}
 use Rattle.filter.proofs.read_loop.run.Goals as goal
 
 pub returns-in_default : goal.returns-in_default

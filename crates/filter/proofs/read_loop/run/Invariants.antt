@@ -1,5 +1,5 @@
-use Rattle.filter.proofs.Words.{◌≡◌, ◌≤◌, List, ℕ, length, true}
-use Rattle.filter.proofs.RunLaws.{HasRun}
+use Rattle.filter.proofs.Laws.Words.{◌≡◌, ◌≤◌, List, ℕ, length, true}
+use Rattle.filter.proofs.Laws.RunLaws.{HasRun}
 use Rattle.filter.proofs.read_loop.run.Given as goal
 
 -- the filter was fed what the source gave so far, each turn gave a byte or more, and nothing is buffered

@@ -1,8 +1,8 @@
-use Rattle.filter.proofs.Words.{◌≡◌, refl}
-use Rattle.filter.proofs.Words.{script}
+use Rattle.filter.proofs.Laws.Words.{◌≡◌, refl}
+use Rattle.filter.proofs.Laws.Words.{script}
 use Rattle.std.proofs.KnownBytes.{Consumes-whole}
-use Rattle.filter.proofs.ScriptLaws.{images_by, Took-by}
-use Rattle.filter.proofs.ShownLaws.{Shows-from}
+use Rattle.filter.proofs.Laws.ScriptLaws.{images_by, Took-by}
+use Rattle.filter.proofs.Laws.ShownLaws.{Shows-from}
 use Rattle.filter.proofs.streams.run_streams.Goals as goal
 
 pub returns-in-Ok : goal.returns-in-Ok

@@ -1,4 +1,4 @@
-use Rattle.filter.proofs.Words.{Ean13, Ean8, UpcA, Code128, symbol_of}
+use Rattle.filter.proofs.Laws.Words.{Ean13, Ean8, UpcA, Code128, symbol_of}
 use Rattle.filter.proofs.symbol.row_of.Goals as goal
 
 pub returns-in-Ean13-clause-drawn : goal.returns-in-Ean13-clause-drawn

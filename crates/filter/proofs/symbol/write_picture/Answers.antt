@@ -1,7 +1,7 @@
 use Rattle.device.specs.Writing.{WritesText}
-use Rattle.filter.proofs.Words.{ap, arith, subst, text_of}
+use Rattle.filter.proofs.Laws.Words.{ap, arith, subst, text_of}
 use Rattle.picture.specs.Picture.{Picture, enlargement}
-use Rattle.filter.proofs.FilterLaws.{enlarged}
+use Rattle.filter.proofs.Laws.FilterLaws.{enlarged}
 use Rattle.filter.proofs.symbol.write_picture.Goals as goal
 
 pub new-picture-requires-clause-fits : goal.new-picture-requires-clause-fits

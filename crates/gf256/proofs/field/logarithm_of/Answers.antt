@@ -1,4 +1,4 @@
-use Rattle.gf256.proofs.LogarithmLaws.{log, power-log}
+use Rattle.gf256.proofs.Laws.LogarithmLaws.{log, power-log}
 use Rattle.gf256.proofs.field.logarithm_of.Goals as goal
 
 pub returns : goal.returns

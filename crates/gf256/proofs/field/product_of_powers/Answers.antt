@@ -1,6 +1,6 @@
 use Rattle.std.proofs.Common.{◌+◌, ◌∙◌, arith}
-use Rattle.gf256.proofs.EvaluationLaws.{field_power-add}
-use Rattle.gf256.proofs.LogarithmLaws.{exp, exp-power}
+use Rattle.gf256.proofs.Laws.EvaluationLaws.{field_power-add}
+use Rattle.gf256.proofs.Laws.LogarithmLaws.{exp, exp-power}
 use Rattle.gf256.proofs.field.product_of_powers.Goals as goal
 
 pub returns : goal.returns

@@ -4,7 +4,7 @@ use Rattle.std.proofs.lemmas.Grind.{same_number_lists}
 use Rattle.std.proofs.lemmas.List.{get_or-append_right, get_or-map, get_or-replicate, get_or_append_left, length-map}
 use Rattle.gf256.specs.Field.{alpha, field_power}
 use Rattle.gf256.specs.Private.{padded_generator, zeros}
-use Rattle.gf256.proofs.PolynomialSumLaws.{length-append_zeros}
+use Rattle.gf256.proofs.Laws.PolynomialSumLaws.{length-append_zeros}
 use Rattle.gf256.proofs.generator.coefficients_of.Goals as goal
 
 pub loop-j-init : goal.loop-j-init

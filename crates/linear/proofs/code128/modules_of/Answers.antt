@@ -1,4 +1,4 @@
-use Rattle.linear.proofs.TableLaws.{CHARACTERS-character_modules}
+use Rattle.linear.proofs.Laws.TableLaws.{CHARACTERS-character_modules}
 use Rattle.linear.proofs.code128.modules_of.Goals as goal
 
 pub returns : goal.returns

@@ -1,5 +1,5 @@
 use Rattle.std.proofs.Common.{◌<◌, All, sym, ◌∙◌, subst}
-use Rattle.linear.proofs.Code128Laws.{data_values-below}
+use Rattle.linear.proofs.Laws.Code128Laws.{data_values-below}
 use Rattle.linear.proofs.code128.push_code128.Goals as goal
 
 pub push_characters-requires-clause-values : goal.push_characters-requires-clause-values

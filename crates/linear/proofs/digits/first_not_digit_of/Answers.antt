@@ -1,7 +1,7 @@
 use Rattle.std.proofs.Common.{arith}
 use Rattle.std.specs.Char.{is_ascii_digit}
 use Rattle.std.proofs.lemmas.Grind.{common_steps}
-use Rattle.linear.proofs.DigitLaws.{first_behind}
+use Rattle.linear.proofs.Laws.DigitLaws.{first_behind}
 use Rattle.linear.proofs.digits.first_not_digit_of.Goals as goal
 
 pub returns-then-are_digits : goal.returns-then-are_digits

@@ -1,5 +1,5 @@
 use Rattle.linear.specs.declared.ean.NumberSet.TheVariants.{A, B, C}
-use Rattle.linear.proofs.TableLaws.{digits_of, digits_of-pattern_of}
+use Rattle.linear.proofs.Laws.TableLaws.{digits_of, digits_of-pattern_of}
 use Rattle.linear.proofs.ean.modules_of.Goals as goal
 
 pub returns-in-A : goal.returns-in-A

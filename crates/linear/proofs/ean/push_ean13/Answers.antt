@@ -1,7 +1,7 @@
 use Rattle.std.proofs.Common.{◌≡◌, ◌<◌, ◌++◌, ℕ, List, [], ◌∷◌, take, drop, get_or, refl, ap, ◌∙◌, arith}
 use Rattle.linear.specs.Digits.{digit_value}
 use Rattle.linear.specs.Ean.{symbol, ean13_row}
-use Rattle.linear.proofs.TableLaws.{sets_of_left, sets_of_left-left_sets}
+use Rattle.linear.proofs.Laws.TableLaws.{sets_of_left, sets_of_left-left_sets}
 use Rattle.linear.proofs.ean.push_ean13.Goals as goal
 
 -- the halves that the code cuts, and the sets that it looks up

@@ -3,7 +3,7 @@ use Rattle.std.proofs.Common.{length-drop}
 use Rattle.std.proofs.lemmas.List.{take_rest}
 use Rattle.std.proofs.lemmas.List.Elements.{All-drop}
 use Rattle.linear.specs.CodeSets.{is_pair_next, data_values}
-use Rattle.linear.proofs.CodeSetLaws.{pair_first, byte_first}
+use Rattle.linear.proofs.Laws.CodeSetLaws.{pair_first, byte_first}
 use Rattle.linear.proofs.switching.push_values.Goals as goal
 
 -- the first values of those that are left are written; three of the lists are found from the hypotheses, which a turn

@@ -1,8 +1,8 @@
 use Rattle.std.proofs.Common.{◌∷◌, [], refl}
-use Rattle.device.proofs.WritingLaws.{HasWritten-call, WritesText-begun, WritesText-last}
+use Rattle.device.proofs.Laws.WritingLaws.{HasWritten-call, WritesText-begun, WritesText-last}
 use Rattle.picture.specs.Text.{below}
-use Rattle.picture.proofs.AsciiLaws.{ascii_pixels-ascii_text}
-use Rattle.picture.proofs.WritingLaws.{ascii_rows}
+use Rattle.picture.proofs.Laws.AsciiLaws.{ascii_pixels-ascii_text}
+use Rattle.picture.proofs.Laws.WritingLaws.{ascii_rows}
 use Rattle.picture.proofs.ascii.write_ascii.Goals as goal
 
 pub returns-in_err-write_rows-clause-writes : goal.returns-in_err-write_rows-clause-writes

@@ -6,7 +6,7 @@ use Rattle.std.proofs.lemmas.Bool.{ne_eqb}
 use Rattle.std.proofs.lemmas.Nat.{pow_pos}
 use Rattle.std.proofs.lemmas.Nat.Bits.{and_pow, bit_at-lt}
 use Rattle.qrmatrix.specs.Bits.{bit}
-use Rattle.qrmatrix.proofs.RowBitsLaws.{mod_bit, shr_bit}
+use Rattle.qrmatrix.proofs.Laws.RowBitsLaws.{mod_bit, shr_bit}
 use Rattle.picture.specs.Text.{below}
 use Rattle.picture.proofs.bits.bits_of.Goals as goal
 

@@ -1,8 +1,8 @@
 use Rattle.std.proofs.Common.{◌∙◌, ◌++◌, Bool, List, false, ap, arith, map, replicate, sym}
 use Rattle.qrmatrix.specs.Bits.{bit}
-use Rattle.qrmatrix.proofs.RowBitsLaws.{above_bit}
+use Rattle.qrmatrix.proofs.Laws.RowBitsLaws.{above_bit}
 use Rattle.picture.specs.Text.{below}
-use Rattle.picture.proofs.SampleLaws.{map-range}
+use Rattle.picture.proofs.Laws.SampleLaws.{map-range}
 use Rattle.picture.proofs.bits.pixels_of.Goals as goal
 
 pub returns : goal.returns

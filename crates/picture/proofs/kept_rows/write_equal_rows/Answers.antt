@@ -1,10 +1,10 @@
 use Rattle.std.proofs.Common.{◌≡◌, ◌+◌, ◌++◌, ◌∙◌, ℕ, List, [], ap, refl, subst, sym, arith, take, append-nil}
 use Rattle.std.proofs.lemmas.Nat.{mul-le}
 use Rattle.device.specs.declared.io_fault.IoFault.{IoFault}
-use Rattle.device.proofs.WritingLaws.{HasWritten, HasWritten-call, WritesText-begun, WritesText-whole}
+use Rattle.device.proofs.Laws.WritingLaws.{HasWritten, HasWritten-call, WritesText-begun, WritesText-whole}
 use Rattle.picture.specs.Private.Rows.{EndsWith, repeated, row_text}
 use Rattle.picture.proofs.RepeatedLaws.{EndsWith-repeated, WritesText-repeated, length-repeated_row, repeated-add}
-use Rattle.picture.proofs.WritingLaws.{flat_map-below_front}
+use Rattle.picture.proofs.Laws.WritingLaws.{flat_map-below_front}
 use Rattle.picture.proofs.WritingLoopLaws.{HasWritten-below_more, WritesText-below_fails, below_more}
 use Rattle.picture.proofs.kept_rows.write_equal_rows.Goals as goal
 

@@ -1,5 +1,5 @@
 use Rattle.std.proofs.Common.{◌-◌, ◌<◌, ◌≤◌, take}
-use Rattle.device.proofs.WritingLaws.{HasWritten}
+use Rattle.device.proofs.Laws.WritingLaws.{HasWritten}
 use Rattle.picture.specs.Private.Rows.{repeated, row_text}
 use Rattle.picture.proofs.kept_rows.write_equal_rows.Given as goal
 

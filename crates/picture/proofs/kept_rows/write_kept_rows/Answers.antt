@@ -2,13 +2,13 @@ use Rattle.std.proofs.Common.{◌≡◌, ◌+◌, ◌++◌, ◌∙◌, ℕ, Bool
 use Rattle.std.proofs.Common.{length, length-append, length-drop}
 use Rattle.std.proofs.lemmas.List.{take_at}
 use Rattle.std.proofs.lemmas.List.FromFn.{length-map-range_with_len}
-use Rattle.device.proofs.WritingLaws.{HasWritten-none, WritesText-whole}
+use Rattle.device.proofs.Laws.WritingLaws.{HasWritten-none, WritesText-whole}
 use Rattle.picture.specs.Picture.{AreEqualRows, Picture}
 use Rattle.picture.specs.Private.Rows.{repeated, row_text}
 use Rattle.picture.specs.Text.{below, pixel_row}
-use Rattle.picture.proofs.GridLaws.{pixel_row-bits, pixel_row-equal}
+use Rattle.picture.proofs.Laws.GridLaws.{pixel_row-bits, pixel_row-equal}
 use Rattle.picture.proofs.RepeatedLaws.{same_texts}
-use Rattle.picture.proofs.WritingLaws.{flat_map-below_add}
+use Rattle.picture.proofs.Laws.WritingLaws.{flat_map-below_add}
 use Rattle.picture.proofs.WritingLoopLaws.{below_more, HasWritten-below_more, WritesText-below_fails}
 use Rattle.picture.proofs.kept_rows.write_kept_rows.Goals as goal
 

@@ -1,6 +1,6 @@
 use Rattle.std.proofs.Common.{sym}
-use Rattle.device.proofs.WritingLaws.{HasWritten-call, WritesText-begun, WritesText-last}
-use Rattle.picture.proofs.WritingLaws.{row_text-of_bits}
+use Rattle.device.proofs.Laws.WritingLaws.{HasWritten-call, WritesText-begun, WritesText-last}
+use Rattle.picture.proofs.Laws.WritingLaws.{row_text-of_bits}
 use Rattle.picture.proofs.kept_rows.write_row_bits.Goals as goal
 
 pub returns-in_err-write_piece : goal.returns-in_err-write_piece

@@ -1,9 +1,9 @@
 use Rattle.std.proofs.Common.{[], refl, arith, flat_map}
-use Rattle.device.proofs.WritingLaws.{HasWritten-call, WritesText-begun, WritesText-last}
+use Rattle.device.proofs.Laws.WritingLaws.{HasWritten-call, WritesText-begun, WritesText-last}
 use Rattle.picture.specs.Private.Rows.{rows_text}
 use Rattle.picture.specs.Text.{pbm_piece, pbm_row, below}
-use Rattle.picture.proofs.PbmLaws.{read_back}
-use Rattle.picture.proofs.WritingLaws.{pbm_rows}
+use Rattle.picture.proofs.Laws.PbmLaws.{read_back}
+use Rattle.picture.proofs.Laws.WritingLaws.{pbm_rows}
 use Rattle.picture.proofs.pbm.write_pbm.Goals as goal
 
 pub returns-in_err-write_whole-clause-writes : goal.returns-in_err-write_whole-clause-writes

@@ -1,7 +1,7 @@
 use Rattle.std.proofs.Common.{◌∙◌, ap, arith, length, take}
 use Rattle.std.proofs.lemmas.List.FromFn.{take-map-range_with_len}
 use Rattle.qrmatrix.specs.Bits.{bit}
-use Rattle.picture.proofs.GridLaws.{pixel_row-bits}
+use Rattle.picture.proofs.Laws.GridLaws.{pixel_row-bits}
 use Rattle.picture.proofs.scaled.read_pixels.Goals as goal
 
 pub returns-in-Some : goal.returns-in-Some

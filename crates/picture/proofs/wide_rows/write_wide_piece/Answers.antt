@@ -4,7 +4,7 @@ use Rattle.std.proofs.Math.ListN.{replicate}
 use Rattle.std.proofs.lemmas.Grind.{elements}
 use Rattle.std.proofs.lemmas.List.{length-take-le, take_at}
 use Rattle.std.proofs.lemmas.List.FromFn.{length-map-range_with_len}
-use Rattle.picture.proofs.WritingLaws.{piece_asked}
+use Rattle.picture.proofs.Laws.WritingLaws.{piece_asked}
 use Rattle.picture.proofs.wide_rows.write_wide_piece.Goals as goal
 
 pub returns : goal.returns

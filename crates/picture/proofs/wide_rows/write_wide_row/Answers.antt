@@ -1,7 +1,7 @@
 use Rattle.std.proofs.Common.{◌≡◌, ℕ, List, length, refl, arith}
 use Rattle.std.specs.Int.{div_ceil}
 use Rattle.std.proofs.lemmas.List.FromFn.{length-map-range_with_len}
-use Rattle.device.proofs.WritingLaws.{HasWritten-none, WritesText-last}
+use Rattle.device.proofs.Laws.WritingLaws.{HasWritten-none, WritesText-last}
 use Rattle.picture.specs.Private.Rows.{piece}
 use Rattle.picture.specs.Text.{pixel_row}
 use Rattle.picture.proofs.WritingLoopLaws.{below_more, HasWritten-below_more, WritesText-below_fails}

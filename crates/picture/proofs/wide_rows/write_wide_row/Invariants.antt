@@ -1,5 +1,5 @@
 use Rattle.std.proofs.Common.{ℕ, flat_map}
-use Rattle.device.proofs.WritingLaws.{HasWritten}
+use Rattle.device.proofs.Laws.WritingLaws.{HasWritten}
 use Rattle.picture.specs.Private.Rows.{piece}
 use Rattle.picture.specs.Text.{below, pixel_row}
 use Rattle.picture.proofs.wide_rows.write_wide_row.Given as goal

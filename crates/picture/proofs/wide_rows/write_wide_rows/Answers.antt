@@ -1,5 +1,5 @@
 use Rattle.std.proofs.Common.{◌≡◌, ℕ, List, [], arith, refl, sym, append-nil}
-use Rattle.device.proofs.WritingLaws.{HasWritten-none, WritesText-whole}
+use Rattle.device.proofs.Laws.WritingLaws.{HasWritten-none, WritesText-whole}
 use Rattle.picture.specs.Private.Rows.{row_text}
 use Rattle.picture.specs.Text.{pixel_row}
 use Rattle.picture.proofs.WritingLoopLaws.{below_more, HasWritten-below_more, WritesText-below_fails}

@@ -1,9 +1,9 @@
 use Rattle.std.proofs.Common.{ap, arith, drop, length, replicate, rules, sum, take, ◌*◌, ◌≡◌, ◌∙◌, Some}
 use Rattle.std.proofs.lemmas.Bool.{leb-true}
 use Rattle.std.proofs.lemmas.List.Sums.{AllPass-from_list_all}
-use Rattle.qrdata.proofs.DataReadingLaws.{lengths_hold}
-use Rattle.qrdata.proofs.PaddingLaws.{length-byte_bits}
-use Rattle.qrdata.proofs.VersionLaws.{IsSound-of, data_codewords-few}
+use Rattle.qrdata.proofs.Laws.DataReadingLaws.{lengths_hold}
+use Rattle.qrdata.proofs.Laws.PaddingLaws.{length-byte_bits}
+use Rattle.qrdata.proofs.Laws.VersionLaws.{IsSound-of, data_codewords-few}
 use Rattle.qrdata.specs.Reading.{segments_at}
 use Rattle.qrdata.specs.Segments.{byte_bits}
 use Rattle.qrdata.specs.Versions.{block_lengths, data_codewords, ec_codewords_per_block}

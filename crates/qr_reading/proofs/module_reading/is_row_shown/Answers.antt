@@ -3,7 +3,7 @@ use Rattle.std.specs.Prelude.{◌==◌, bit_and, bit_xor}
 use Rattle.std.specs.Int.{bit_not, w64}
 use Rattle.std.proofs.lemmas.Nat.{one_shl}
 use Rattle.qrmatrix.specs.Square.{value_at}
-use Rattle.qr_reading.proofs.PatternReadingLaws.{row_shown}
+use Rattle.qr_reading.proofs.Laws.PatternReadingLaws.{row_shown}
 use Rattle.qr_reading.proofs.module_reading.is_row_shown.Goals as goal
 
 pub returns : goal.returns

@@ -1,6 +1,6 @@
 use Rattle.std.proofs.Common.{◌∙◌, ℕ, Bool, sym, length, slice_index, refl, true, false}
 use Rattle.qrmatrix.specs.Bits.{bit}
-use Rattle.qr_reading.proofs.SymbolReadingLaws.{read_if_shown}
+use Rattle.qr_reading.proofs.Laws.SymbolReadingLaws.{read_if_shown}
 use Rattle.qr_reading.proofs.module_reading.read.Goals as goal
 
 pub returns-then-not-are_shown : goal.returns-then-not-are_shown

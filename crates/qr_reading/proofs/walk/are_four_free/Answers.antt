@@ -2,7 +2,7 @@ use Rattle.std.proofs.Common.{◌≡◌, ◌<◌, ◌∙◌, ap, arith, min, sym
 use Rattle.std.proofs.lemmas.Bool.{eqb-true}
 use Rattle.qrdata.specs.Bits.{bits_of}
 use Rattle.qrmatrix.specs.Private.Placing.{row_of}
-use Rattle.qr_reading.proofs.WalkedBitLaws.{both_set, strip_highest, strip_row}
+use Rattle.qr_reading.proofs.Laws.WalkedBitLaws.{both_set, strip_highest, strip_row}
 use Rattle.qr_reading.proofs.walk.are_four_free.Goals as goal
 
 pub returns : goal.returns

@@ -1,7 +1,7 @@
 use Rattle.std.proofs.Common.{◌∙◌, sym}
 use Rattle.qrmatrix.specs.Private.Placing.{row_of}
 use Rattle.qr_reading.specs.Private.Walking.{module_in}
-use Rattle.qr_reading.proofs.WalkedBitLaws.{eight_bits, four_read}
+use Rattle.qr_reading.proofs.Laws.WalkedBitLaws.{eight_bits, four_read}
 use Rattle.qr_reading.proofs.walk.four_rows.Goals as goal
 
 pub returns : goal.returns

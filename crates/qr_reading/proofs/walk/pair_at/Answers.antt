@@ -1,4 +1,4 @@
-use Rattle.qr_reading.proofs.WalkedBitLaws.{pair_bits}
+use Rattle.qr_reading.proofs.Laws.WalkedBitLaws.{pair_bits}
 use Rattle.qr_reading.proofs.walk.pair_at.Goals as goal
 
 pub returns-clause-bits : goal.returns-clause-bits

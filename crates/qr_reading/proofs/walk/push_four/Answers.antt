@@ -1,6 +1,6 @@
 use Rattle.std.proofs.Common.{◌∙◌, ◌++◌, ap, arith, length}
 use Rattle.qrdata.specs.Private.BitsInCodewords.{bits_in}
-use Rattle.qrdata.proofs.BitStringLaws.{length-bits_of}
+use Rattle.qrdata.proofs.Laws.BitStringLaws.{length-bits_of}
 use Rattle.qrmatrix.specs.Square.{value_at}
 use Rattle.qr_reading.proofs.walk.push_four.Goals as goal
 

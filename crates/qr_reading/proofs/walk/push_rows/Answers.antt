@@ -3,7 +3,7 @@ use Rattle.qrdata.specs.Private.BitsInCodewords.{bits_in}
 use Rattle.qrmatrix.specs.Private.Placing.{row_of}
 use Rattle.qrmatrix.specs.Square.{value_at}
 use Rattle.qr_reading.specs.Private.Walking.{module_in, row_read, rows_read}
-use Rattle.qr_reading.proofs.WalkedBitLaws.{has_room, next_walked}
+use Rattle.qr_reading.proofs.Laws.WalkedBitLaws.{has_room, next_walked}
 use Rattle.qr_reading.proofs.walk.push_rows.Goals as goal
 
 pub push_row-requires-clause-room : goal.push_row-requires-clause-room

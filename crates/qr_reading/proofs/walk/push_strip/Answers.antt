@@ -3,7 +3,7 @@ use Rattle.qrdata.specs.Private.BitsInCodewords.{bits_in}
 use Rattle.qrmatrix.specs.Private.Placing.{row_of}
 use Rattle.qrmatrix.specs.Square.{value_at}
 use Rattle.qr_reading.specs.Private.Walking.{module_in, row_read, rows_read}
-use Rattle.qr_reading.proofs.WalkedBitLaws.{next_pieces, pieces_have_room}
+use Rattle.qr_reading.proofs.Laws.WalkedBitLaws.{next_pieces, pieces_have_room}
 use Rattle.qr_reading.proofs.walk.push_strip.Goals as goal
 
 pub push_rows-requires-clause-room : goal.push_rows-requires-clause-room

@@ -4,8 +4,8 @@ use Rattle.qrdata.specs.Versions.{side_of}
 use Rattle.qrmatrix.specs.Bits.{bit}
 use Rattle.qrmatrix.specs.Square.{value_at}
 use Rattle.qr_reading.specs.Private.Walking.{unmasked}
-use Rattle.qr_reading.proofs.SymbolReadingLaws.{bits_fit, codewords_read, strip_is, strip_read, walk_read}
-use Rattle.qr_reading.proofs.WalkedBitLaws.{has_room, next_walked}
+use Rattle.qr_reading.proofs.Laws.SymbolReadingLaws.{bits_fit, codewords_read, strip_is, strip_read, walk_read}
+use Rattle.qr_reading.proofs.Laws.WalkedBitLaws.{has_room, next_walked}
 use Rattle.qr_reading.proofs.walk.read_codewords.Goals as goal
 
 pub loop-pair-init : goal.loop-pair-init

@@ -6,7 +6,7 @@ use Rattle.qrmatrix.specs.Bits.{bit}
 use Rattle.qrmatrix.specs.Reading.{read_bits}
 use Rattle.qrmatrix.specs.Square.{value_at}
 use Rattle.qr_reading.specs.Private.Walking.{unmasked}
-use Rattle.qr_reading.proofs.SymbolReadingLaws.{strip_read}
+use Rattle.qr_reading.proofs.Laws.SymbolReadingLaws.{strip_read}
 use Rattle.qr_reading.proofs.walk.read_codewords.Given as goal
 
 -- what is written and what is to come are all the bits

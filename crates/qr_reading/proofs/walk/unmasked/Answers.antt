@@ -1,6 +1,6 @@
 use Rattle.std.proofs.Common.{arith, refl, slice_index}
 use mathlib.Core.Bool.{xor}
-use Rattle.qrmatrix.proofs.RowBitsLaws.{xor_bit}
+use Rattle.qrmatrix.proofs.Laws.RowBitsLaws.{xor_bit}
 use Rattle.qr_reading.proofs.walk.unmasked.Goals as goal
 
 pub returns : goal.returns

@@ -1,6 +1,6 @@
 use Rattle.std.proofs.Common.{◌∙◌, arith}
 use Rattle.std.proofs.lemmas.List.{length-set}
-use Rattle.qr_reading.proofs.WalkedBitLaws.{fours_more}
+use Rattle.qr_reading.proofs.Laws.WalkedBitLaws.{fours_more}
 use Rattle.qr_reading.proofs.walk.write_fours.Goals as goal
 
 pub loop-y-preserved : goal.loop-y-preserved

@@ -5,11 +5,11 @@ use Rattle.qrdata.specs.Reading.{data_in}
 use Rattle.qrdata.specs.Segments.{segments_bits}
 use Rattle.qrdata.specs.Versions.{data_codewords}
 use Rattle.std.specs.Prelude.{All}
-use Rattle.qrdata.proofs.CodewordByteLaws.{AreBytes-symbol_codewords}
-use Rattle.qrdata.proofs.DamageLaws.{IsCorrected-of, IsGuarded-of}
-use Rattle.qrdata.proofs.DataReadingLaws.{data_in-symbol_codewords, length-read}
-use Rattle.qrdata.proofs.LengthLaws.{length-segments_bits}
-use Rattle.qrdata.proofs.PaddingLaws.{length-data_codewords_of}
+use Rattle.qrdata.proofs.Laws.CodewordByteLaws.{AreBytes-symbol_codewords}
+use Rattle.qrdata.proofs.Laws.DamageLaws.{IsCorrected-of, IsGuarded-of}
+use Rattle.qrdata.proofs.Laws.DataReadingLaws.{data_in-symbol_codewords, length-read}
+use Rattle.qrdata.proofs.Laws.LengthLaws.{length-segments_bits}
+use Rattle.qrdata.proofs.Laws.PaddingLaws.{length-data_codewords_of}
 use Rattle.qrdata.proofs.codeword_sequence.codewords.Goals as goal
 
 pub write_symbol-requires : goal.write_symbol-requires

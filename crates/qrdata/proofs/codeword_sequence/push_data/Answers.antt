@@ -4,9 +4,9 @@ use Rattle.qrdata.specs.Private.BitsInCodewords.{bits_in}
 use Rattle.qrdata.specs.Codewords.{with_zeros, with_terminator, with_pad_codewords, data_codewords_of}
 use Rattle.qrdata.specs.Segments.{segments_bits}
 use Rattle.qrdata.specs.Versions.{data_codewords}
-use Rattle.qrdata.proofs.VersionLaws.{capacity-le, data_codewords-few}
-use Rattle.qrdata.proofs.LengthLaws.{length-segments_bits}
-use Rattle.qrdata.proofs.PaddingLaws.{length-codewords_of}
+use Rattle.qrdata.proofs.Laws.VersionLaws.{capacity-le, data_codewords-few}
+use Rattle.qrdata.proofs.Laws.LengthLaws.{length-segments_bits}
+use Rattle.qrdata.proofs.Laws.PaddingLaws.{length-codewords_of}
 use Rattle.qrdata.proofs.codeword_sequence.push_data.Goals as goal
 
 -- bits that are written where there were none are all bits

@@ -5,8 +5,8 @@ use Rattle.qrdata.specs.Versions.{block_lengths, ec_codewords_per_block}
 use Rattle.std.specs.List.{flat_map}
 use Rattle.gf256.specs.ErrorCorrection.{ec_codewords_of}
 use Rattle.std.proofs.lemmas.List.Folds.{sum_by-replicate}
-use Rattle.qrdata.proofs.BlockLaws.{length-interleaving-split_by}
-use Rattle.qrdata.proofs.DataReadingLaws.{AreBytes-slice, HasBlocks-of}
+use Rattle.qrdata.proofs.Laws.BlockLaws.{length-interleaving-split_by}
+use Rattle.qrdata.proofs.Laws.DataReadingLaws.{AreBytes-slice, HasBlocks-of}
 use Rattle.qrdata.proofs.codeword_sequence.write_symbol.Goals as goal
 use Rattle.qrdata.proofs.codeword_sequence.write_symbol.Goals.{After-as_slice-2, After-prove_range}
 

@@ -1,7 +1,7 @@
 use Rattle.qrdata.specs.Segments.{IsSegmentation}
-use Rattle.qrdata.proofs.FewestBitsLaws.{chosen_segments-is, chosen_segments-le_cost}
-use Rattle.qrdata.proofs.LengthLaws.{length-segments_bits}
-use Rattle.qrdata.proofs.VersionSearchLaws.{NoneFits-from_chosen, chosen_version-is, chosen_version-none}
+use Rattle.qrdata.proofs.Laws.FewestBitsLaws.{chosen_segments-is, chosen_segments-le_cost}
+use Rattle.qrdata.proofs.Laws.LengthLaws.{length-segments_bits}
+use Rattle.qrdata.proofs.Laws.VersionSearchLaws.{NoneFits-from_chosen, chosen_version-is, chosen_version-none}
 use Rattle.qrdata.proofs.plan.choose.Goals as goal
 
 pub returns-in-Some-clause-plan : goal.returns-in-Some-clause-plan

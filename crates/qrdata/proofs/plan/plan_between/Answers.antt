@@ -1,9 +1,9 @@
 use Rattle.std.proofs.Common.{arith, refl}
 use Rattle.qrdata.specs.Fewest.{chosen_segments}
 use Rattle.qrdata.proofs.BoundLaws.{third}
-use Rattle.qrdata.proofs.FewestBitsLaws.{chosen_segments-is}
+use Rattle.qrdata.proofs.Laws.FewestBitsLaws.{chosen_segments-is}
 use Rattle.qrdata.proofs.FirstsTableLaws.{FitsBits-of, NamesBest-of, capacity_as_wide, fewest_bits-below}
-use Rattle.qrdata.proofs.VersionLaws.{capacity-le, capacity-rising}
+use Rattle.qrdata.proofs.Laws.VersionLaws.{capacity-le, capacity-rising}
 use Rattle.qrdata.proofs.plan.plan_between.Goals as goal
 
 pub returns-then-bytes-capacity-clause-none : goal.returns-then-bytes-capacity-clause-none

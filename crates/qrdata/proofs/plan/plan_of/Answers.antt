@@ -2,7 +2,7 @@ use Rattle.std.proofs.Common.{◌≡◌, ◌≤◌, ◌++◌, ℕ, List, drop, l
 use Rattle.std.proofs.lemmas.List.{drop_all}
 use Rattle.qrdata.specs.declared.mode.Segment.{Segment}
 use Rattle.qrdata.specs.Fewest.{chosen_segments}
-use Rattle.qrdata.proofs.FewestBitsLaws.{chosen_segments-nil}
+use Rattle.qrdata.proofs.Laws.FewestBitsLaws.{chosen_segments-nil}
 use Rattle.qrdata.proofs.FirstsTableLaws.{IsNamed-first}
 use Rattle.qrdata.proofs.plan.plan_of.Goals as goal
 

@@ -7,8 +7,8 @@ use Rattle.qrmatrix.specs.Square.{value_at}
 use Rattle.std.proofs.lemmas.Nat.{and_le_r}
 use Rattle.std.proofs.lemmas.Bool.Decides.{nat_tests}
 use Rattle.qrmatrix.proofs.FormatLaws.{all_drawn, drawn_next, none_drawn}
-use Rattle.qrmatrix.proofs.FunctionRowLaws.{index_right}
-use Rattle.qrmatrix.proofs.RowBitsLaws.{up_narrow}
+use Rattle.qrmatrix.proofs.Laws.FunctionRowLaws.{index_right}
+use Rattle.qrmatrix.proofs.Laws.RowBitsLaws.{up_narrow}
 use Rattle.qrmatrix.proofs.format.draw_format.Goals as goal
 
 pub loop-i-init : goal.loop-i-init

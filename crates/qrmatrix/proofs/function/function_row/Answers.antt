@@ -1,5 +1,5 @@
 use Rattle.qrmatrix.specs.Private.FunctionRows.{function_row}
-use Rattle.qrmatrix.proofs.FunctionRowLaws.{function_row_is}
+use Rattle.qrmatrix.proofs.Laws.FunctionRowLaws.{function_row_is}
 use Rattle.qrmatrix.proofs.function.function_row.Goals as goal
 
 pub returns : goal.returns

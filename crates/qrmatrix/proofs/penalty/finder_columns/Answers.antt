@@ -2,14 +2,14 @@ use Rattle.std.proofs.Common.{refl}
 use Rattle.qrmatrix.proofs.penalty.finder_columns.Goals as goal
 
 pub returns : goal.returns
-returns c = λ x l.
+returns g c = λ x l.
     rw (
       c.finders_in.ensures x l,
-      c.row.ensures.bits x,
-      c.row-2.ensures.bits x,
-      c.row-3.ensures.bits x,
-      c.row-4.ensures.bits x,
-      c.row-5.ensures.bits x,
-      c.row-6.ensures.bits x,
-      c.row-7.ensures.bits x,
+      c.row_at.ensures x,
+      c.row_at-2.ensures x,
+      c.row_at-3.ensures x,
+      c.row_at-4.ensures x,
+      c.row_at-5.ensures x,
+      c.row_at-6.ensures x,
+      c.row_at-7.ensures x,
     ) refl

@@ -9,7 +9,7 @@ use Rattle.std.proofs.lemmas.Bool.{and_right}
 use Rattle.std.proofs.lemmas.Bool.Decides.{nat_tests}
 use Rattle.qrmatrix.specs.Private.Placing.{Placed}
 use Rattle.qrmatrix.proofs.CursorLaws.{placed_none, strip_placed}
-use Rattle.qrmatrix.proofs.RankLaws.{keyed_at, outside_at}
+use Rattle.qrmatrix.proofs.Laws.RankLaws.{keyed_at, outside_at}
 use Rattle.qrmatrix.proofs.placement.place.Goals as goal
 
 pub loop-pair-init : goal.loop-pair-init

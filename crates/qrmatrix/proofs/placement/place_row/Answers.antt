@@ -1,9 +1,9 @@
 use Rattle.std.proofs.Common.{◌∙◌, ◌+◌, ◌<◌, arith, refl, ap, sym}
 use Rattle.qrmatrix.specs.Bits.{bit}
-use Rattle.qrmatrix.proofs.RowBitsLaws.{two_bits}
+use Rattle.qrmatrix.proofs.Laws.RowBitsLaws.{two_bits}
 use Rattle.std.proofs.lemmas.Bool.Decides.{nat_tests}
 use Rattle.qrmatrix.proofs.CursorLaws.{row_placed}
-use Rattle.qrmatrix.proofs.RowBitsLaws.{up_narrow}
+use Rattle.qrmatrix.proofs.Laws.RowBitsLaws.{up_narrow}
 use Rattle.qrmatrix.proofs.placement.place_row.Goals as goal
 
 pub flip-requires-clause-row_bits : goal.flip-requires-clause-row_bits

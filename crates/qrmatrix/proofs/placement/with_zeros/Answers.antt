@@ -4,4 +4,4 @@ use Rattle.qrmatrix.proofs.placement.with_zeros.Goals as goal
 
 pub returns : goal.returns
 returns c =
-    λ j. rw c.copy_from_slice.ensures.after (before_zeros c.args.codewords.now (length c.args.codewords.now) 402 j)
+    λ j. rw c.copy_from_slice.ensures.after (before_zeros c.args.codewords.now (length c.args.codewords.now) 408 j)

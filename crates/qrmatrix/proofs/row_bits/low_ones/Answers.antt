@@ -1,7 +1,7 @@
 use Rattle.std.proofs.Common.{◌∙◌, ap, arith, ◌-◌}
 use Rattle.std.proofs.lemmas.Nat.{one_shl}
 use Rattle.qrmatrix.specs.Bits.{bit}
-use Rattle.qrmatrix.proofs.RowBitsLaws.{low_bit, ones_narrow}
+use Rattle.qrmatrix.proofs.Laws.RowBitsLaws.{low_bit, ones_narrow}
 use Rattle.qrmatrix.proofs.row_bits.low_ones.Goals as goal
 
 pub returns-clause-value : goal.returns-clause-value

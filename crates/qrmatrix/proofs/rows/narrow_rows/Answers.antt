@@ -3,7 +3,7 @@ use Rattle.std.proofs.Common.{get_or-set_other, get_or-set_same}
 use Rattle.std.specs.Prelude.{bit_and}
 use Rattle.std.proofs.lemmas.Bool.{cases_eq, lt-ltb}
 use Rattle.qrmatrix.specs.Bits.{bit}
-use Rattle.qrmatrix.proofs.RowBitsLaws.{and_bit, low_bit}
+use Rattle.qrmatrix.proofs.Laws.RowBitsLaws.{and_bit, low_bit}
 use Rattle.qrmatrix.proofs.rows.narrow_rows.Goals as goal
 
 and_true : (b : Bool) → (b && true) ≡ b

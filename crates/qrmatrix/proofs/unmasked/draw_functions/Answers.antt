@@ -8,9 +8,9 @@ use Rattle.qrmatrix.specs.Bits.{bit}
 use Rattle.qrdata.specs.Versions.{side_of}
 use Rattle.qrmatrix.specs.Private.Drawing.{unmasked_module}
 use Rattle.qrmatrix.specs.Functions.{is_free, role}
-use Rattle.qrmatrix.proofs.FunctionRowLaws.{fits}
+use Rattle.qrmatrix.proofs.Laws.FunctionRowLaws.{fits}
 use Rattle.qrmatrix.proofs.PassLaws.{row_turned}
-use Rattle.qrmatrix.proofs.RowBitsLaws.{above_bit, and_bit, not_bit}
+use Rattle.qrmatrix.proofs.Laws.RowBitsLaws.{above_bit, and_bit, not_bit}
 use Rattle.qrmatrix.proofs.unmasked.draw_functions.Goals as goal
 
 pub loop-y-init : goal.loop-y-init

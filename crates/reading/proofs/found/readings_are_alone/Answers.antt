@@ -1,4 +1,4 @@
-use Rattle.reading.proofs.AloneLaws.{read_upright}
+use Rattle.reading.proofs.Laws.AloneLaws.{read_upright}
 use Rattle.reading.proofs.found.readings_are_alone.Goals as goal
 
 pub returns : goal.returns

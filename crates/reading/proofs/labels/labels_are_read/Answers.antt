@@ -1,4 +1,4 @@
-use Rattle.filter.proofs.ReadLaws.{data_is_readable}
+use Rattle.filter.proofs.Laws.ReadLaws.{data_is_readable}
 use Rattle.reading.proofs.LabelLaws.{drawn_read}
 use Rattle.reading.proofs.labels.labels_are_read.Goals as goal
 

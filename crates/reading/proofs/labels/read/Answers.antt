@@ -1,10 +1,9 @@
 use Rattle.std.proofs.Common.{◌≡◌, Some, true, sym, ap, ◌∙◌, option_map, arith}
 use Rattle.std.proofs.lemmas.Grind.{common_steps}
-use Rattle.filter.specs.Reading.{read_modules}
 use Rattle.filter.specs.Symbol.{quiet_zone}
 use Rattle.picture.specs.Picture.{Picture}
 use Rattle.picture.specs.Reading.{raster}
-use Rattle.reading.specs.Labels.{read_short}
+use Rattle.reading.specs.Labels.{read_label}
 use Rattle.reading.specs.Private.{are_whole_cells, modules_in}
 use Rattle.reading.proofs.LabelLaws.{whole_read, part_unread}
 use Rattle.reading.proofs.WidthLaws.{told_if}
@@ -23,7 +22,7 @@ pub returns : goal.returns
 returns g c =
     let p = g.G.Grid.picture c.args.dots.now in
     let zone = c.zone_of-zone.ensures.zone in
-    let rule = λ (q : Picture). read_short (read_modules c.args.symbology) (raster q).rows in
+    let rule = λ (q : Picture). read_label c.args.symbology (raster q).rows in
     let whole : are_whole_cells p c.args.scale (quiet_zone c.args.symbology) ≡ true =
     ap (are_whole_cells p c.args.scale) (sym zone) ∙ c.in_ok-modules.ensures.0 in
     let read : rule (modules_in p c.args.scale (quiet_zone c.args.symbology)) ≡ Some c.in_ok-data.data.items =

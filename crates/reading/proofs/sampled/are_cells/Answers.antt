@@ -1,7 +1,7 @@
 use Rattle.std.proofs.Common.{◌≡◌, ◌+◌, ◌-◌, ◌<◌, true, refl, sym, ap, ◌∙◌, arith}
 use Rattle.reading.specs.Private.{is_row_of_cells}
-use Rattle.qrmatrix.proofs.ComputedLaws.{passes_on}
-use Rattle.reading.proofs.CellLaws.{cells_again}
+use Rattle.labelcore.proofs.Laws.ComputedLaws.{passes_on}
+use Rattle.reading.proofs.Laws.CellLaws.{cells_again}
 use Rattle.reading.proofs.sampled.are_cells.Goals as goal
 use Rattle.reading.proofs.sampled.are_cells.Goals.{then-y-equal, else-y-equal}
 use Rattle.reading.proofs.sampled.are_cells.Goals.{else-not-is_again-via-then-not-is_again+else-not-is_row_of_cells}

@@ -1,7 +1,7 @@
 use Rattle.std.proofs.Common.{◌≡◌, ◌+◌, ◌-◌, ◌*◌, ◌/◌, ◌≤◌, ◌&&◌, ◌∙◌, arith, refl, sym}
 use Rattle.std.proofs.lemmas.Bool.{and_parts, leb-true}
 use Rattle.std.proofs.lemmas.Grind.{common_steps}
-use Rattle.reading.proofs.CellLaws.{cell_decides, colour, rest_is, singles_row}
+use Rattle.reading.proofs.Laws.CellLaws.{cell_decides, colour, rest_is, singles_row}
 use Rattle.reading.proofs.sampled.is_row_of_cells.Goals as goal
 
 pub overflow_mul-from : goal.overflow_mul-from

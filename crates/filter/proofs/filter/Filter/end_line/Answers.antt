@@ -1,8 +1,8 @@
-use Rattle.filter.proofs.Words.{◌≡◌, ◌<◌, ◌∙◌, Ok, Err, [], ◌∷◌, ap, arith, length-append, refl, subst, sym, All-push}
-use Rattle.filter.proofs.Words.{LF, ended_lines, open_line, held_line, FilterState, IsAfter, of_line, outcome}
-use Rattle.filter.proofs.Words.{status_of}
-use Rattle.labelcore.proofs.LinesLaws.{ended_lines-push_lf, open_line-push_lf}
-use Rattle.filter.proofs.FilterLaws.{Sends-line, line_number-counts, of_open_line, ended_script-lf, status_of-append}
+use Rattle.filter.proofs.Laws.Words.{◌≡◌, ◌<◌, ◌∙◌, Ok, Err, [], ◌∷◌, ap, arith, length-append, refl, subst, sym, All-push}
+use Rattle.filter.proofs.Laws.Words.{LF, ended_lines, open_line, held_line, FilterState, IsAfter, of_line, outcome}
+use Rattle.filter.proofs.Laws.Words.{status_of}
+use Rattle.labelcore.proofs.Laws.LinesLaws.{ended_lines-push_lf, open_line-push_lf}
+use Rattle.filter.proofs.Laws.FilterLaws.{Sends-line, line_number-counts, of_open_line, ended_script-lf, status_of-append}
 use Rattle.filter.proofs.filter.Filter.end_line.Goals as goal
 
 pub returns-in-Ok-clause-feeds : goal.returns-in-Ok-clause-feeds

@@ -1,8 +1,8 @@
-use Rattle.filter.proofs.Words.{◌≡◌, ◌≢◌, ◌∙◌, [], ◌∷◌, ◌++◌, ap, refl, subst, sym, take, false≢true, LF, open_line}
-use Rattle.filter.proofs.Words.{line_limit, FilterState, IsAfter}
-use Rattle.filter.proofs.FilterLaws.{no_byte, script-ended, script-open}
+use Rattle.filter.proofs.Laws.Words.{◌≡◌, ◌≢◌, ◌∙◌, [], ◌∷◌, ◌++◌, ap, refl, subst, sym, take, false≢true, LF, open_line}
+use Rattle.filter.proofs.Laws.Words.{line_limit, FilterState, IsAfter}
+use Rattle.filter.proofs.Laws.FilterLaws.{no_byte, script-ended, script-open}
 use Rattle.std.proofs.Math.Seq.{take-nil}
-use Rattle.filter.proofs.ScriptLaws.{Sends-none}
+use Rattle.filter.proofs.Laws.ScriptLaws.{Sends-none}
 use Rattle.filter.proofs.filter.Filter.end_open_line.Goals as goal
 
 pub returns-then-is_empty-clause-feeds : goal.returns-then-is_empty-clause-feeds

@@ -1,8 +1,8 @@
-use Rattle.filter.proofs.Words.{ℕ, ◌∷◌, [], ◌++◌, Ok, Err, refl, ap, ◌∙◌, append_assoc, arith, length}
-use Rattle.filter.proofs.Words.{length-append, append-nil, err_from_is_err_and, LF, ended_script, taken}
-use Rattle.filter.proofs.FilterLaws.{are_bytes, ended_lines-more, ended_script-more}
-use Rattle.filter.proofs.RunLaws.{FlushesNeither-append}
-use Rattle.filter.proofs.ScriptLaws.{Sends-none, Sends-append, Sends-longer}
+use Rattle.filter.proofs.Laws.Words.{ℕ, ◌∷◌, [], ◌++◌, Ok, Err, refl, ap, ◌∙◌, append_assoc, arith, length}
+use Rattle.filter.proofs.Laws.Words.{length-append, append-nil, err_from_is_err_and, LF, ended_script, taken}
+use Rattle.filter.proofs.Laws.FilterLaws.{are_bytes, ended_lines-more, ended_script-more}
+use Rattle.filter.proofs.Laws.RunLaws.{FlushesNeither-append}
+use Rattle.filter.proofs.Laws.ScriptLaws.{Sends-none, Sends-append, Sends-longer}
 use Rattle.filter.proofs.filter.Filter.feed.Goals as goal
 
 pub loop-line-init : goal.loop-line-init

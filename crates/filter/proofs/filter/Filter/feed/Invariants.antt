@@ -1,4 +1,4 @@
-use Rattle.filter.proofs.Words.{◌≡◌, List, ℕ, ◌++◌, Ok, length, Options, Feeds, FlushesNeither, IsAfter, taken}
+use Rattle.filter.proofs.Laws.Words.{◌≡◌, List, ℕ, ◌++◌, Ok, length, Options, Feeds, FlushesNeither, IsAfter, taken}
 use Rattle.filter.proofs.filter.Filter.feed.Given as goal
 
 -- so far the filter was fed the first lines of the piece

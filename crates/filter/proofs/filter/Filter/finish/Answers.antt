@@ -1,9 +1,9 @@
 use Rattle.std.proofs.Common.{true≢false}
-use Rattle.filter.proofs.Words.{◌≡◌, ◌∙◌, [], ◌∷◌, ap, refl, subst, sym, err_from_is_err_and, FilterState, IfOk, Status}
-use Rattle.filter.proofs.Words.{flushes, status_of, taken}
-use Rattle.filter.proofs.FilterLaws.{status_of-flushes}
-use Rattle.filter.proofs.RunLaws.{CountsFault-after, FlushesImagesFirst-after}
-use Rattle.filter.proofs.ScriptLaws.{Sends-append, Sends-longer}
+use Rattle.filter.proofs.Laws.Words.{◌≡◌, ◌∙◌, [], ◌∷◌, ap, refl, subst, sym, err_from_is_err_and, FilterState, IfOk, Status}
+use Rattle.filter.proofs.Laws.Words.{flushes, status_of, taken}
+use Rattle.filter.proofs.Laws.FilterLaws.{status_of-flushes}
+use Rattle.filter.proofs.Laws.RunLaws.{CountsFault-after, FlushesImagesFirst-after}
+use Rattle.filter.proofs.Laws.ScriptLaws.{Sends-append, Sends-longer}
 use Rattle.filter.proofs.filter.Filter.finish.Goals as goal
 
 pub returns-then-self : goal.returns-then-self

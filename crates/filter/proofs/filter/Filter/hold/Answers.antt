@@ -1,6 +1,6 @@
-use Rattle.filter.proofs.Words.{◌<◌, ◌∙◌, ap, refl, subst, sym, All-append, open_line}
-use Rattle.filter.proofs.Words.{held_line, FilterState, IsAfter}
-use Rattle.filter.proofs.FilterLaws.{are_bytes, ended_lines-more, open_line-more}
+use Rattle.filter.proofs.Laws.Words.{◌<◌, ◌∙◌, ap, refl, subst, sym, All-append, open_line}
+use Rattle.filter.proofs.Laws.Words.{held_line, FilterState, IsAfter}
+use Rattle.filter.proofs.Laws.FilterLaws.{are_bytes, ended_lines-more, open_line-more}
 use Rattle.filter.proofs.filter.Filter.hold.Goals as goal
 
 pub returns : goal.returns

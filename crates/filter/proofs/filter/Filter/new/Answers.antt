@@ -1,4 +1,4 @@
-use Rattle.filter.proofs.Words.{◌<◌, refl, All-nil, ended_lines, open_line, events_after, status_of}
+use Rattle.filter.proofs.Laws.Words.{◌<◌, refl, All-nil, ended_lines, open_line, events_after, status_of}
 use Rattle.filter.proofs.filter.Filter.new.Goals as goal
 
 pub returns : goal.returns

@@ -7,7 +7,7 @@ use Rattle.std.proofs.lemmas.Nat.{xor_of_8}
 use Rattle.std.proofs.lemmas.Simd.{Each1-get_or}
 use Rattle.gf256.specs.Polynomial.{polynomial_sum, scalar_multiple}
 use Rattle.gf256.specs.Private.{next_register, padded_generator}
-use Rattle.gf256.proofs.GeneratorLaws.{All-padded_generator, length-padded_generator}
+use Rattle.gf256.proofs.Laws.GeneratorLaws.{All-padded_generator, length-padded_generator}
 use Rattle.gf256.proofs.RegisterLaws.{zip2-parts}
 use Rattle.gf256.proofs.generator.Generator.next.Goals as goal
 

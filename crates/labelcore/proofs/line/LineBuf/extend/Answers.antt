@@ -1,6 +1,6 @@
 use Rattle.std.proofs.Common.{◌∙◌, Result, Ok, Err, ℕ, arith, rules, length-take}
 use Rattle.std.specs.Prelude.{IsOk, OnOk}
-use Rattle.labelcore.proofs.HeldLaws.{extended_all, extended_some}
+use Rattle.labelcore.proofs.Laws.HeldLaws.{extended_all, extended_some}
 use Rattle.labelcore.proofs.line.LineBuf.extend.Goals as goal
 
 -- what is said of a call that succeeds, where it does

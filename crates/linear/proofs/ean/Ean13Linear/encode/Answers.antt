@@ -7,10 +7,10 @@ use Rattle.linear.specs.Private.Data.{AreDigits}
 use Rattle.linear.specs.Private.Lists.{Appends}
 use Rattle.linear.specs.Ean.{ean13_row}
 use Rattle.linear.specs.EanReading.{read_ean13}
-use Rattle.linear.proofs.DamageLaws.{ean13_rows_far_apart}
+use Rattle.linear.proofs.Laws.DamageLaws.{ean13_rows_far_apart}
 use Rattle.linear.proofs.EncodingLaws.{IsDrawn-from_Ok}
-use Rattle.linear.proofs.GapLaws.{ean13_gap}
-use Rattle.linear.proofs.EanLaws.{ean13_reads}
+use Rattle.linear.proofs.Laws.GapLaws.{ean13_gap}
+use Rattle.linear.proofs.Laws.EanLaws.{ean13_reads}
 use Rattle.linear.proofs.ean.Ean13Linear.encode.Goals as goal
 
 -- the first digit and the others, as the code cuts them

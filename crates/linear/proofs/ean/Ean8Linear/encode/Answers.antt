@@ -1,10 +1,10 @@
 use Rattle.std.proofs.Common.{refl}
 use Rattle.linear.specs.Ean.{ean8_row}
 use Rattle.linear.specs.EanReading.{read_ean8}
-use Rattle.linear.proofs.DamageLaws.{ean8_rows_far_apart}
+use Rattle.linear.proofs.Laws.DamageLaws.{ean8_rows_far_apart}
 use Rattle.linear.proofs.EncodingLaws.{IsDrawn-from_Ok}
-use Rattle.linear.proofs.GapLaws.{ean8_gap}
-use Rattle.linear.proofs.EanLaws.{ean8_reads}
+use Rattle.linear.proofs.Laws.GapLaws.{ean8_gap}
+use Rattle.linear.proofs.Laws.EanLaws.{ean8_reads}
 use Rattle.linear.proofs.ean.Ean8Linear.encode.Goals as goal
 
 pub returns-clause-drawn : goal.returns-clause-drawn

@@ -1,10 +1,10 @@
 use Rattle.std.proofs.Common.{refl}
 use Rattle.linear.specs.Ean.{upca_row}
 use Rattle.linear.specs.EanReading.{read_upca}
-use Rattle.linear.proofs.DamageLaws.{upca_rows_far_apart}
+use Rattle.linear.proofs.Laws.DamageLaws.{upca_rows_far_apart}
 use Rattle.linear.proofs.EncodingLaws.{IsDrawn-from_Ok}
-use Rattle.linear.proofs.GapLaws.{upca_gap}
-use Rattle.linear.proofs.EanLaws.{upca_reads}
+use Rattle.linear.proofs.Laws.GapLaws.{upca_gap}
+use Rattle.linear.proofs.Laws.EanLaws.{upca_reads}
 use Rattle.linear.proofs.ean.UpcALinear.encode.Goals as goal
 
 pub returns-clause-drawn : goal.returns-clause-drawn

@@ -1,7 +1,7 @@
 use Rattle.std.proofs.Common.{rules, ◌≡◌, ◌∙◌, None, Some, sym, subst, refl}
 use Rattle.linear.specs.EanReading.{digit_in_a_or_b, read_halves}
 use Rattle.linear.specs.Private.Data.{AreDigits}
-use Rattle.linear.proofs.ReadRowLaws.{ean13_digits}
+use Rattle.linear.proofs.Laws.ReadRowLaws.{ean13_digits}
 use Rattle.linear_reading.proofs.read_ean.Ean13LinearReading.read_short.Goals as goal
 
 pub returns-in_err-left : goal.returns-in_err-left

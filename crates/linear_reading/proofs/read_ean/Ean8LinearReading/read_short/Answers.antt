@@ -2,7 +2,7 @@ use Rattle.std.proofs.Common.{rules, ◌≡◌, ◌++◌, None, Some, sym, subst
 use Rattle.linear.specs.declared.ean.NumberSet.TheVariants.{A}
 use Rattle.linear.specs.EanReading.{digit_in, read_halves}
 use Rattle.linear.specs.Private.Data.{AreDigits}
-use Rattle.linear.proofs.ReadRowLaws.{ean8_digits}
+use Rattle.linear.proofs.Laws.ReadRowLaws.{ean8_digits}
 use Rattle.linear_reading.proofs.read_ean.Ean8LinearReading.read_short.Goals as goal
 
 pub returns-in_err-left : goal.returns-in_err-left

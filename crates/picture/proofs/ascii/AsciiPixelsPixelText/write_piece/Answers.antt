@@ -1,5 +1,5 @@
 use Rattle.std.proofs.Common.{◌/◌, sym, arith}
-use Rattle.device.proofs.WritingLaws.{HasWritten-call, WritesText-begun, WritesText-last}
+use Rattle.device.proofs.Laws.WritingLaws.{HasWritten-call, WritesText-begun, WritesText-last}
 use Rattle.picture.proofs.LetterLaws.{ascii_halves}
 use Rattle.picture.proofs.ascii.AsciiPixelsPixelText.write_piece.Goals as goal
 

@@ -1,5 +1,5 @@
 use Rattle.std.proofs.Common.{arith}
-use Rattle.picture.proofs.GridLaws.{equal_rows-with_quiet_zone}
+use Rattle.picture.proofs.Laws.GridLaws.{equal_rows-with_quiet_zone}
 use Rattle.picture.proofs.framed.FramedGrid.equal_rows.Goals as goal
 
 pub returns-then-y-self-2 : goal.returns-then-y-self-2

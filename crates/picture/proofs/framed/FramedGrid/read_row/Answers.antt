@@ -1,5 +1,5 @@
 use Rattle.std.proofs.Common.{◌∙◌, arith, inl, inr}
-use Rattle.picture.proofs.GridLaws.{pixel_row-light, put_mid-pixel_row}
+use Rattle.picture.proofs.Laws.GridLaws.{pixel_row-light, put_mid-pixel_row}
 use Rattle.picture.proofs.framed.FramedGrid.read_row.Goals.{else-self-y-via-then-self-y+else-y-self}
 use Rattle.picture.proofs.framed.FramedGrid.read_row.Goals.{else-self-y-via-else-self-y}
 use Rattle.picture.proofs.framed.FramedGrid.read_row.Goals as goal

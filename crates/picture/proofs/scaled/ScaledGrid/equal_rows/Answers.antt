@@ -1,6 +1,6 @@
 use Rattle.std.proofs.Common.{arith}
 use Rattle.std.proofs.lemmas.Nat.{div_below, mul-le}
-use Rattle.picture.proofs.GridLaws.{equal_rows-enlargement}
+use Rattle.picture.proofs.Laws.GridLaws.{equal_rows-enlargement}
 use Rattle.picture.proofs.scaled.ScaledGrid.equal_rows.Goals as goal
 
 pub returns : goal.returns

@@ -1,7 +1,7 @@
 use Rattle.std.proofs.Common.{◌≡◌, ◌*◌, ◌/◌, ◌∙◌, ◌≤◌, ℕ, Bool, length, length-append, length-drop, ap, sym, arith}
 use Rattle.std.proofs.lemmas.List.FromFn.{length-map-range_with_len}
 use Rattle.std.proofs.lemmas.Nat.{div_below, mul-le}
-use Rattle.picture.proofs.GridLaws.{spread-pixel_row}
+use Rattle.picture.proofs.Laws.GridLaws.{spread-pixel_row}
 use Rattle.picture.proofs.scaled.ScaledGrid.read_row.Goals as goal
 
 -- a row is no longer than an enlarged one

@@ -4,8 +4,8 @@ use Rattle.std.proofs.lemmas.List.Elements.{recursion_from_All}
 use Rattle.qrdata.specs.Bits.{bits_of}
 use Rattle.qrdata.specs.Private.BitsInCodewords.{bits_in}
 use Rattle.qrdata.specs.Codewords.{with_zeros, with_terminator}
-use Rattle.qrdata.proofs.BitStringLaws.{length-bits_of}
-use Rattle.qrdata.proofs.PaddingLaws.{IsEnded-of, bits_of-zero, length-bits_in, whole_codewords}
+use Rattle.qrdata.proofs.Laws.BitStringLaws.{length-bits_of}
+use Rattle.qrdata.proofs.Laws.PaddingLaws.{IsEnded-of, bits_of-zero, length-bits_in, whole_codewords}
 use Rattle.qrdata.proofs.bits.Bits.end.Goals as goal
 
 pub push_number-requires-2-clause-room : goal.push_number-requires-2-clause-room

@@ -1,5 +1,5 @@
 use Rattle.std.proofs.Common.{arith}
-use Rattle.qrdata.proofs.PaddingLaws.{length-bits_in}
+use Rattle.qrdata.proofs.Laws.PaddingLaws.{length-bits_in}
 use Rattle.qrdata.proofs.bits.Bits.len.Goals as goal
 
 pub returns : goal.returns

@@ -5,8 +5,8 @@ use Rattle.std.proofs.lemmas.List.Sums.{sum_by-cons}
 use Rattle.qrdata.specs.Private.BitsInCodewords.{bits_in}
 use Rattle.qrdata.specs.declared.mode.Segment.{Segment}
 use Rattle.qrdata.specs.Segments.{IsFirstSegment, IsSegmentation, segment_bits, segment_length, segments_bits}
-use Rattle.qrdata.proofs.BitStringLaws.{next_written}
-use Rattle.qrdata.proofs.LengthLaws.{default_segment, length-segment_bits_front}
+use Rattle.qrdata.proofs.Laws.BitStringLaws.{next_written}
+use Rattle.qrdata.proofs.Laws.LengthLaws.{default_segment, length-segment_bits_front}
 use Rattle.qrdata.proofs.bits.Bits.push_segments.Goals as goal
 
 -- the next segment is one of the bytes that are left

@@ -1,4 +1,4 @@
-use Rattle.qrdata.proofs.VersionLaws.{IsSound-of}
+use Rattle.qrdata.proofs.Laws.VersionLaws.{IsSound-of}
 use Rattle.qrdata.proofs.version.Version.block_count.Goals as goal
 
 pub returns-clause-value : goal.returns-clause-value

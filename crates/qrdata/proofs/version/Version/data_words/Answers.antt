@@ -1,5 +1,5 @@
 use Rattle.std.proofs.Common.{arith}
-use Rattle.qrdata.proofs.VersionLaws.{IsSound-of}
+use Rattle.qrdata.proofs.Laws.VersionLaws.{IsSound-of}
 use Rattle.qrdata.proofs.version.Version.data_words.Goals as goal
 
 pub overflow_sub-result : goal.overflow_sub-result

@@ -1,6 +1,6 @@
 use Rattle.std.proofs.Common.{arith}
 use Rattle.std.proofs.Math.Nat.{div-le_self}
-use Rattle.qrdata.proofs.VersionLaws.{IsSound-of, data_codewords-few}
+use Rattle.qrdata.proofs.Laws.VersionLaws.{IsSound-of, data_codewords-few}
 use Rattle.qrdata.proofs.version.Version.lengths.Goals as goal
 
 pub overflow_add-size : goal.overflow_add-size

@@ -1,5 +1,5 @@
 use Rattle.labelcore.specs.declared.level.Level.TheVariants.{L}
-use Rattle.qrdata.proofs.VersionLaws.{IsSound-of}
+use Rattle.qrdata.proofs.Laws.VersionLaws.{IsSound-of}
 use Rattle.qrdata.proofs.version.Version.total_words.Goals as goal
 
 pub returns : goal.returns

@@ -1,13 +1,14 @@
-use Rattle.std.proofs.Common.{◌≡◌, ℕ, Some, arith, rules, refl, subst, ◌∙◌, ◌<◌, false}
+use Rattle.std.proofs.Common.{◌≡◌, ℕ, Some, arith, refl, subst, ◌∙◌, ◌<◌, false}
 use mathlib.Core.Path.{fun_ext}
 use Rattle.std.specs.Prelude.{All}
 use Rattle.qrmatrix.specs.MaskChoice.{chosen_mask}
 use Rattle.qrmatrix.specs.Modules.{is_inside, module_at}
 use Rattle.qrmatrix.specs.Reading.{Reading, read_matrix}
 use Rattle.qrmatrix.specs.Square.{value_at}
-use Rattle.qrmatrix.proofs.DamageLaws.{IsGuarded-read}
-use Rattle.qrmatrix.proofs.TurnLaws.{IsUpright-read}
-use Rattle.qrmatrix.proofs.ReadingLaws.{module_outside, reads_back}
+use Rattle.qrmatrix.proofs.Laws.MaskChoiceLaws.{chosen_mask-lt, mask_below}
+use Rattle.qrmatrix.proofs.Laws.DamageLaws.{IsGuarded-read}
+use Rattle.qrmatrix.proofs.Laws.TurnLaws.{IsUpright-read}
+use Rattle.qrmatrix.proofs.Laws.ReadingLaws.{module_outside, reads_back}
 use Rattle.qrmatrix.proofs.matrix.Matrix.draw.Goals as goal
 use Rattle.qrmatrix.proofs.matrix.Matrix.draw.Goals.{in-Some, in-None}
 
@@ -15,30 +16,33 @@ use Rattle.qrmatrix.proofs.matrix.Matrix.draw.Goals.{in-Some, in-None}
 shown : (c : goal.After-side) (x y : ℕ) → value_at c.match-mask.masked.modules x y
     ≡ module_at c.args.version c.args.level c.match-mask.masked.mask c.args.words.now.items x y
 shown c =
-    let drawn = c.draw-unmasked.ensures in
+    let drawn = c.draw.ensures in
     elim c.match-mask.branch [
       | in-Some w ↦
           rw (w.masked-is, ← drawn.same_version, ← drawn.same_level)
-          (w.under-masked.ensures.modules c.args.words.now.items drawn.placed)
+          (w.draw_under.ensures.modules c.args.words.now.items drawn.placed (λ x y out. c.blank-masked.ensures x y))
       | in-None w ↦
           rw (w.masked-is, ← drawn.same_version, ← drawn.same_level)
-          (w.under_best_mask-masked.ensures.modules c.args.words.now.items drawn.placed)
+          (w.draw_under_best_mask.ensures.modules c.args.words.now.items drawn.placed)
     ]
-
-below : (c : goal.After-side) → c.match-mask.masked.mask < 8
-below c = elim c.match-mask.branch [ in-Some w ↦ search rules | in-None w ↦ search rules ]
 
 mask_is : (c : goal.After-side) → c.match-mask.masked.mask
     ≡ chosen_mask c.args.version c.args.level c.args.mask c.args.words.now.items
 unfolding chosen_mask
 mask_is c =
-    let drawn = c.draw-unmasked.ensures in
+    let drawn = c.draw.ensures in
     elim c.match-mask.branch [
-      | in-Some w ↦ rw (w.masked-is, w.under-masked.ensures.mask, w.of.ensures, w.in-Some.is) refl
+      | in-Some w ↦ rw (w.masked-is, w.draw_under.ensures.mask, w.of.ensures, w.in-Some.is) refl
       | in-None w ↦
           rw (w.masked-is, w.in-None.is, ← drawn.same_version, ← drawn.same_level)
-          (w.under_best_mask-masked.ensures.mask c.args.words.now.items drawn.placed)
+          (w.draw_under_best_mask.ensures.mask c.args.words.now.items drawn.placed)
     ]
+
+below : (c : goal.After-side) → c.match-mask.masked.mask < 8
+below c =
+    rw (mask_is c)
+    (chosen_mask-lt c.args.version c.args.level c.args.mask c.args.words.now.items
+    (mask_below c.args.mask c.requires.mask))
 
 pub returns : goal.returns
 returns c =

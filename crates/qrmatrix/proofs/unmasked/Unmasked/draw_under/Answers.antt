@@ -4,7 +4,7 @@ use Rattle.std.specs.Prelude.{nat_lt}
 use Rattle.qrdata.specs.Versions.{side_of}
 use Rattle.qrmatrix.specs.Private.Drawing.{IsMaskedTo}
 use Rattle.qrmatrix.proofs.UnderMaskLaws.{under}
-use Rattle.qrmatrix.proofs.ReadingLaws.{inside_from, module_inside, module_outside}
+use Rattle.qrmatrix.proofs.Laws.ReadingLaws.{inside_from, module_inside, module_outside}
 use Rattle.qrmatrix.proofs.unmasked.Unmasked.draw_under.Goals as goal
 
 pub returns-clause-modules : goal.returns-clause-modules

@@ -1,6 +1,6 @@
 use Rattle.std.proofs.Common.{arith}
 use Rattle.std.specs.Int.{w64}
-use Rattle.qrmatrix.proofs.RowBitsLaws.{inverse_bit}
+use Rattle.qrmatrix.proofs.Laws.RowBitsLaws.{inverse_bit}
 use Rattle.qrmatrix.proofs.word.U64Word.inverse.Goals as goal
 
 pub returns : goal.returns

@@ -1,4 +1,4 @@
-use Rattle.qrmatrix.proofs.RowBitsLaws.{moved_up_bit}
+use Rattle.qrmatrix.proofs.Laws.RowBitsLaws.{moved_up_bit}
 use Rattle.qrmatrix.proofs.word.U64Word.up.Goals as goal
 
 pub returns : goal.returns

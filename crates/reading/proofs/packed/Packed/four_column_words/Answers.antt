@@ -2,7 +2,8 @@ use Rattle.std.proofs.Common.{◌≡◌, ◌+◌, ◌-◌, ◌&&◌, ◌∷◌, 
 use Rattle.std.specs.Prelude.{nat_lt}
 use Rattle.std.proofs.lemmas.Nat.Bits.{bit_at-lt, shr_and_one}
 use Rattle.qrmatrix.specs.Bits.{bit}
-use Rattle.reading.proofs.SquareLaws.{by_four, column_seen, moved_bit, row_seen}
+use Rattle.labelcore.proofs.Laws.ComputedLaws.{by_four}
+use Rattle.reading.proofs.SquareLaws.{column_seen, moved_bit, row_seen}
 use Rattle.reading.proofs.packed.Packed.four_column_words.Goals as goal
 
 pub loop-y-preserved : goal.loop-y-preserved

@@ -1,9 +1,7 @@
 use Rattle.std.proofs.Common.{◌∙◌, ◌&&◌, arith, sym}
 use Rattle.std.specs.Prelude.{nat_lt}
-use Rattle.labelcore.specs.declared.symbology.Symbology.TheVariants.{Qr}
-use Rattle.filter.specs.Reading.{read_modules}
 use Rattle.reading.proofs.SquareLaws.{square_of_words}
-use Rattle.reading.proofs.WidthLaws.{read_if_short}
+use Rattle.reading.proofs.WidthLaws.{square_if_short}
 use Rattle.reading.proofs.packed.Packed.read.Goals as goal
 
 pub returns : goal.returns
@@ -13,4 +11,4 @@ returns c = λ p packs.
     ∙ square_of_words p packed.rows packed.side packs.wide packs.high
     (omega (arith, packs.count, packed.narrow))
     (λ x y below. packs.modules x y below ∙ (λ i. nat_lt x (sym packs.wide i) && p.dark x y))
-    ∙ sym (read_if_short (read_modules Qr) p (omega (arith, packs.wide, packed.narrow)))
+    ∙ sym (square_if_short p (omega (arith, packs.wide, packed.narrow)))

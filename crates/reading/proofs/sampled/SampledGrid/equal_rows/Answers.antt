@@ -1,6 +1,6 @@
 use Rattle.std.proofs.Common.{◌≡◌, ◌+◌, ◌-◌, ◌*◌, ◌/◌, ◌<◌, ◌≤◌, ◌∙◌, ap, arith}
 use Rattle.std.proofs.Math.Nat.{le-div_iff_mul-le}
-use Rattle.reading.proofs.CellLaws.{begins}
+use Rattle.reading.proofs.Laws.CellLaws.{begins}
 use Rattle.reading.proofs.sampled.SampledGrid.equal_rows.Goals as goal
 
 pub returns : goal.returns

@@ -1,0 +1,11 @@
+pub mod AloneLaws
+pub mod DamageLaws
+pub mod FilterLaws
+pub mod FoundLaws
+pub mod PixelLaws
+pub mod ReadLaws
+pub mod ResumeLaws
+pub mod RunLaws
+pub mod ScriptLaws
+pub mod ShownLaws
+pub mod Words

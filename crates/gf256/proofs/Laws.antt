@@ -1,0 +1,11 @@
+pub mod AllBelowLaws
+pub mod DistanceLaws
+pub mod DistributivityLaws
+pub mod DivisionLaws
+pub mod EvaluationLaws
+pub mod FieldLaws
+pub mod GeneratorLaws
+pub mod LogarithmLaws
+pub mod PolynomialSumLaws
+pub mod PowerLaws
+pub mod ProductRemainderLaws

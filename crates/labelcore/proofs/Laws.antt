@@ -1,0 +1,7 @@
+pub mod ComputedLaws
+pub mod EscapeLaws
+pub mod FirstBadLaws
+pub mod HeldLaws
+pub mod KeptLaws
+pub mod LinesLaws
+pub mod UnitLaws

@@ -1,0 +1,13 @@
+pub mod AsciiLaws
+pub mod CutLaws
+pub mod EndedLaws
+pub mod GridLaws
+pub mod HeaderLaws
+pub mod LineLaws
+pub mod OffsetLaws
+pub mod PbmLaws
+pub mod PbmLineLaws
+pub mod PixelLaws
+pub mod RasterLaws
+pub mod SampleLaws
+pub mod WritingLaws

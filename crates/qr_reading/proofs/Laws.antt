@@ -1,0 +1,3 @@
+pub mod PatternReadingLaws
+pub mod SymbolReadingLaws
+pub mod WalkedBitLaws

@@ -1,0 +1,16 @@
+pub mod BeginningLaws
+pub mod BitStringLaws
+pub mod BlockLaws
+pub mod CharacterLaws
+pub mod CodewordByteLaws
+pub mod DamageLaws
+pub mod DataReadingLaws
+pub mod FewestBitsLaws
+pub mod InterleavingLaws
+pub mod LengthLaws
+pub mod PaddingLaws
+pub mod PayloadLaws
+pub mod ReadFitLaws
+pub mod SegmentReadingLaws
+pub mod VersionLaws
+pub mod VersionSearchLaws
