@@ -42,6 +42,7 @@ fn every_limit_of_the_images(rt: HostRuntime) -> Result<(), Fail> {
     for limit in 0..182 {
         let held = (&TWO_EAN8[..limit], b"".as_slice());
         limits.add(ends_at_limits(&options, input, (limit, 0), fault, held));
+        assert!(rt; limits.are_right, "limit {limit}");
     }
     let held = (TWO_EAN8.as_slice(), b"".as_slice());
     limits.add(ends_at_limits(&options, input, (182, 0), Ok(Status::Clean), held));
@@ -60,6 +61,7 @@ fn every_limit_of_the_messages(rt: HostRuntime) -> Result<(), Fail> {
     for limit in 0..52 {
         let held = (b"".as_slice(), &TWO_MESSAGES[..limit]);
         limits.add(ends_at_limits(&options, input, (0, limit), fault, held));
+        assert!(rt; limits.are_right, "limit {limit}");
     }
     let held = (b"".as_slice(), TWO_MESSAGES.as_slice());
     limits.add(ends_at_limits(&options, input, (0, 52), Ok(Status::Refused), held));
@@ -116,8 +118,8 @@ fn each_read_fails(rt: HostRuntime) -> Result<(), Fail> {
             held: (0, usize::from(written)),
         };
         calls.add(fails_so(&options, lines.as_slice(), failure));
+        assert!(rt; calls.are_right, "call {call}");
     }
-    assert!(rt; calls.are_right);
     let compared = calls.compared;
     println!(rt; "compared {compared} calls")?;
     Ok(())
@@ -138,8 +140,8 @@ fn each_call_of_the_images_fails(rt: HostRuntime) -> Result<(), Fail> {
             held: (usize::from(written), 39),
         };
         calls.add(fails_so(&options, lines.as_slice(), failure));
+        assert!(rt; calls.are_right, "call {call}");
     }
-    assert!(rt; calls.are_right);
     let compared = calls.compared;
     println!(rt; "compared {compared} calls")?;
     Ok(())
@@ -160,6 +162,7 @@ fn each_call_of_the_messages_fails(rt: HostRuntime) -> Result<(), Fail> {
             held: (0, usize::from(written)),
         };
         calls.add(fails_so(&options, lines.as_slice(), failure));
+        assert!(rt; calls.are_right, "call {call}");
     }
     let flush = Failure {
         fails: (0, 0, 40),
