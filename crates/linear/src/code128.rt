@@ -1,6 +1,7 @@
 //! Code 128 symbols (ISO/IEC 15417).
 ghost use Rattle.std.specs.Prelude.{◌≡◌, [], ◌+◌, ◌*◌, ◌≤◌, ◌<◌, All, Ok, Err, OnOk, MatchResult, length};
-ghost use Rattle.std.specs.Prelude.{flat_map, position, nat_le};
+ghost use Rattle.std.specs.Prelude.{flat_map, position, nat_le, nat_lt};
+ghost use Rattle.std.specs.List.{list_all};
 ghost use Rattle.arrayvec.specs.ArrayVec.{array_vec_len};
 ghost use Rattle.linear.specs.declared.limits.TheConstants.{MAX_VALUES, MAX_MODULES};
 ghost use Rattle.linear.specs.Code128.{check_value, character_modules, full_code128, code128_row};
@@ -102,10 +103,25 @@ fn check_data(data: &[u8]) -> Result<(), Fault>
     Ok(())
 }
 
+/// Returns whether each byte is ASCII. It looks at all of them, so that the compiler can test many at once.
+fn are_ascii(bytes: &[u8]) -> bool
+    ensures { result ≡ list_all (λ byte. nat_lt byte 128) bytes.now }
+{
+    let mut all = true;
+    for byte in bytes {
+        all &= *byte < 128;
+    }
+    all
+}
+
 /// Returns the index of the first byte that is not ASCII.
+#[tactic(auto, using(crate::proofs::Laws::Code128Laws::None_from_ascii))]
 fn first_not_ascii(bytes: &[u8]) -> Option<usize>
     ensures { result ≡ position (λ byte. nat_le 128 byte) bytes.now }
 {
+    if are_ascii(bytes) {
+        return None;
+    }
     bytes.iter().position(|byte| *byte >= 128)
 }
 

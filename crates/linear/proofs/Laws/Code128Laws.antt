@@ -4,7 +4,7 @@ use Rattle.std.proofs.Common.{Err, List, [], ◌∷◌, ◌++◌, length, take}
 use Rattle.std.proofs.Common.{leb, refl, ap, ◌∙◌, arith, length-append, lit<}
 use Rattle.std.specs.Prelude.{option_and_then, get_or, position, find, slice_range, All, IfOk}
 use Rattle.std.specs.Str.{bytes_eq}
-use Rattle.std.specs.List.{AllByRecursion}
+use Rattle.std.specs.List.{AllByRecursion, list_all, position_or_len}
 use Rattle.std.proofs.lemmas.Slice.Eq.{bytes_eq-Decides}
 use Rattle.std.proofs.lemmas.List.Elements.{All-from_recursion, recursion_from_All}
 use Rattle.std.proofs.lemmas.Bool.Decides.{nat_tests}
@@ -122,6 +122,16 @@ pub all_ascii_from_None : (bytes : List ℕ) → position (λ byte. leb 128 byte
 all_ascii_from_None bytes h =
     (λ k d lt. let e : leb 128 (get_or bytes k d) ≡ false = fails_from_None (λ byte. leb 128 byte) bytes h k d lt in
     grind (arith, nat_tests))
+
+-- where all bytes are ASCII, none that is not is found
+past_ascii : (bytes : List ℕ) → list_all (λ byte. ltb byte 128) bytes ≡ true
+    → position_or_len (λ byte. leb 128 byte) bytes ≡ length bytes
+past_ascii [] h = refl
+past_ascii (byte ∷ bytes) h = let more = past_ascii bytes in grind (arith, nat_tests, h, more)
+
+pub None_from_ascii : (bytes : List ℕ) → list_all (λ byte. ltb byte 128) bytes ≡ true
+    → position (λ byte. leb 128 byte) bytes ≡ None
+None_from_ascii bytes h = let past = past_ascii bytes h in grind (arith, nat_tests, past)
 
 -- full data is at most 80 ASCII bytes
 pub of_full_code128 : (bytes : List ℕ) (P : List ℕ → Type 0) → (IsCode128Data bytes → P bytes)
