@@ -17,7 +17,7 @@ from labeltools.common.report import left_out_messages, places_text, Ranges
 from labeltools.common.signals import hold_signals
 from labeltools.common.text import counted, joined, shell_line, Text
 from labeltools.designs.svg_design import is_file
-from labeltools.drawing.forms import FORMS, SHOWN_FORMS
+from labeltools.drawing.forms import FORMS
 from labeltools.layout.area import PURPOSES
 from labeltools.lines.file import Record
 from labeltools.paper.sizes import A4
@@ -179,7 +179,7 @@ OPTIONS: Mapping[str, Sequence[Option]] = {
         Option(
             "--grid",
             "NxN",
-            "with --cell: how many cells are side by side and below one another, such as 3x8",
+            "how many cells are side by side and below one another, such as 3x8, with --cell",
             grid,
         ),
         Option(
@@ -201,7 +201,8 @@ OPTIONS: Mapping[str, Sequence[Option]] = {
         Option(
             "--design",
             "NAME",
-            "article: bars for a till (the default); shelf: a large price; or a page of SVG",
+            "what labels are for: article, a till (the default); shelf, a large price; or a page "
+            "of SVG",
             design_of,
         ),
         Option(
@@ -261,7 +262,7 @@ OPTIONS: Mapping[str, Sequence[Option]] = {
         Option(
             "--to",
             "FORM",
-            "{} (pdf)".format(", ".join(SHOWN_FORMS)),
+            "{} (pdf)".format(", ".join(FORMS)),
             choices=tuple(FORMS),
         ),
         Option(
@@ -299,15 +300,15 @@ OPTIONS: Mapping[str, Sequence[Option]] = {
         Option(
             "--again",
             "PRINTER",
-            "with --only or --only-code: print once more what the journal has of this printer",
+            "print once more what the journal has of this printer, with --only or --only-code",
             not_empty,
         ),
         Option(
             "--state",
             "WHICH",
-            "print nothing. list: write what the journal has as CSV; printed: its labels in doubt "
-            "are on paper; missing: the next run prints them (of a printer with --print, some with "
-            "--only or --only-code)",
+            "print nothing: list writes what the journal has as CSV; printed says that its labels "
+            "in doubt are on paper, and missing that the next run prints them (of a printer with "
+            "--print, some with --only or --only-code)",
             choices=STATES,
         ),
         Option(
@@ -316,11 +317,11 @@ OPTIONS: Mapping[str, Sequence[Option]] = {
             "print each label as soon as its line has come in, and answer on standard error",
             target="is_stream",
         ),
-        Option("--dots", "N", "escpos: dots across the paper (576)", FROM_ONE),
+        Option("--dots", "N", "dots across the paper of a receipt printer (576)", FROM_ONE),
         Option(
             "--no-cut",
             "",
-            "escpos: do not cut after each label",
+            "do not cut the paper of a receipt printer after each label",
             target="is_cut",
             sets=False,
         ),

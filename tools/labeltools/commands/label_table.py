@@ -230,7 +230,7 @@ OPTIONS: Mapping[str, Sequence[Option]] = {
         Option(
             "--digits",
             "WHICH",
-            "lost-zeros: put back up to three leading zeros; no-check: labels adds check digits",
+            "what the numbers lack: lost-zeros, up to three in front; or no-check, the check digit",
             choices=WAYS_OF_DIGITS,
             default="",
         ),

@@ -21,4 +21,3 @@ PBM = Form("pbm")
 ZPL = Form("zpl", is_roll=True, begin=b"^XA")
 ESCPOS = Form("escpos", is_roll=True, begin=b"\x1b@")
 FORMS = {form.name: form for form in (PDF, PNG, PBM, ZPL, ESCPOS)}
-SHOWN_FORMS = [name for name in FORMS if name != PBM.name]  # which is for tests

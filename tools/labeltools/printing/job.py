@@ -15,7 +15,7 @@ from labeltools.designs.built_in import BuiltIn
 from labeltools.designs.design import Design
 from labeltools.designs.svg_design import is_file, read_design, size_of_page
 from labeltools.designs.svg_layout import SvgLabels
-from labeltools.drawing.forms import ESCPOS, Form, FORMS, PDF, SHOWN_FORMS
+from labeltools.drawing.forms import ESCPOS, Form, FORMS, PDF
 from labeltools.layout.area import Area, ARTICLE, NO_PURPOSE, PURPOSES, Wishes
 from labeltools.layout.letters import FONT
 from labeltools.lines.file import UNPRINTABLE
@@ -227,7 +227,7 @@ def form_of(options: PrintOptions) -> Form:
         return FORMS[options.to or PDF.name]
     name = ending[1].lower()
     what = Text("labels are not written as .{}", name)
-    known = ", ".join(f".{form}" for form in SHOWN_FORMS)
+    known = ", ".join(f".{form}" for form in FORMS)
     hint = Text("end the name in one of {}, or choose the form", known)
     refuse(name not in FORMS, what, hint, ["each", "to"])
     return FORMS[name]
