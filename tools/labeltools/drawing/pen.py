@@ -5,7 +5,7 @@ from collections import defaultdict
 from functools import cache, lru_cache
 from itertools import accumulate, islice, repeat
 from operator import itemgetter
-from typing import Any, Iterable, Iterator, Sequence
+from typing import Any, Iterable, Iterator, Mapping, Sequence
 
 import cairo
 
@@ -293,15 +293,13 @@ class Pen:
 
     def digits_of(
         self, symbol: PlacedSymbol, left: int, top: int
-    ) -> Iterator[tuple[int, Iterable[Glyph]]]:
+    ) -> Iterator[tuple[int, list[Glyph]]]:
         """Yields the digits of a symbol, whose room below the bars begins there, by their size."""
-        module = symbol.module
+        base = top + round((DIGITS_TOP + DIGITS_HIGH) * symbol.module)
         data = symbol.data.decode("ascii", "replace")
-        base = top + round((DIGITS_TOP + DIGITS_HIGH) * module)
-        for first, last, size, start in self.digit_places(symbol.symbology.name, module):
-            glyphs, wide = self.digits_of_size(size)
-            places = accumulate(repeat(wide), initial=left + start)
-            yield size, zip(map(glyphs.__getitem__, data[first:last]), places, repeat(base))
+        for size, places in self.digit_places(symbol.symbology.name, symbol.module).items():
+            glyphs, _ = self.digits_of_size(size)
+            yield size, [(glyphs[data[number]], left + x, base) for number, x in places]
 
     def new_digits(self, size: int) -> tuple[dict[str, int], float]:
         """Returns the glyphs of digits in a size, and how far each one is from the next."""
@@ -309,21 +307,22 @@ class Pen:
         glyphs = {digit: font.text_to_glyphs(0, 0, digit, False)[0].index for digit in DIGITS}
         return glyphs, font.text_to_glyphs(0, 0, "00", False)[1].x
 
-    def new_digit_places(self, symbology: str, module: int) -> list[tuple[int, int, int, int]]:
-        """Returns which digits are below the bars, from the first one on, how large they are, and
-        where they begin.
-        """
+    def new_digit_places(
+        self, symbology: str, module: int
+    ) -> Mapping[int, list[tuple[int, float]]]:
+        """Returns which digits are below the bars, and where each of them begins, by their size."""
         most = DIGITS_HIGH / self.digit_height
         groups = SYMBOLOGIES[symbology].places
         if not self.medium.is_dots:  # a digit beside the bars is as large: one line of glyphs
             longest = max(groups, key=lambda group: group.last - group.first)
             most = min(most, self.largest_digits(longest))
-        places = []
+        places: dict[int, list[tuple[int, float]]] = defaultdict(list)
         for group in groups:
             first, last, left, right = group
             size = round(min(most, self.largest_digits(group)) * module)
             start = round((left + right) * module - (last - first) * self.digit_width * size) // 2
-            places.append((first, last, size, start))
+            _, wide = self.digits_of_size(size)
+            places[size] += zip(range(first, last), accumulate(repeat(wide), initial=start))
         return places
 
     def largest_digits(self, group: Digits) -> float:
