@@ -2,7 +2,7 @@
 these, or for those of a symbology, or for one label; labels are filled into them.
 """
 
-from functools import cache
+from functools import cache, lru_cache
 from typing import Iterator, Mapping, Sequence
 
 from labeltools.common.messages import Talk
@@ -18,7 +18,7 @@ from labeltools.layout.letters import Letters
 from labeltools.layout.medium import Medium
 from labeltools.layout.needs import HINTING, STYLE_NUMBERS, styles_from
 from labeltools.layout.place import Place
-from labeltools.layout.price import base_of_price, price_widths, shape_of
+from labeltools.layout.price import base_of_price, KEPT, price_widths, shape_of
 from labeltools.layout.symbol_room import symbol_boxes
 from labeltools.lines.file import Record
 from labeltools.paper.box import Box
@@ -105,6 +105,7 @@ class FilledPlaces:
             if part != "code"
         }
         self.boxes_of = cache(self.new_boxes)
+        self.is_small = lru_cache(KEPT)(self.new_is_small)
 
     def symbol(self, label: Record) -> PlacedSymbol:
         """Returns the symbol of a label."""
@@ -185,9 +186,11 @@ class FilledPlaces:
 
     def has_small_price(self, price: str) -> bool:
         """Returns whether a price is smaller than others."""
-        if "price" not in self.rooms:
-            return False
+        return "price" in self.rooms and self.is_small(shape_of(price, self.letters))
+
+    def new_is_small(self, shape: str) -> bool:
+        """Returns whether prices of a shape are smaller than others."""
         room = self.rooms["price"]
-        widths = price_widths(shape_of(price, self.letters), self.letters)
+        widths = price_widths(shape, self.letters)
         wide = min(widths[STYLE_NUMBERS[style]] for style in styles_from(room.place.price_style))
         return HINTING * room.size * wide > room.box.width + room.size / 4

@@ -167,6 +167,7 @@ class SetRoom(Wrapping):
         self.sizes = sizes_between(least, self.size)
         self.most_lines = int(place.lines)
         self.style = cache(self.new_style)
+        self.box_of_lines = cache(self.new_box_of_lines)
         self.wrapped_text = lru_cache(KEPT)(self.new_wrapped_text)
 
     def new_style(self, family: str, size: int, lines: int, struck: int = 0) -> Style:
@@ -198,10 +199,13 @@ class SetRoom(Wrapping):
         most = self.lines_in(size)
         lines = most if fit.is_cut else count_of(fit.text)
         style = self.style(self.of(text).family, size, most - text.count("\n"))
+        return PlacedText(self.place, fit.text, self.box_of_lines(lines, size), style)
+
+    def new_box_of_lines(self, lines: int, size: int) -> Box:
+        """Returns the box of so many lines in letters of a size."""
         left, top, width, high = self.box
         used = min(high, height_of(lines, size) + 1)  # hinted, it may be a dot higher
-        start = top + int((high - used) * self.place.down)
-        return PlacedText(self.place, fit.text, Box(left, start, width, used), style)
+        return Box(left, top + int((high - used) * self.place.down), width, used)
 
     def lines_in(self, size: int) -> int:
         """Returns how many lines of letters of a size the place has."""

@@ -2,10 +2,10 @@
 
 import re
 from collections import defaultdict
-from functools import cache, lru_cache
+from functools import cache, lru_cache, partial
 from itertools import accumulate, islice, repeat
 from operator import itemgetter
-from typing import Any, Iterable, Iterator, Sequence
+from typing import Any, Iterable, Iterator, Mapping, Sequence
 
 import cairo
 
@@ -24,9 +24,9 @@ from labeltools.layout.fitting import (
     Style,
 )
 from labeltools.layout.layout import LaidOut, Page, PlacedSymbol, PlacedText
-from labeltools.layout.letters import DATA_FONT, digits_face, Letters
+from labeltools.layout.letters import DATA_FONT, digits_face, is_simple, Letters
 from labeltools.layout.medium import Medium
-from labeltools.layout.pango import font_options, PangoCairo
+from labeltools.layout.pango import asked_size, font_options, PangoCairo, UNIT
 from labeltools.layout.price import fitted_price
 from labeltools.lines.engine import bytes_a_row, LABELS_FAILED, Modules
 from labeltools.lines.symbologies import Digits, Span, SYMBOLOGIES, Symbology
@@ -49,7 +49,8 @@ DIGITS = "0123456789"
 EDGE = 4.0  # dots: white around letters on a tint, of which letters cover half
 LIGHTEST = 0.999  # a part of a colour that is white in 255 steps
 KNOWN = 1024  # boxes, and pictures of parts of prices, that are kept
-Glyph = tuple[int, float, int]  # of a font: its number, and where it is
+Glyph = tuple[int, float, float]  # of a font: its number, and where it is
+GlyphRuns = dict[cairo.ScaledFont, list[Glyph]]  # that are shown at once, by their fonts
 Whites = Sequence[tuple[Sequence[Box], Dots]]  # boxes of labels, with those of their areas
 
 
@@ -70,6 +71,9 @@ class Pen:
         self.digits_of_size = cache(self.new_digits)
         self.digit_places = cache(self.new_digit_places)
         self.picture = lru_cache(KNOWN)(new_picture)
+        self.font = cache(self.new_font)
+        self.glyphs = lru_cache(KNOWN)(self.new_glyphs)
+        self.price_parts = lru_cache(KNOWN)(partial(fitted_price, fitter=self.fitter))
         self.recorded_white = cache(self.new_recorded_white)  # Cairo empties one that is let go
 
     def digits_in_size(self, options: cairo.FontOptions, size: int) -> Any:
@@ -119,14 +123,18 @@ class Pen:
                     what = Text("{}: a text is over its code", item.record.origin.text)
                     raise ToolError(what, FAULT, LABELS_FAILED)
                 found.append((number, text, place))
+        runs: GlyphRuns = defaultdict(list)
         for _, text, place in sorted(found, key=itemgetter(0)):
-            self.draw_text(canvas, text, place)
+            self.draw_text(canvas, text, place, runs)
+        for font, glyphs in runs.items():
+            canvas.set_scaled_font(font)
+            canvas.show_glyphs(glyphs)
 
     def texts(self, item: LaidOut) -> Iterator[Placed]:
         """Yields the texts of a label as they fit their boxes."""
         for text in item.texts:
             if text.place.price_style:
-                yield from fitted_price(text, self.fitter)
+                yield from self.price_parts(text)
             else:
                 yield self.fitted_text(text)
 
@@ -200,13 +208,17 @@ class Pen:
         canvas.set_matrix(whole)
         canvas.fill()
 
-    def draw_text(self, canvas: Any, placed: Placed, place: Dots) -> None:
+    def draw_text(self, canvas: Any, placed: Placed, place: Dots, runs: GlyphRuns) -> None:
         """Draws a text of a label whose area begins at a place; in dots it is black, or takes black
-        dots away.
+        dots away. Glyphs of prices are added to those that are shown at once.
         """
         text, style, box, quarters, colour, is_edged = placed
         if not quarters and colour is None and not is_edged:
-            self.show_black(canvas, text, style, (place[0] + box.left, place[1] + box.top))
+            corner = place[0] + box.left, place[1] + box.top
+            if style.base is None:
+                self.show_text(canvas, text, style, corner)
+            else:
+                self.show_price(canvas, text, style, corner, runs)
             return
         canvas.save()
         corner = turn_to(canvas, box, quarters, place)
@@ -221,16 +233,46 @@ class Pen:
         self.show_text(canvas, text, style, corner)
         canvas.restore()
 
-    def show_black(self, canvas: Any, text: Fitted, style: Style, corner: Dots) -> None:
-        """Shows a black text in a box that begins at a corner. Parts of prices in dots, many of
-        which are the same, are pictures.
+    def show_price(
+        self, canvas: Any, text: Fitted, style: Style, corner: Dots, runs: GlyphRuns
+    ) -> None:
+        """Shows a price or a part of it, many of which are the same, in a box that begins at a
+        corner: in dots as a picture, or else by its glyphs.
         """
-        if style.base is None or not self.medium.is_dots or not is_upright(canvas):
-            self.show_text(canvas, text, style, corner)
-            return
-        picture, room = self.picture(text)
         left, top = corner[0] + text.x, corner[1] + text.y
-        add_picture(canvas, picture, (left + room.left, top + room.top))
+        if self.medium.is_dots and is_upright(canvas):
+            picture, room = self.picture(text)
+            add_picture(canvas, picture, (left + room.left, top + room.top))
+        elif glyphs := self.glyphs(text, style):
+            font = self.font(style.family, style.is_bold, text.size)
+            runs[font] += [(number, left + x, top + y) for number, x, y in glyphs]
+        else:
+            self.show_text(canvas, text, style, corner)
+
+    def new_font(self, family: str, is_bold: bool, size: int) -> cairo.ScaledFont:
+        """Returns a font in a size."""
+        weight = cairo.FONT_WEIGHT_BOLD if is_bold else cairo.FONT_WEIGHT_NORMAL
+        face = cairo.ToyFontFace(family, cairo.FONT_SLANT_NORMAL, weight)
+        asked = asked_size(family, size)
+        return cairo.ScaledFont(
+            face, cairo.Matrix(asked, 0, 0, asked), cairo.Matrix(), self.options
+        )
+
+    def new_glyphs(self, text: Fitted, style: Style) -> list[Glyph]:
+        """Returns the glyphs of a text where Pango has its letters, from the place on where it
+        begins; none where a letter is of another font, or the text is shown as shapes.
+        """
+        letters = text.layout.get_text()
+        font = self.font(style.family, style.is_bold, text.size)
+        numbers = [glyph.index for glyph in font.text_to_glyphs(0, 0, letters, False)]
+        is_shape = self.medium.is_dots or style.family in self.medium.outlines
+        if is_shape or style.struck or not is_simple(letters) or not all(numbers):
+            return []
+        line = text.layout.get_line_readonly(0)
+        base = text.layout.get_baseline() / UNIT
+        ends = accumulate([len(letter.encode()) for letter in letters], initial=0)
+        places = [line.index_to_x(byte, False) / UNIT for byte in ends]
+        return [(number, x, base) for number, x in zip(numbers, places)]
 
     def show_text(self, canvas: Any, text: Fitted, style: Style, corner: Dots) -> None:
         """Shows a text in a box that begins at a corner, as shapes if its font needs that."""
@@ -293,15 +335,13 @@ class Pen:
 
     def digits_of(
         self, symbol: PlacedSymbol, left: int, top: int
-    ) -> Iterator[tuple[int, Iterable[Glyph]]]:
+    ) -> Iterator[tuple[int, list[Glyph]]]:
         """Yields the digits of a symbol, whose room below the bars begins there, by their size."""
-        module = symbol.module
+        base = top + round((DIGITS_TOP + DIGITS_HIGH) * symbol.module)
         data = symbol.data.decode("ascii", "replace")
-        base = top + round((DIGITS_TOP + DIGITS_HIGH) * module)
-        for first, last, size, start in self.digit_places(symbol.symbology.name, module):
-            glyphs, wide = self.digits_of_size(size)
-            places = accumulate(repeat(wide), initial=left + start)
-            yield size, zip(map(glyphs.__getitem__, data[first:last]), places, repeat(base))
+        for size, places in self.digit_places(symbol.symbology.name, symbol.module).items():
+            glyphs, _ = self.digits_of_size(size)
+            yield size, [(glyphs[data[number]], left + x, base) for number, x in places]
 
     def new_digits(self, size: int) -> tuple[dict[str, int], float]:
         """Returns the glyphs of digits in a size, and how far each one is from the next."""
@@ -309,21 +349,22 @@ class Pen:
         glyphs = {digit: font.text_to_glyphs(0, 0, digit, False)[0].index for digit in DIGITS}
         return glyphs, font.text_to_glyphs(0, 0, "00", False)[1].x
 
-    def new_digit_places(self, symbology: str, module: int) -> list[tuple[int, int, int, int]]:
-        """Returns which digits are below the bars, from the first one on, how large they are, and
-        where they begin.
-        """
+    def new_digit_places(
+        self, symbology: str, module: int
+    ) -> Mapping[int, list[tuple[int, float]]]:
+        """Returns which digits are below the bars, and where each of them begins, by their size."""
         most = DIGITS_HIGH / self.digit_height
         groups = SYMBOLOGIES[symbology].places
         if not self.medium.is_dots:  # a digit beside the bars is as large: one line of glyphs
             longest = max(groups, key=lambda group: group.last - group.first)
             most = min(most, self.largest_digits(longest))
-        places = []
+        places: dict[int, list[tuple[int, float]]] = defaultdict(list)
         for group in groups:
             first, last, left, right = group
             size = round(min(most, self.largest_digits(group)) * module)
             start = round((left + right) * module - (last - first) * self.digit_width * size) // 2
-            places.append((first, last, size, start))
+            _, wide = self.digits_of_size(size)
+            places[size] += zip(range(first, last), accumulate(repeat(wide), initial=start))
         return places
 
     def largest_digits(self, group: Digits) -> float:

@@ -136,6 +136,7 @@ class Letters:
         self.sign = cache(self.whole_sign)
         self.steps = [cache(partial(self.step, is_bold)) for is_bold in (False, True)]
         self.word = lru_cache(KEPT)(self.new_word)
+        self.width = lru_cache(KEPT)(self.new_width)
 
     @cached_property
     def prices(self) -> "Letters":
@@ -191,7 +192,7 @@ class Letters:
         words = [*map(self.word, text.split(" "), repeat(is_bold))]
         return together(words, (len(words) - 1) * self.steps[is_bold](" "))
 
-    def width(self, text: str, is_bold: bool) -> float:
+    def new_width(self, text: str, is_bold: bool) -> float:
         """Returns the width of the ink of a line of text: the sum of its letters, but where these
         change beside others.
         """
