@@ -206,8 +206,13 @@ class Printer:
 
 def main() -> None:
     """Plays a printer in the background."""
+    if len(sys.argv) not in (3, 4):
+        sys.exit(__doc__)
     port, file, *within = sys.argv[1:]
-    printer = Printer(within=int(within[0]) if within else 0, port=int(port))
+    try:
+        printer = Printer(within=int(within[0]) if within else 0, port=int(port))
+    except (OSError, ValueError, OverflowError) as error:
+        sys.exit(f"printers.py: no printer at port {port}: {error}; name another port")
     printer.file = file
     open(file, "wb").close()
     if os.fork():
