@@ -233,11 +233,14 @@ def moved(text: str, mark: Mark) -> str:
 
 def formed(cell: Cell, form: Lettering) -> Cell:
     """Returns a cell all of whose letters have a form."""
-    if form.mark in NO_LETTERS and cell:
-        return Fault(NO_LETTERS[form.mark], WITHOUT, cell if isinstance(cell, str) else cell.value)
-    if not form.mark.moves or isinstance(cell, (Fault, Truth)):
+    mark = form.mark
+    if mark is Mark.NONE or not cell:
         return cell
-    return moved(cell, form.mark) if isinstance(cell, str) else Fault(RAISED, AS_TEXT, cell.value)
+    if mark in NO_LETTERS:
+        return Fault(NO_LETTERS[mark], WITHOUT, cell if isinstance(cell, str) else cell.value)
+    if isinstance(cell, (Fault, Truth)):
+        return cell
+    return moved(cell, mark) if isinstance(cell, str) else Fault(RAISED, AS_TEXT, cell.value)
 
 
 def taken_text(cell: Cell, use: Use) -> str:

@@ -279,9 +279,11 @@ def meant(word: str) -> str:
     not.
     """
     for encoding, least in () if word.isascii() else READ_AS.items():
-        with suppress(UnicodeError):
+        try:
             before = word.encode(encoding).decode("utf-8")
-            is_meant = MEANT.fullmatch(before) and not TRADE.search(word)
-            if is_meant and len(word) - len(before) >= least:
-                return before
+        except UnicodeError:
+            continue
+        is_meant = MEANT.fullmatch(before) and not TRADE.search(word)
+        if is_meant and len(word) - len(before) >= least:
+            return before
     return word

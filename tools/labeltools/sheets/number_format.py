@@ -380,7 +380,7 @@ def digits_by(pattern: str) -> DigitPattern:
     return DigitPattern(
         unit=Decimal(1).scaleb(-len(decimals_pattern)),
         needed=len(decimals_pattern.rstrip("#?")),
-        least=least_digits(whole_pattern),
+        least=least_digits(pattern),
         has_groups=has_groups,
         has_point=point != "",
         shows_zero=not re.search("0,*[#?]", whole_pattern),
@@ -406,14 +406,15 @@ def by_pattern(value: Decimal, pattern: str, signs: Signs) -> str:
     return whole + (signs.decimal + decimals if decimals else "")
 
 
-def least_digits(whole_pattern: str) -> int:
-    """Returns how many digits a pattern of a whole number has at least: those from its first `0`
+@lru_cache(maxsize=256)
+def least_digits(pattern: str) -> int:
+    """Returns how many digits of a whole number a pattern has at least: those from its first `0`
     on.
 
-    >>> least_digits("#,##0"), least_digits("0#"), least_digits("#")
+    >>> least_digits("#,##0.00"), least_digits("0#"), least_digits("#")
     (1, 2, 0)
     """
-    _, zero, rest = whole_pattern.partition("0")
+    _, zero, rest = re.split("[.Ee]", pattern)[0].partition("0")
     return len(zero + rest.replace(",", ""))
 
 
@@ -455,7 +456,7 @@ def digits_of(number_format: str, value: Decimal, is_data: bool = False) -> str:
         form = quoted(number_format)
         what = Text("has the number format {}, and would be drawn as {:.0f}", form, value)
         raise RowError(what, AS_TEXT)
-    zeros = 0 if is_general else least_digits(re.split("[.Ee]", pattern)[0])
+    zeros = 0 if is_general else least_digits(pattern)
     return f"{value:.0f}".zfill(zeros)
 
 

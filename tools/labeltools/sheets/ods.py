@@ -6,7 +6,7 @@ from dataclasses import dataclass, field
 from datetime import date, datetime
 from decimal import Decimal
 from itertools import groupby
-from xml.etree.ElementTree import Element, iterparse
+from xml.etree.ElementTree import Element, fromstring, iterparse
 from zipfile import ZipFile
 
 from labeltools.common.messages import quoted, RowError, Talk
@@ -38,7 +38,6 @@ from labeltools.sheets.workbook import (
     MOST_COLUMNS,
     NOT_SAVED,
     NOT_SAVED_HINT,
-    parts_of,
     plainly_named,
     repeats,
     rows_from,
@@ -208,8 +207,9 @@ def rows_of_ods(
 def tables_of(archive: ZipFile, styles: Styles, formatter: Formatter) -> Iterator[Worksheet]:
     """Yields the sheets of a file, whose styles are in front of them."""
     if "styles.xml" in archive.namelist():
-        for style in parts_of(archive, "styles.xml", STYLES):
-            styles.take_style(style)
+        for style in fromstring(archive.read("styles.xml")).iter():
+            if style.tag in STYLES:
+                styles.take_style(plainly_named(style))
     table: Element | None = None
 
     def with_table(element: Element) -> Element | None:

@@ -3,13 +3,13 @@
 import re
 import struct
 import zlib
-from collections.abc import Callable, Collection, Iterable, Iterator, Mapping
+from collections.abc import Callable, Iterable, Iterator, Mapping
 from contextlib import contextmanager
 from decimal import Decimal
 from functools import lru_cache, reduce
 from io import BytesIO
 from typing import NamedTuple
-from xml.etree.ElementTree import Element, fromstring, iterparse, ParseError
+from xml.etree.ElementTree import Element, fromstring, ParseError, TreeBuilder, XMLParser
 from zipfile import BadZipFile, ZIP_DEFLATED, ZIP_STORED, ZipFile
 
 from labeltools.common.messages import BAD_ARGUMENTS, fault_of, quoted, Remedy, ToolError
@@ -23,6 +23,7 @@ MOST_MERGES = 256  # of those that cross one row
 LARGEST_ROW = 1 << 20  # letters
 LONGEST_KIND = 100  # bytes of the kind of a workbook
 MOST_PARTS = 1 << 14  # of the zip
+READ_TOGETHER = 1 << 15  # bytes of a part
 LARGEST_EXPONENT = 324  # of a number, and of one that is nearly zero
 MOST_DIGITS = 10  # of a count
 LONGEST_REASON = 80  # letters of what is damaged
@@ -129,15 +130,27 @@ def tree_of(archive: ZipFile, part: str, but: re.Pattern[bytes] | None = None) -
     return plainly_named(fromstring(but.sub(b"", data) if but else data))
 
 
-def parts_of(archive: ZipFile, part: str, names: Collection[str]) -> Iterator[Element]:
-    """Yields the elements of a part that have one of some names, each whole, and then forgets what
-    is in it.
-    """
+def parts_of(archive: ZipFile, part: str, outer: str, name: str) -> Iterator[Element]:
+    """Yields the elements of a name that are in one of a part, each whole, and forgets them."""
+    builder = TreeBuilder()
+    top = builder.start("", {})
+    parser = XMLParser(target=builder)
+    is_read = False
     with archive.open(part) as stream:
-        for _, element in iterparse(stream):
-            if element.tag in names:
-                yield plainly_named(element)
-                element.clear()
+        while not is_read:
+            data = stream.read(READ_TOGETHER)
+            parser.feed(data)
+            is_read = not data
+            if is_read:
+                parser.close()
+            within = top.find(outer)
+            if within is None:
+                continue
+            whole = within[:] if is_read else within[:-1]  # the last one may go on
+            del within[: len(whole)]
+            for element in map(plainly_named, whole):
+                if element.tag == name:
+                    yield element
 
 
 def plainly_named(tree: Element) -> Element:
@@ -166,7 +179,7 @@ def rows_from(row: Row, repeat: int = 1) -> Iterator[Row]:
         )
     if row.is_blank():  # there may be a million
         repeat = 1
-    letters = sum(len(cell) for cell in row.cells if isinstance(cell, str))
+    letters = sum([len(cell) for cell in row.cells if isinstance(cell, str)])
     if letters > LARGEST_ROW or repeat > 1 and (letters + EACH) * repeat > LARGEST_ROW:
         raise ToolError(TOO_LARGE, SAVE_AGAIN)
     yield row

@@ -65,16 +65,9 @@ STALE = Problem(
     Text("the results of formulas in this file may be out of date"),
     Text("open it in the spreadsheet and save it again"),
 )
-
-
-# the names of a row and of a shared string, each in one of two spaces
-ROW, STRING = (
-    (
-        f"{{http://schemas.openxmlformats.org/spreadsheetml/2006/main}}{name}",
-        f"{{http://purl.oclc.org/ooxml/spreadsheetml/main}}{name}",
-    )
-    for name in ("row", "si")
-)
+# what the rows of a sheet, and the shared strings, are in: the strings in the root
+ROWS_OF_SHEET = "*/{*}sheetData"
+STRINGS = "*"
 Target = tuple[str, str]  # what a part refers to: its kind, and a part or an address outside
 XlsxRuns = Sequence[
     tuple[str, Lettering | None]
@@ -82,10 +75,13 @@ XlsxRuns = Sequence[
 
 
 class Look(NamedTuple):
-    """A style: its number format, and the form of its letters."""
+    """A style: its number format, the form of its letters, and why it shows no text, if it puts
+    something around texts that is not understood.
+    """
 
     number_format: str
     form: Lettering
+    text_problem: RowError | None = None
 
 
 class Looks(NamedTuple):
@@ -218,7 +214,7 @@ def rows_of_sheet(archive: ZipFile, part: str, book: Book, looks: Looks) -> Iter
         book.talk.say(CONDITION)
     number = 0
     merges: list[Merge] = []
-    for found in parts_of(archive, part, ROW):
+    for found in parts_of(archive, part, ROWS_OF_SHEET, "row"):
         before, number = number, whole_number(found.get("r", str(number + 1)), 1)
         if number <= before:
             raise out_of_order(number)
@@ -278,7 +274,7 @@ def cell_of(found: Element, has_formula: bool, book: Book) -> Cell:
 
 def strings_of(archive: ZipFile, part: str) -> dict[str, str | XlsxRuns]:
     """Returns the shared strings by their numbers."""
-    found = parts_of(archive, part, STRING) if part else ()
+    found = parts_of(archive, part, STRINGS, "si") if part else ()
     return {str(number): string_of(string) for number, string in enumerate(found)}
 
 
@@ -287,15 +283,16 @@ def string_of(parts: Iterable[Element]) -> str | XlsxRuns:
     letters are spoken (`rPh`) is beside the text.
     """
     runs: list[tuple[str, Lettering | None]] = []
+    is_rich = False
     for part in parts:
         if part.tag == "t":
             runs.append((without_escapes(part.text or ""), None))
         elif part.tag == "r":
             own = part.find("rPr")
+            is_rich = is_rich or own is not None
             form = None if own is None else lettering_of(own)
             runs.append((without_escapes(part.findtext("t", "")), form))
-    is_rich = any(form is not None for _, form in runs)
-    return runs if is_rich else "".join(text for text, _ in runs)
+    return runs if is_rich else "".join([text for text, _ in runs])
 
 
 def looks_of(archive: ZipFile, part: str) -> Looks:
@@ -313,7 +310,7 @@ def looks_of(archive: ZipFile, part: str) -> Looks:
     for found in tree.iterfind("cellXfs/xf"):
         number_format = by_number.get(found.get("numFmtId", "0"), LANGUAGE)
         form = numbered_lettering(found.attrib, fonts, are_filled)
-        looks[str(len(looks))] = Look(number_format, form)
+        looks[str(len(looks))] = Look(number_format, form, text_problem(number_format))
     of_conditions = [
         lettering_of(found.iterfind("font/*")).within(
             Lettering(is_filled=found.find("fill/*") is not None)
@@ -402,20 +399,27 @@ def beside_of(archive: ZipFile, path: str, of_conditions: Sequence[Lettering]) -
     return beside
 
 
+def text_problem(style: str) -> RowError | None:
+    """Returns why a number format shows no text: it may put something around it, as `"SKU-"@`."""
+    if "@" in style and style != "@":
+        try:
+            number_format.sections_of(style)
+        except RowError as problem:
+            return problem
+    return None
+
+
 def text_of(text: str | XlsxRuns, look: Look) -> Cell:
-    """Returns a text; none where its format puts something around it, as `"SKU-"@` does."""
-    style, form = look
+    """Returns a text; none where its format puts something around it."""
+    form, problem = look.form, look.text_problem
     if isinstance(text, str):
         found = formed(text, form)
     else:
         found = text_of_runs(
             [(letters, own.within(form) if own else form) for letters, own in text]
         )
-    if isinstance(found, str) and found and "@" in style and style != "@":
-        try:
-            number_format.sections_of(style)
-        except RowError as problem:
-            return Fault(problem.what, problem.hint, found, problem.remedies)
+    if problem and isinstance(found, str) and found:
+        return Fault(problem.what, problem.hint, found, problem.remedies)
     return found
 
 

@@ -3,12 +3,11 @@
 import re
 from dataclasses import dataclass, replace
 from decimal import Decimal
-from typing import NamedTuple, Sequence
+from typing import Mapping, NamedTuple, Sequence
 
 from labeltools.common.column_names import name_of
 from labeltools.common.messages import Problem, quoted, Remedy, RowError
 from labeltools.common.text import Text
-from labeltools.lines.file import Record
 from labeltools.lines.symbologies import SYMBOLOGIES
 from labeltools.sheets.encoding import twice_encoded
 from labeltools.sheets.number_format import EXACT
@@ -53,8 +52,11 @@ class Draft(NamedTuple):
     """
 
     code: Code
-    record: Record
-    prices: tuple[Price, Price, Price]
+    row: int
+    title: str
+    texts: Mapping[str, str]
+    copies: int
+    prices: Sequence[Price]
     currency: str | None
 
 
@@ -96,17 +98,10 @@ class DraftReader:
         texts = self.texts(columns.text, row, code)
         currency = self.row_currency(row) if columns.currency else None
         copies = columns.copies.copies(row) if columns.copies else 1
-        record = Record(
-            row=row.number,
-            title=title,
-            text=tuple(texts.values()),
-            copies=copies,
-            names=tuple(texts),
-        )
-        price, unit, was = (
+        prices = [
             self.row_price(column, row, currency) if column else "" for column in columns.prices
-        )
-        return Draft(code, record, (price, unit, was), currency)
+        ]
+        return Draft(code, row.number, title, texts, copies, prices, currency)
 
     def refuse_names(self, row: Row) -> None:
         """Raises `RowError` for a row that has the names of the columns again, and for one that

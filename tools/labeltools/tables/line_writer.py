@@ -55,7 +55,7 @@ class LineWriter:
     def take_draft(self, draft: Draft) -> None:
         """Takes a draft."""
         self.taken += 1
-        self.findings.see_prices(draft.record.row, draft.prices, draft.currency or "")
+        self.findings.see_prices(draft.row, draft.prices, draft.currency or "")
         if self.options.prices.pattern:
             self.waiting.append(draft)
         else:
@@ -75,23 +75,21 @@ class LineWriter:
 
     def write_draft(self, draft: Draft) -> None:
         """Writes a draft, or leaves it out, whatever it raises."""
-        row = draft.record.row
         try:
-            price, unit, was = (
-                self.price_as_printed(draft, *parts)
-                for parts in zip(draft.prices, self.columns.prices, self.findings.prices)
-            )
-            record = draft.record._replace(price=price, unit=unit, was=was)
+            columns = zip(draft.prices, self.columns.prices, self.findings.prices)
+            price, unit, was = [self.price_as_printed(draft, *parts) for parts in columns]
+            text, names = tuple(draft.texts.values()), tuple(draft.texts)
+            record = Record(draft.row, draft.title, text, price, unit, was, draft.copies, names)
             lines = self.lines_of(record, draft.code)
         except RowError as problem:
             pairs = zip(draft.prices, self.columns.prices)
             wrong = (price for price, column in pairs if column and column.place == problem.column)
-            self.leave_out(row, str(next(wrong, "")), problem)
+            self.leave_out(draft.row, str(next(wrong, "")), problem)
             return
         except MemoryError:
             raise
         except Exception as error:
-            self.leave_out(row, draft.code.data, RowError(fault_of(error)))
+            self.leave_out(draft.row, draft.code.data, RowError(fault_of(error)))
             return
         self.report_if_twice(draft.code, record)
         key = (draft.code.symbology, draft.code.whole)
@@ -119,8 +117,7 @@ class LineWriter:
             money = of_column.settled(price)
             text = pattern.write(money, draft.currency or "")
             if pattern.changes_amount(money.value):
-                row = draft.record.row
-                what = Text("row {} has {}, which is rounded to {}", row, price.text, text)
+                what = Text("row {} has {}, which is rounded to {}", draft.row, price.text, text)
                 self.findings.see(column, Problem(what))
             return text
         except NotMoney as problem:
