@@ -52,7 +52,7 @@ class Pages(unittest.TestCase):
         press = self.found.press(Silence())
         prints = self.found.prints
         (whole,) = press.batches(prints)
-        self.assertEqual(whole.label_count, len(prints))
+        self.assertEqual(len(whole.items), len(prints))
         self.assertEqual(len(whole.pages[0]), 21 - 4)
         for number, page in enumerate(whole.pages):
             self.assertEqual(press.page(number, prints), page, number)

@@ -258,11 +258,6 @@ class Batch:
     pages: Sequence[Page]
     items: Sequence[LaidOut]
 
-    @property
-    def label_count(self) -> int:
-        """How many labels it has."""
-        return len(self.items)
-
 
 class WrongLabels(ToolError):
     """Labels that would be drawn wrongly, or not at all, which is a fault of ours: each with why,
@@ -391,7 +386,7 @@ class Press:
                 document = Document(file.read(), part.pages)
         else:
             picture = drawn_page(self.job.plan.page, self.pen, part.pages[0], self.turn)
-            copies = part.label_count if form == ZPL else 1
+            copies = len(part.items) if form == ZPL else 1
             data = self.dots_in_form(picture, is_first, copies)
             document = Document(data, part.pages, copies, picture)
         self.comparison.check(document)
@@ -401,7 +396,7 @@ class Press:
         """Yields pages, and says before each one how many labels are drawn."""
         done = 0
         for page in part.pages:
-            self.talk.go_on(done, part.label_count)
+            self.talk.go_on(done, len(part.items))
             yield page
             done += len(page)
 

@@ -378,7 +378,7 @@ def direct_sent(printer: str, name: str, labels: Prepared, talk: WindowTalk) -> 
     talk.printer = name
     sender = send_labels_to(labels, printer, talk, talk.stops)
     count, wrong = sender.progress.taken, sender.progress.wrong
-    if sender.watch.is_printed:
+    if sender.watch.answer.is_empty:
         return Sent(None, printed_on(count, name), wrong, SUCCESS)
     parts = sent_to(count, name), *map(whole_sentence, sender.watch.troubles)
     return Sent(None, joined(" ", parts), wrong, WARNING if sender.watch.is_stuck else INFO)
