@@ -273,9 +273,7 @@ OPTIONS: Mapping[str, Sequence[Option]] = {
 }
 
 
-def has_option(name: str) -> bool:
-    """Returns whether an option has a name."""
-    return any(option.name == name for options in OPTIONS.values() for option in options)
+NAMES_OF_OPTIONS = frozenset(option.name for options in OPTIONS.values() for option in options)
 
 
 def table_parser() -> Parser:
