@@ -14,7 +14,6 @@ from labeltools.common.messages import (
     fault_of,
     Problem,
     Remedy,
-    Silence,
     Talk,
     ToolError,
     UNEXPECTED,
@@ -165,7 +164,7 @@ def faults_of(design: Design, labels: Sequence[Record], on: Setting) -> dict[int
     found = {}
     for label in labels:
         try:
-            design.lay_out([label], on, Silence())
+            design.lay_out([label], on, Talk())
         except (ToolError, OSError, MemoryError):
             raise
         except Exception as error:
