@@ -26,7 +26,7 @@ from unittest import mock
 import support
 from labeltools.commands.label_table import table_options, table_parser
 from labeltools.common.budget import SECONDS
-from labeltools.common.messages import Silence, ToolError
+from labeltools.common.messages import Talk, ToolError
 from labeltools.designs.svg_design import read_design
 from labeltools.lines.file import read_lines, Record
 from labeltools.sending.answers import QUERIES
@@ -163,13 +163,13 @@ def judge_table(chance: random.Random, data: bytes) -> None:
     words += chance.choice(MORE_WORDS)
     options = table_options(table_parser().parse_args(words))
     with suppress(ToolError):
-        made = table.lines_of_table(data, "bent", options, Silence())
+        made = table.lines_of_table(data, "bent", options, Talk())
         require_known(read_lines(made.output, "bent").records, text_of(data))
     if chance.random() < 0.3:
         with suppress(ToolError):
-            guess_of(data, "bent", TableOptions(), Silence())
+            guess_of(data, "bent", TableOptions(), Talk())
         with suppress(ToolError):
-            old_encoding(data, "bent", TableOptions(), Silence())
+            old_encoding(data, "bent", TableOptions(), Talk())
 
 
 def judge_lines(data: bytes) -> None:
@@ -227,7 +227,7 @@ def shown_wrong() -> bool:
         is_exception_seen = fault_in(judge, plain).startswith("KeyError")
     with mock.patch("time.process_time", side_effect=(0.0, 1e9)):
         is_time_seen = fault_in(judge_lines, LINES).startswith("took")
-    made = table.lines_of_table(plain, "a", options_of_codes(), Silence())
+    made = table.lines_of_table(plain, "a", options_of_codes(), Talk())
     with mock.patch.object(table, "lines_of_table", return_value=made):
         is_code_seen = "a label with" in fault_in(
             judge, plain.replace(b"4006381333", b"4006381999")

@@ -6,7 +6,7 @@ from typing import Any, Sequence
 
 import jobs
 import support
-from labeltools.common.messages import Silence
+from labeltools.common.messages import Talk
 from labeltools.drawing.pen import Pen
 from labeltools.layout.layout import PlacedText
 from labeltools.layout.medium import Medium
@@ -65,7 +65,7 @@ def prepared(
     chosen: dict[str, Any] = {"paper": PAPER, "dpi": 203, "to": "pbm"}
     chosen |= {"design": str(design), **options}
     wished = PrintOptions(**chosen)
-    found = labels_of(planned(wished), "lines", lines_of(labels), Silence())
+    found = labels_of(planned(wished), "lines", lines_of(labels), Talk())
     pen = Pen(Medium(found.job.plan.dpi, True), found.pens[0].letters, found.job.design)
     for item in found.labels if is_read else ():
         if fault := fault_of(item, found.laid_out.area, pen):
@@ -75,7 +75,7 @@ def prepared(
 
 def dots_of(found: Prepared, number: int = 0) -> jobs.Dots:
     """The dots of a label on its page, as they go out."""
-    press = found.press(Silence())
+    press = found.press(Talk())
     document = press.document(press.batch_of_same([found.labels[number]]))
     return jobs.pictures_of_pbm(document)[0]
 

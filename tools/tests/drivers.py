@@ -13,7 +13,7 @@ import numpy
 
 from jobs import data_of_run_lengths, Dots, JobError
 from labeltools.commands.label_print import print_options
-from labeltools.common.messages import Silence
+from labeltools.common.messages import Talk
 from labeltools.printing.job import planned
 from labeltools.printing.press import labels_of
 from laying import boxes_of
@@ -122,8 +122,8 @@ class Bars:
 def bars_of(words: Sequence[str], lines: bytes) -> Iterator[Bars]:
     """The bars of all labels on a sheet, as label-print places them by these words."""
     options = print_options(words)
-    prepared = labels_of(planned(options), "lines", lines, Silence())
-    press = prepared.press(Silence())
+    prepared = labels_of(planned(options), "lines", lines, Talk())
+    press = prepared.press(Talk())
     (part,) = press.batches(prepared.prints)
     for number, page in enumerate(part.pages):
         for item, (left, top) in page:

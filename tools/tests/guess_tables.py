@@ -10,7 +10,7 @@ from enum import StrEnum
 from typing import Any
 
 from folders import TESTS
-from labeltools.common.messages import Silence, ToolError
+from labeltools.common.messages import Talk, ToolError
 from labeltools.sheets.file_options import FileOptions
 from labeltools.tables.guess import guess, Guess, guess_of, table_columns
 from labeltools.tables.old_encoding import old_encoding
@@ -110,9 +110,9 @@ def table_of(name: str, truth: Mapping[str, Any]) -> Table:
     """A table of the folder, as its file is read."""
     data = (FOLDER / name).read_bytes()
     options = options_for(data, name)
-    found = guess_of(data, name, options, Silence())
+    found = guess_of(data, name, options, Talk())
     file = replace(options.file, header_row=found.header)
-    columns, header, hidden = table_columns(data, name, replace(options, file=file), Silence())
+    columns, header, hidden = table_columns(data, name, replace(options, file=file), Talk())
     return Table(name, columns, hidden, header, truth_of(truth))
 
 
@@ -130,16 +130,16 @@ def truth_of(truth: Mapping[str, Any]) -> Truth:
 def options_for(data: bytes, name: str) -> TableOptions:
     """The options by which a table is read: its encoding, and the sheet that has codes."""
     options = TableOptions()
-    old = old_encoding(data, name, options, Silence())
+    old = old_encoding(data, name, options, Talk())
     if old:
         options = TableOptions(file=FileOptions(encoding=old.name))
     try:
-        guess_of(data, name, options, Silence())
+        guess_of(data, name, options, Talk())
     except ToolError as error:
         for remedy in error.remedies:
             other = TableOptions(file=replace(options.file, sheet=remedy.value))
             with suppress(ToolError):
-                found = guess_of(data, name, other, Silence())
+                found = guess_of(data, name, other, Talk())
                 if any(reading.are_sure for reading in found.codes.values()):
                     return other
         raise

@@ -6,7 +6,7 @@ from dataclasses import dataclass
 from typing import Any, Sequence
 
 import jobs
-from labeltools.common.messages import Silence
+from labeltools.common.messages import Talk
 from labeltools.drawing.dots import drawn_page
 from labeltools.drawing.pen import Pen
 from labeltools.layout.layout import LaidOut, PlacedText
@@ -67,13 +67,13 @@ def laid_out(data: bytes, cell: tuple[float, float], dpi: int = 300, **options: 
             cell=cell, grid=(1, 1), paper=cell, edge=NO_EDGES, dpi=dpi, to="pbm", **options
         )
     job = planned(sheet)
-    prepared = labels_of(job, "lines", data, Silence())
+    prepared = labels_of(job, "lines", data, Talk())
     return Laid(job, prepared, Pen(Medium(dpi, True), prepared.pens[0].letters, job.design))
 
 
 def documents_of(found: Prepared) -> list[bytes]:
     """What goes out of labels: files that are whole by themselves."""
-    press = found.press(Silence())
+    press = found.press(Talk())
     parts = enumerate(press.batches(found.prints))
     return [press.document(part, number == 0) for number, part in parts]
 

@@ -17,7 +17,7 @@ import jobs
 import support
 from labeltools.checking import compare, decode
 from labeltools.checking.read_pdf import drawn_pages
-from labeltools.common.messages import Silence, ToolError
+from labeltools.common.messages import Talk, ToolError
 from labeltools.designs import svg_layout as own_layout
 from labeltools.drawing import dots, escpos, pen, zpl
 from labeltools.lines import engine, library
@@ -76,7 +76,7 @@ def options_of(form: str, **others: Any) -> PrintOptions:
 def found_of(options: PrintOptions, labels: Sequence[Any] = SHOP) -> Prepared:
     """Labels that are laid out; none is left out."""
     lines = support.file_of(labels)
-    found = labels_of(planned(options), "lines", lines, Silence())
+    found = labels_of(planned(options), "lines", lines, Talk())
     if found.left_out:
         raise AssertionError(str(found.left_out[0].problem.line))
     return found
@@ -521,9 +521,9 @@ class OwnDesigns(unittest.TestCase):
             options = options_of("zpl", design=design, paper=(100.0, 60.0))
             job = planned(options)
             lines = support.file_of(self.LABELS)
-            first = labels_of(job, "lines", lines, Silence()).labels[0].record
+            first = labels_of(job, "lines", lines, Talk()).labels[0].record
             with mock.patch("labeltools.designs.svg_layout.values_of", texts):
-                found = labels_of(job, "lines", lines, Silence())
+                found = labels_of(job, "lines", lines, Talk())
         with self.assertRaisesRegex(ToolError, "^row 3: its code says other data than its line"):
             documents_of(found)
 
@@ -719,7 +719,7 @@ class Read(unittest.TestCase):
     def test_a_picture_that_is_another_one(self) -> None:
         pen.bar_boxes.cache_clear()  # of boxes by another test, whose guards are short
         found = found_of(options_of("pdf"), PAIR[:1])
-        comparison = found.press(Silence()).comparison
+        comparison = found.press(Talk()).comparison
         (page,) = drawn_pages(documents_of(found)[0], 203, 1, [1])
         (code,) = page.codes
         wanted = [*comparison.wanted_on([(found.labels[0], found.job.plan.places[0])])]

@@ -17,7 +17,7 @@ import designs
 import support
 from designs import CODE, dots_of, Label, reasons_of, said_of, texts_of
 from labeltools.common.budget import Share
-from labeltools.common.messages import Silence, ToolError
+from labeltools.common.messages import Talk, ToolError
 from labeltools.common.text import Text
 from labeltools.designs import drawer
 from labeltools.designs.svg_layout import SvgLabels
@@ -674,7 +674,7 @@ class Drawings(OwnPages):
             options = PrintOptions(paper=designs.PAPER, dpi=203, to="pbm", design=str(path))
             ends = '"lines":1,"left_out":[],"left_out_count":0,"empty":["Logo"]}'
             lines = f'#{{"labels":1}}\n#{{"row":2}}\ncode128 A\n#{{"end":1,{ends}\n'.encode()
-            found = labels_of(planned(options), "lines", lines, Silence())
+            found = labels_of(planned(options), "lines", lines, Talk())
             self.assertEqual((dots_of(found)[:150].any(), self.said(found)), (is_drawn, []))
 
     def test_a_place_that_is_dark_in_part(self) -> None:

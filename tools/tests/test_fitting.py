@@ -10,7 +10,7 @@ from unittest import mock
 import designs
 import support
 from designs import Label
-from labeltools.common.messages import Silence
+from labeltools.common.messages import Talk
 from labeltools.drawing.pen import Pen
 from labeltools.layout.fitting import LINE_END, Placed
 from labeltools.layout.layout import LaidOut
@@ -130,7 +130,7 @@ class TitleLines(unittest.TestCase):
     def lines(self, data: bytes, form: str) -> list[list[int]]:
         """How many letters each line of a title has as it is drawn."""
         job = planned(PrintOptions(paper=(50.0, 40.0), dpi=203, to=form))
-        found = labels_of(job, "lines", data, Silence())
+        found = labels_of(job, "lines", data, Talk())
         drawn = []
         for item in found.labels:
             title = next(found.pens[0].texts(item)).text

@@ -11,7 +11,7 @@ import numpy
 
 import jobs
 import support
-from labeltools.common.messages import Silence
+from labeltools.common.messages import Talk
 from labeltools.layout.layout import LaidOut
 from labeltools.printing.job import planned, PrintOptions
 from labeltools.printing.press import labels_of
@@ -63,7 +63,7 @@ def bars_of(data: bytes, dpi: int) -> tuple[slice, slice, jobs.Dots]:
     """Where the bars of a label are, and their dots by the modules of labels(1)."""
     options = PrintOptions(paper=PAPER, dpi=dpi, to="pbm")
     job = planned(options)
-    found = labels_of(job, "lines", data, Silence())
+    found = labels_of(job, "lines", data, Talk())
     (item,) = found.laid_out.labels
     box = boxes_of(item)["bars"]
     left, top = job.plan.places[0]

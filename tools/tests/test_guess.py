@@ -11,7 +11,7 @@ from pathlib import Path
 import guess_fit
 import support
 from guess_tables import FOLDER, small_tables, tables, Verdict, verdict_of
-from labeltools.common.messages import Silence
+from labeltools.common.messages import Talk
 from labeltools.lines.file import read_lines
 from labeltools.sheets.file_options import FileOptions
 from labeltools.tables.evidence import WEIGHTS
@@ -67,7 +67,7 @@ def commands_in(said: str) -> list[str]:
 
 def guessed(text: str, options: TableOptions = TableOptions()) -> Guess:
     """The guess of a table."""
-    return guess_of(text.encode(), "table.csv", options, Silence())
+    return guess_of(text.encode(), "table.csv", options, Talk())
 
 
 class Guesses(unittest.TestCase):
@@ -564,12 +564,12 @@ class Guesses(unittest.TestCase):
         lines = [["EAN", "VK", "Preis"], [CODES[0], "1,20", "0,80"]]
         for kind in KINDS:
             data = kind(Sheet(lines, hidden_columns=(3,)))
-            found = guess_of(data, "x", TableOptions(), Silence())
+            found = guess_of(data, "x", TableOptions(), Talk())
             self.assertEqual(found.columns, {"code": 0, "price": 1})
             shown = TableOptions(file=FileOptions(hidden=True))
-            self.assertEqual(guess_of(data, "x", shown, Silence()).doubts, {"price": [1, 2]})
+            self.assertEqual(guess_of(data, "x", shown, Talk()).doubts, {"price": [1, 2]})
             codes = kind(Sheet(lines, hidden_columns=(1, 3)))  # it is the only one
-            self.assertEqual(guess_of(codes, "x", TableOptions(), Silence()).columns["code"], 0)
+            self.assertEqual(guess_of(codes, "x", TableOptions(), Talk()).columns["code"], 0)
 
     def test_names_of_many_languages(self) -> None:
         """Each has a price that customers pay, and one that the shop pays, or without its tax."""
@@ -777,7 +777,7 @@ class Codes(unittest.TestCase):
     def test_hidden_rows_are_not_looked_at(self) -> None:
         sheet = Sheet([["EAN"], [CODES[0]], ["4006381333932"]], hidden=(2,))
         for kind in KINDS:
-            found = guess_of(kind(sheet), "x", TableOptions(), Silence())
+            found = guess_of(kind(sheet), "x", TableOptions(), Talk())
             self.assertIn("a digit is wrong", str(found.codes[0].problem))
 
     def test_numbers_of_articles_are_no_titles(self) -> None:

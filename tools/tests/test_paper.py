@@ -20,7 +20,7 @@ import zxingcpp
 
 import jobs
 import support
-from labeltools.common.messages import Silence
+from labeltools.common.messages import Talk
 from labeltools.printing.job import planned, PrintOptions
 from labeltools.printing.press import labels_of
 from labeltools.window.preview import Preview
@@ -468,7 +468,7 @@ class Forms(unittest.TestCase):
     def test_guards_on_a_screen_are_one_piece(self) -> None:
         """A guard that begins where its bar ends has a light line between them."""
         job = planned(PrintOptions(paper=(80.0, 50.0), dpi=300))
-        labels = labels_of(job, "lines", support.file_of([(EAN, PRICED)]), Silence())
+        labels = labels_of(job, "lines", support.file_of([(EAN, PRICED)]), Talk())
         file = io.BytesIO()
         with cairo.SVGSurface(file, 80, 50) as surface:
             Preview(labels).draw(cairo.Context(surface), 1)

@@ -8,7 +8,7 @@ from pathlib import Path
 from typing import Any
 
 import support
-from labeltools.common.messages import Cancelled, Origin, Silence
+from labeltools.common.messages import Cancelled, Origin, Talk
 from labeltools.common.text import Text
 from labeltools.printing.job import planned, PrintOptions
 from labeltools.printing.press import labels_of
@@ -28,7 +28,7 @@ def setUpModule() -> None:
     os.environ["LABELS"] = str(support.labels_program())
 
 
-class Stopping(Silence):
+class Stopping(Talk):
     """A talk that stops the work at its `end`-th question."""
 
     def __init__(self, end: int) -> None:
@@ -46,13 +46,13 @@ class Pages(unittest.TestCase):
         self.data = support.file_of(COPIED)
         self.options = PrintOptions(stock="l7160", first=5)
         self.job = planned(self.options)
-        self.found = labels_of(self.job, "lines", self.data, Silence())
+        self.found = labels_of(self.job, "lines", self.data, Talk())
 
     def test_a_page_by_its_number(self) -> None:
-        press = self.found.press(Silence())
+        press = self.found.press(Talk())
         prints = self.found.prints
         (whole,) = press.batches(prints)
-        self.assertEqual(whole.label_count, len(prints))
+        self.assertEqual(len(whole.items), len(prints))
         self.assertEqual(len(whole.pages[0]), 21 - 4)
         for number, page in enumerate(whole.pages):
             self.assertEqual(press.page(number, prints), page, number)
@@ -63,16 +63,16 @@ class Pages(unittest.TestCase):
             sheet = ("--paper", "60x40", "--dpi", "203", "--to", form)
             written = support.printed(*sheet, input=self.data).stdout
             options = PrintOptions(paper=(60.0, 40.0), dpi=203, to=form)
-            found = labels_of(planned(options), "lines", self.data, Silence())
+            found = labels_of(planned(options), "lines", self.data, Talk())
             with tempfile.TemporaryDirectory() as folder:
                 path = Path(folder, "labels")
-                save_to(found, path, Silence())
+                save_to(found, path, Talk())
                 self.assertTrue(path.read_bytes() == written and written, form)
                 self.assertEqual(os.listdir(folder), ["labels"])
 
     def test_labels_that_are_left_out_are_values(self) -> None:
         data = support.file_of([LABELS[0], ("ean13 4006381333932", {})])
-        found = labels_of(self.job, "lines", data, Silence())
+        found = labels_of(self.job, "lines", data, Talk())
         (record,) = found.left_out
         self.assertEqual(record.origin, Origin("articles.xlsx", "row", 3))
         self.assertEqual(
@@ -92,7 +92,7 @@ class Pages(unittest.TestCase):
     def test_one_form_after_another_in_one_run(self) -> None:
         """Cairo keeps a font as it was first used: dots are the same after a PDF was drawn."""
         roll = PrintOptions(paper=(60.0, 40.0), dpi=203, to="pbm")
-        found = labels_of(planned(roll), "lines", self.data, Silence())
+        found = labels_of(planned(roll), "lines", self.data, Talk())
         written = support.run(
             "label-print", "--paper", "60x40", "--dpi", "203", "--to", "pbm", input=self.data
         ).stdout
@@ -106,7 +106,7 @@ class Pages(unittest.TestCase):
         support.needs("mutool", "qpdf")
         with tempfile.TemporaryDirectory() as folder:
             path = Path(folder, "labels.pdf")
-            save_to(self.found, path, Silence())
+            save_to(self.found, path, Talk())
             words = ["mutool", "show", str(path), "trailer/Root/ViewerPreferences"]
             shown = subprocess.run(words, capture_output=True, check=True).stdout
             self.assertEqual(b"".join(shown.split()), b"<</PrintScaling/None>>")
@@ -116,7 +116,7 @@ class Pages(unittest.TestCase):
     def test_zpl_does_not_depend_on_what_others_have_set(self) -> None:
         """Its unit, a turn, a mirror, dots that are doubled, where it begins."""
         roll = planned(PrintOptions(paper=(60.0, 40.0), dpi=203, to="zpl"))
-        for label in documents_of(labels_of(roll, "lines", self.data, Silence())):
+        for label in documents_of(labels_of(roll, "lines", self.data, Talk())):
             head, _, _ = label.partition(b"^PW")
             self.assertEqual(head, b"^XA^MUD^PON^PMN^JMA^LH0,0^LS0")
 

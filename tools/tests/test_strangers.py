@@ -37,7 +37,6 @@ from labeltools.common.messages import (
     Cancelled,
     Problem,
     Remedy,
-    Silence,
     Talk,
     ToolError,
     UNEXPECTED,
@@ -367,7 +366,7 @@ class Bombs(unittest.TestCase):
         }
         for said, work in works.items():
             with self.assertRaisesRegex(TooMuch, said):
-                apart(Input("a.csv", 10, small), work, Silence())
+                apart(Input("a.csv", 10, small), work, Talk())
 
     def test_what_another_process_says(self) -> None:
         talk = mock.Mock(Talk)
@@ -450,7 +449,7 @@ class Rows(unittest.TestCase):
 
             options = table_options(table_parser().parse_args(["--code", "EAN", "--price", "P"]))
             with self.subTest(place), mock.patch.object(owner, method, broken):
-                made = lines_of_table(data, "a", options, Silence())
+                made = lines_of_table(data, "a", options, Talk())
             self.assertEqual((made.count, made.left_out), (2, (3,)))
 
     def test_a_label_that_cannot_be_laid_out(self) -> None:
@@ -464,7 +463,7 @@ class Rows(unittest.TestCase):
 
         job = planned(print_options(ROLL))
         with mock.patch("labeltools.designs.common_places.need_of", broken):
-            found = labels_of(job, "a", b"qr A\nqr B\nqr C\n", Silence())
+            found = labels_of(job, "a", b"qr A\nqr B\nqr C\n", Talk())
         self.assertEqual([item.record.number for item in found.prints], [1, 3])
         (left_out,) = found.left_out
         self.assertEqual(str(left_out.origin), "line 2")
@@ -477,7 +476,7 @@ class Rows(unittest.TestCase):
             prices = ("1,00", "1" + "\u0e35" * size, "9" * 9 * size, "2,00")
             data = support.file_of([(f"qr {price[:1]}", {"price": price}) for price in prices])
             begin = time.process_time()
-            found = labels_of(planned(print_options(ROLL)), "a", data, Silence())
+            found = labels_of(planned(print_options(ROLL)), "a", data, Talk())
             self.assertEqual([item.record.row for item in found.prints], [2, 3, 5])
             return time.process_time() - begin
 
@@ -526,7 +525,7 @@ class Rows(unittest.TestCase):
         """Its place stays empty, and the others have theirs."""
         support.labels_program()  # what is drawn needs the program and its library
         options = PrintOptions(stock="l7160", dpi=300, to="pbm")
-        found = labels_of(planned(options), "a", TICKETS, Silence())
+        found = labels_of(planned(options), "a", TICKETS, Talk())
         before = Pen.draw_modules
 
         def draw(pen: Pen, canvas: Any, modules: Any, symbol: Any, corner: Any) -> None:
@@ -535,10 +534,10 @@ class Rows(unittest.TestCase):
 
         outlets = Kept(), Kept()
         sender = Sender(found.job, outlets[0])
-        sender.send_all(found, Silence())
+        sender.send_all(found, Talk())
         with mock.patch.object(Pen, "draw_modules", draw):
             wrong = Sender(found.job, outlets[1])
-            wrong.send_all(found, Silence())
+            wrong.send_all(found, Talk())
         self.assertEqual([*wrong.progress.wrong], [2])
         self.assertEqual(wrong.progress.taken, sender.progress.taken - 1)
         dots = [pictures_of_pbm(b"".join(outlet.kept))[0] for outlet in outlets]
@@ -967,7 +966,7 @@ class Drawings(unittest.TestCase):
     def test_a_design_is_asked_once(self) -> None:
         with mock.patch.object(drawer, "result_of", side_effect=result_of) as answers:
             job = planned(print_options(["--design", self.page(60), "--paper", "60x60"]))
-            labels_of(job, "a", TICKETS, Silence())
+            labels_of(job, "a", TICKETS, Talk())
         self.assertEqual(answers.call_count, 1)
 
     def test_what_another_address_has_is_refused(self) -> None:
@@ -1021,7 +1020,7 @@ class Drawings(unittest.TestCase):
             [(f"qr {number}", {"title": title}) for number, title in enumerate(titles)]
         )
         words = ("--design", path, "--dpi", "203", "--to", "zpl", "--paper", "60x60")
-        found = labels_of(planned(print_options(words)), "a", data, Silence())
+        found = labels_of(planned(print_options(words)), "a", data, Talk())
         sizes = [item.texts[0].style.size for item in found.labels]
         self.assertEqual(len(sizes), 2)
         self.assertGreaterEqual(min(sizes) * 25.4 / 203, 3)
@@ -1030,8 +1029,8 @@ class Drawings(unittest.TestCase):
     def drawn(self, *words: str) -> None:
         """Draws a label."""
         job = planned(print_options(words))
-        found = labels_of(job, "a", TICKETS[:10], Silence())
-        press = found.press(Silence())
+        found = labels_of(job, "a", TICKETS[:10], Talk())
+        press = found.press(Talk())
         for part in press.batches(found.prints):
             press.document(part)
 

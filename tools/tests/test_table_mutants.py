@@ -19,7 +19,7 @@ from contextlib import contextmanager
 from typing import Callable, Iterator, Sequence
 
 import support
-from labeltools.common.messages import Silence, ToolError
+from labeltools.common.messages import Talk, ToolError
 from labeltools.tables.table import lines_of_table
 from labeltools.tables.table_options import ColumnOptions, TableOptions
 from table_test import BOOK, PENCIL, SMALL
@@ -193,7 +193,7 @@ def read_all(first: int, last: int) -> None:
         data = mutant(files, number)
         try:
             with in_time(SECONDS):
-                lines = lines_of_table(data, "x", OPTIONS, Silence())
+                lines = lines_of_table(data, "x", OPTIONS, Talk())
             if not lines.output.endswith(b"\n") or b'#{"end":1,' not in lines.output:
                 print(f"mutant {number}: no whole file")
             whole += 1

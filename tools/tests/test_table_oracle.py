@@ -23,7 +23,7 @@ from typing import Any, Callable, Iterator, NamedTuple
 from xml.etree import ElementTree
 
 import support
-from labeltools.common.messages import RowError, Silence
+from labeltools.common.messages import RowError, Talk
 from labeltools.sheets.cells import PRINTED, taken_of
 from labeltools.sheets.number_format import Formatter, Signs
 from labeltools.sheets.rows import Row
@@ -105,7 +105,7 @@ def ours(data: bytes) -> Sheet:
     formatter = Formatter(Signs(".", ","))
     cells: dict[tuple[int, int], Found] = {}
     hidden: set[int] = set()
-    for row in rows_of_workbook(data, "x", None, formatter, Silence()):
+    for row in rows_of_workbook(data, "x", None, formatter, Talk()):
         if row.is_hidden:
             hidden.add(row.number)
         for place in range(len(row.cells)):

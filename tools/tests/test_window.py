@@ -2063,7 +2063,7 @@ class WindowTest(Keeper):
         self.open()
         self.change(roll=True, dpi="600")
         queue = Queue("zebra", 203, {203: "203dpi", 600: "600dpi"})
-        self.window.ways.ask_queue((queue, {}))
+        self.window.ways.ask_queue(queue)
         self.until(self.problem)
         self.assertEqual(self.widgets.dpi.get_active_id(), "203")
 

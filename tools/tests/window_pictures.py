@@ -271,7 +271,7 @@ def show_questions(camera: Camera) -> None:
 
 def show_printers(camera: Camera) -> None:
     """Pictures of the list of printers and of the dialogs."""
-    from labeltools.sending.printers import MEDIA, TRAY
+    from labeltools.sending.queue import MEDIA, TRAY
     from labeltools.window.presets import ask_for_name
 
     window = camera.window

@@ -458,7 +458,7 @@ def check_journal(options: PrintOptions, journal: Journal) -> None:
         names = ", ".join(sorted(journal.printers())) or Text("nothing")
         what = Text("{} has no label of {}", journal.path, options.again)
         raise ToolError(what, Text("the journal has these printers: {}", names))
-    if journal.has_others:
+    if journal.base.has_others:
         what = Text("other users may read or write {}, and stop it", journal.path)
         line = shell_line(["chmod", "go=", journal.path])
         write_message(TOOL, sentence(what, Text("{} makes it private", line)))

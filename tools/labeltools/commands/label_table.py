@@ -20,7 +20,6 @@ from labeltools.common.messages import (
     Problem,
     quoted,
     Remedy,
-    Silence,
     Talk,
     ToolError,
     visible,
@@ -273,9 +272,7 @@ OPTIONS: Mapping[str, Sequence[Option]] = {
 }
 
 
-def has_option(name: str) -> bool:
-    """Returns whether an option has a name."""
-    return any(option.name == name for options in OPTIONS.values() for option in options)
+NAMES_OF_OPTIONS = frozenset(option.name for options in OPTIONS.values() for option in options)
 
 
 def table_parser() -> Parser:
@@ -390,7 +387,7 @@ def show_commands(commands: Sequence[Sequence[str]], guess: Guess, data: bytes, 
     words = {place: column_word(guess.names, place) for place in guess.amounts}
     unused = [place for place, word in words.items() if asked.isdisjoint((word, str(place + 1)))]
     proposed = Proposed(ways, [words[place] for place in unused])
-    labels = read_apart(first_labels, data, name, proposed, Silence())
+    labels = read_apart(first_labels, data, name, proposed, Talk())
     for command, shown in zip(commands, labels.of_ways):
         print(visible(shell_line([TOOL, *command])), file=sys.stderr)
         for label in shown:
@@ -455,7 +452,7 @@ def guess_of_sheets(data: bytes, name: str, options: TableOptions) -> tuple[str,
     raises `ToolError`, which offers only those that have some.
     """
     try:
-        return "", guess_of(data, name, options, Silence())
+        return "", guess_of(data, name, options, Talk())
     except ToolError as error:
         found = guesses_of_sheets(data, name, options, error)
         if len(found) == 1:
@@ -475,7 +472,7 @@ def guesses_of_sheets(
         if remedy.option == "sheet":
             file = replace(options.file, sheet=remedy.value)
             with suppress(ToolError):
-                guess = guess_of(data, name, replace(options, file=file), Silence())
+                guess = guess_of(data, name, replace(options, file=file), Talk())
                 if any(reading.are_sure for reading in guess.codes.values()):
                     found[remedy.value] = guess
     return found

@@ -200,7 +200,7 @@ class Origin(NamedTuple):
 
 class Talk:
     """Who is told while work goes on. A command writes what it is told on standard error, a window
-    shows it.
+    shows it, and this one keeps it to itself.
     """
 
     def note(self, origin: Origin, cell: str, problem: Problem) -> None:
@@ -213,10 +213,6 @@ class Talk:
         """Called often in long work, of which `done` of `total` is done (0: not known); may raise
         `Cancelled`.
         """
-
-
-class Silence(Talk):
-    """A talk to nobody."""
 
 
 def write_message(tool: str, message: Text) -> None:

@@ -18,7 +18,7 @@ import gi
 
 from labeltools.common.apart import apart, Ended, Input, Pipe, result_of, told
 from labeltools.common.budget import PAGE, PAGE_MEMORY, PAGE_SECONDS
-from labeltools.common.messages import Silence, ToolError
+from labeltools.common.messages import Talk, ToolError
 from labeltools.common.text import Text
 
 Told = TypeVar("Told")
@@ -207,7 +207,7 @@ class PageProcess:
             self.process = self.process or begun()
             try:
                 Pipe(fileno_of(self.process.stdin)).tell("ask", work, drawing, *more)
-                answer: Told = result_of(fileno_of(self.process.stdout), Silence())
+                answer: Told = result_of(fileno_of(self.process.stdout), Talk())
             except Ended as error:
                 seconds, memory = (share.most(0) for share in (PAGE_SECONDS, PAGE_MEMORY))
                 most = (seconds, memory // PAGE_MEMORY.unit)
@@ -257,7 +257,7 @@ def main() -> None:
             return
         source = Input(drawing.file, len(drawing.data), PAGE)
         try:
-            answer = apart(source, lambda _: work(drawing, *more), Silence())
+            answer = apart(source, lambda _: work(drawing, *more), Talk())
             output.tell("result", answer)
         except ToolError as error:
             output.tell("error", error)

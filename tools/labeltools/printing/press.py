@@ -14,7 +14,6 @@ from labeltools.common.messages import (
     fault_of,
     Problem,
     Remedy,
-    Silence,
     Talk,
     ToolError,
     UNEXPECTED,
@@ -165,7 +164,7 @@ def faults_of(design: Design, labels: Sequence[Record], on: Setting) -> dict[int
     found = {}
     for label in labels:
         try:
-            design.lay_out([label], on, Silence())
+            design.lay_out([label], on, Talk())
         except (ToolError, OSError, MemoryError):
             raise
         except Exception as error:
@@ -257,11 +256,6 @@ class Batch:
 
     pages: Sequence[Page]
     items: Sequence[LaidOut]
-
-    @property
-    def label_count(self) -> int:
-        """How many labels it has."""
-        return len(self.items)
 
 
 class WrongLabels(ToolError):
@@ -391,7 +385,7 @@ class Press:
                 document = Document(file.read(), part.pages)
         else:
             picture = drawn_page(self.job.plan.page, self.pen, part.pages[0], self.turn)
-            copies = part.label_count if form == ZPL else 1
+            copies = len(part.items) if form == ZPL else 1
             data = self.dots_in_form(picture, is_first, copies)
             document = Document(data, part.pages, copies, picture)
         self.comparison.check(document)
@@ -401,7 +395,7 @@ class Press:
         """Yields pages, and says before each one how many labels are drawn."""
         done = 0
         for page in part.pages:
-            self.talk.go_on(done, part.label_count)
+            self.talk.go_on(done, len(part.items))
             yield page
             done += len(page)
 

@@ -71,11 +71,6 @@ class Journal:
         self.turn = 0  # how many labels the run has sent
         self.run = 0  # its number, from its first label on
 
-    @property
-    def has_others(self) -> bool:
-        """Whether other users than its owner may read or write it."""
-        return self.base.has_others
-
     def claim(self, record: Record) -> bool:
         """Writes that the label of a line is sent, and returns whether it is for this run: False if
         the journal has its code, other than to be sent again. Raises `ToolError` if it cannot be

@@ -16,7 +16,7 @@ from pathlib import Path
 from typing import Any, IO
 
 from labeltools.common.files import save_file, temporary, Unwritten, write_whole
-from labeltools.common.messages import Problem, Remedy, Silence, ToolError
+from labeltools.common.messages import Problem, Remedy, Talk, ToolError
 from labeltools.common.process import standard_output
 from labeltools.common.signals import hold_signals
 from labeltools.common.text import NOTHING, Text
@@ -62,7 +62,7 @@ class Outlet:
     is_kept = False
     is_collected = False
     came: Sized = ()
-    say: Callable[[Problem], object] = Silence().say
+    say: Callable[[Problem], object] = Talk().say
 
     def open(self) -> Any:
         """Returns the way out, which is another one once it was made again after a good end; raises

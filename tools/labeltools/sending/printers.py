@@ -2,7 +2,6 @@
 used before, and those on USB.
 """
 
-import os
 from collections.abc import Iterator, Mapping
 from contextlib import suppress
 from dataclasses import dataclass
@@ -13,7 +12,7 @@ from labeltools.common.messages import ToolError
 from labeltools.common.text import Text
 from labeltools.drawing.forms import PDF
 from labeltools.printing.job import is_direct
-from labeltools.sending.cups import connection, cups_library, queues
+from labeltools.sending.cups import connection, queues
 from labeltools.sending.job import trouble_of
 from labeltools.sending.network import is_in_network, SCHEME
 
@@ -25,7 +24,6 @@ NOT_TRIED = Text("not tried yet")
 LOST = Text("not found")
 PROCESSING = 4  # of a printer in IPP
 RAW = "Raw"  # what CUPS calls a queue that has no driver
-TRAY, MEDIA = "InputSlot", "MediaType"  # options of drivers for where the paper is, and its kind
 Known = Mapping[str, Mapping[str, str]]  # what is kept of printers, by their keys
 
 
@@ -102,26 +100,3 @@ def default_queue() -> str:
     with suppress(ToolError):
         return connection().getDefault() or ""
     return ""
-
-
-def choices_of(queue: str) -> Mapping[str, Mapping[str, str]]:
-    """Returns the trays and the kinds of paper that the driver of a queue offers: for each of its
-    options what is shown, by the word for CUPS. A choice between one thing is none.
-    """
-    found: dict[str, Mapping[str, str]] = {}
-    with suppress(ToolError):
-        cups = cups_library()
-        try:
-            path = connection().getPPD(queue)
-        except cups.IPPError:  # it has no driver
-            return found
-        try:
-            driver = cups.PPD(path)
-        finally:
-            os.unlink(path)
-        for name in (TRAY, MEDIA):
-            option = driver.findOption(name)
-            choices = option.choices if option else []
-            if len(choices) > 1:
-                found[name] = {choice["choice"]: choice["text"] for choice in choices}
-    return found

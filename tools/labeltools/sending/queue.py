@@ -63,6 +63,7 @@ ADD_QUEUE = Text("add it in the settings of printers, or print past CUPS")
 PAST_CUPS = (Remedy("print", "/dev/usb/lp0"), Remedy("print", "tcp://HOST"))
 NETWORK = ("socket", "ipp", "ipps", "http", "https", "lpd")  # devices with a host
 USB = "/dev/usb/lp0"
+TRAY, MEDIA = "InputSlot", "MediaType"  # options of drivers for where the paper is, and its kind
 
 
 @dataclass(frozen=True)
@@ -70,7 +71,8 @@ class Queue:
     """A queue of CUPS: its name, the dots an inch that it prints if nothing is asked for (0: not
     known), and the word of its driver for each resolution; the dots across and down, where these
     are no multiple of each other; its papers; the options of its driver that leave pages as they
-    are, and those that are set to change pages.
+    are, and those that are set to change pages; the trays and the kinds of paper of which its
+    driver offers several: for each of its options what is shown, by the word for CUPS.
     """
 
     name: str
@@ -83,6 +85,7 @@ class Queue:
     common: int = 0
     changing: Mapping[str, str] = field(default_factory=dict)
     has_driver: bool = False
+    choices: Mapping[str, Mapping[str, str]] = field(default_factory=dict)
 
     def dpi_for(self, is_sheet: bool) -> int:
         """Returns the dots an inch of labels that are printed here, 0 if they are not known. Sheets
@@ -226,6 +229,11 @@ def queue_of(name: str, chosen: Mapping[str, str] = NOTHING_CHOSEN) -> Queue:
     driver.markDefaults()
     for option, value in chosen.items():
         driver.markOption(option, value)
+    choices = {
+        name: {choice["choice"]: choice["text"] for choice in option.choices}
+        for name in (TRAY, MEDIA)
+        if (option := driver.findOption(name)) and len(option.choices) > 1
+    }
     own = dots_of(driver)
     papers = papers_of_driver(text)
     plain, changing = page_options(driver, {*SETS_DOTS.findall(text)}, papers.is_office)
@@ -234,7 +242,8 @@ def queue_of(name: str, chosen: Mapping[str, str] = NOTHING_CHOSEN) -> Queue:
     device = attributes.get("device-uri", "")
     uneven = UNKNOWN if dpi else own
     common = 0 if dpi or words else common_dots(text)
-    return Queue(name, dpi, words, uneven, papers, plain, device, common, changing, True)
+    about = plain, device, common, changing, True, choices
+    return Queue(name, dpi, words, uneven, papers, *about)
 
 
 def attributes_of_queue(name: str) -> Mapping[str, Any]:

@@ -77,7 +77,7 @@ class Sender:
                 self.is_off = self.is_off or isinstance(known, (Broken, Unreachable))
                 self.do_between_labels(self.close_well)
                 raise ended from error
-            self.progress.done += part.label_count
+            self.progress.done += len(part.items)
             talk.go_on(self.progress.done - found.job.options.after, len(found.prints))
         if self.progress.wrong and not self.progress.taken:
             raise ToolError(NOTHING_OUT)
@@ -96,7 +96,7 @@ class Sender:
         that it has left; nothing if it has broken off or has a trouble. Raises `Broken`.
         """
         self.outlet.close()
-        left = self.watch.left if self.watch.is_stuck else 0
+        left = self.watch.answer.left if self.watch.is_stuck else 0
         if self.journal is not None and left is not None and not self.is_off:
             self.journal.write_printed(left)
 
@@ -115,8 +115,7 @@ class Sender:
         if self.unasked < self.asked_after:
             return
         self.unasked = 0
-        answer = self.watch.ask()
-        left = answer.left if answer else None
+        left = self.watch.ask().left
         if self.journal is not None and left is not None:
             self.journal.write_printed(left + 1 if left else 0)
 
@@ -180,7 +179,7 @@ class Sender:
             return 0
         self.give_label(record, document, is_last)
         self.is_off = False
-        self.progress.taken += part.label_count
+        self.progress.taken += len(part.items)
         self.unasked += 1
         if not self.outlet.is_kept:
             self.progress.on_way += part.items

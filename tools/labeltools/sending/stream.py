@@ -33,7 +33,7 @@ from typing import BinaryIO, Iterator, Sequence
 from labeltools.common.budget import LINE_OF_STREAM, SINGLE_LINE, too_much
 from labeltools.common.messages import (
     fault_of,
-    Silence,
+    Talk,
     ToolError,
     UNEXPECTED,
     visible,
@@ -297,7 +297,7 @@ class Stream:
         """
         is_turned = found.laid_out.area.is_turned
         if is_turned not in self.presses:
-            self.presses[is_turned] = found.press(Silence())
+            self.presses[is_turned] = found.press(Talk())
         press = self.presses[is_turned]  # with its fonts
         size = 0
         copies = [*press.batches(found.prints)]  # those of ESC/POS go out one by one
@@ -343,8 +343,8 @@ class Stream:
             name = translated(Text("line {}", numbers[-1]))
             raise too_much(name, LONGEST_LINE, SINGLE_LINE, LINE_OF_STREAM)
         read = b"".join(lines_read)
-        lines = drawn_lines(read, self.name, self.options.is_escaped, Silence(), numbers)
-        found = prepared(self.job, lines, Silence(), self.pens, False)
+        lines = drawn_lines(read, self.name, self.options.is_escaped, Talk(), numbers)
+        found = prepared(self.job, lines, Talk(), self.pens, False)
         if found.left_out:
             raise ToolError.of(found.left_out[0].problem)
         if not found.labels:

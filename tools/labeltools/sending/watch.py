@@ -17,6 +17,7 @@ SLOWEST = 5.0  # seconds more
 KNOWN_DPI = (152, 203, 300, 600)  # of 6, 8, 12 and 24 dots a millimetre
 ROUNDED = 0.1  # by which these differ from what is typed for them, such as 200 dpi
 LOOKS = 0.1, 0.5  # seconds between two questions, at first and later
+NOTHING_SAID = Reply()
 
 
 class Watch:
@@ -29,7 +30,7 @@ class Watch:
         self.outlet = outlet
         self.dpi = dpi
         self.question = QUERIES.get(form)
-        self.answer: Reply | None = None
+        self.answer = NOTHING_SAID
 
     def report_before(self, talk: Talk) -> None:
         """Says what is wrong with a printer before anything is sent, and what it has of before;
@@ -37,7 +38,7 @@ class Watch:
         """
         with suppress(Broken):  # of nothing that was sent
             self.answer = self.ask()
-        if self.answer is None:
+        if self.answer is NOTHING_SAID:
             self.question = None
             return
         name = self.outlet.name
@@ -77,12 +78,11 @@ class Watch:
         before = self.answer
         while self.question is not None:
             self.answer = answer = self.ask()
-            if answer is None or answer.left is None:  # nobody knows how many it has left
+            if answer.left is None:  # nobody knows how many it has left
                 return
             if answer.is_empty or answer.troubles:
                 return
-            has_moved = before is None or answer.left != before.left
-            if has_moved:
+            if answer.left != before.left:
                 before = answer
                 end = time.monotonic() + IDLE
             if self.outlet.came or time.monotonic() > min(end, last):
@@ -90,44 +90,32 @@ class Watch:
             time.sleep(pause)
             pause = min(2 * pause, longest)
 
-    def ask(self) -> Reply | None:
+    def ask(self) -> Reply:
         """Returns what the printer answers. One that does not answer is asked no more: what it says
         later may be of before. Raises `Broken`.
         """
         answer = self.outlet.ask(self.question) if self.question else None
         if answer is None:
             self.question = None
-        return answer
-
-    @property
-    def left(self) -> int | None:
-        """How many labels it said last that it has left."""
-        return self.answer.left if self.answer else None
-
-    @property
-    def is_printed(self) -> bool:
-        """Whether the printer says that it has printed all labels."""
-        return self.answer is not None and self.answer.is_empty
+        return answer or NOTHING_SAID
 
     @property
     def is_stuck(self) -> bool:
         """Whether the printer says that it does not print what it has."""
-        answer = self.answer
-        return answer is not None and bool(answer.troubles or answer.left) and not self.outlet.came
+        return bool(self.answer.troubles or self.answer.left) and not self.outlet.came
 
     def report_of_sent(self, labels: Text) -> Text:
         """Returns what is reported of labels that were sent."""
         name = self.outlet.name
-        if self.is_printed:
+        if self.answer.is_empty:
             return Text("{} printed by {}", labels, name)
         return joined("; ", (Text("{} sent to {}", labels, name), *self.troubles))
 
     @property
     def troubles(self) -> Sequence[Text]:
         """What the printer has left, and what keeps it from printing."""
-        answer = self.answer or Reply()
-        left = left_text(answer.left) if answer.left else NOTHING
-        return [*filter(None, (left, *(trouble.line for trouble in answer.troubles)))]
+        left = left_text(self.answer.left) if self.answer.left else NOTHING
+        return [*filter(None, (left, *(trouble.line for trouble in self.answer.troubles)))]
 
 
 def left_text(count: int) -> Text:

@@ -92,20 +92,18 @@ AS_TEXT = Text("enter it again as text")
 class Special:
     """A cell of a spreadsheet that is more than a text.
 
-    `value` is what the file has, which messages quote. Each method raises `RowError` where the cell
-    has nothing of the kind.
+    `value` is what the file has, which messages quote; `number` is what it counts, whatever its
+    format shows, None where it has none. Each method raises `RowError` where the cell has nothing
+    of the kind.
     """
 
     value: str
+    number: Decimal | None = None
 
     @property
     def cell_kind(self) -> CellKind:
         """What it is by its type."""
         return CellKind.TEXT
-
-    def number(self) -> Decimal | None:
-        """Returns the number that it has, whatever its format shows; None where it has none."""
-        return None
 
     def shown(self) -> str:
         """Returns the text that the spreadsheet shows."""
@@ -265,7 +263,7 @@ def taken_of(cell: Special, use: Use) -> str:
     kind = cell.cell_kind
     if kind not in use.kinds:
         raise RowError(IS_TRUTH if kind is CellKind.TRUTH else use.of_moment, AS_TEXT)
-    if use is PRICE and (cell.number() or 0) < 0:
+    if use is PRICE and (cell.number or 0) < 0:
         raise RowError(Text("is below zero, though its number format may not show it"))
     if use in (DIGITS, DATA):
         return cell.digits(use is DATA)

@@ -179,7 +179,8 @@ def delimiter_of(text: str, begin: int, given: str | None, options: CsvOptions) 
     if not is_cut and (later := delimiter_of_names(text, begin, options)):
         return later
     is_quoted = text[begin : begin + 100].lstrip("\r\n").startswith('"')
-    may_be_data = options.may_have_delimiter and best != "\t"
+    is_single_text = options.is_free and set(options.asked) == {"1"}
+    may_be_data = is_single_text and best != "\t"
     if is_cut and (is_quoted or not may_be_data):
         return best
     first = LINE.match(text, begin)

@@ -36,8 +36,3 @@ class CsvOptions:
     file: FileOptions
     asked: Sequence[str]
     is_free: bool
-
-    @property
-    def may_have_delimiter(self) -> bool:
-        """Whether a delimiter may be data: only the first column is wanted, with any text."""
-        return self.is_free and set(self.asked) == {"1"}

@@ -71,23 +71,19 @@ PLAINLY_SHOWN = re.compile(r"[0-9.,'’\s]+(?:E[+][0-9]+)?")
 class OdsNumber(Special):
     """A cell with a number, a date or a time, and the text that is shown.
 
-    `exact` is its number, None for a date; `moment` is the date as the file has it.
+    `number` is its number, None for a date; `moment` is the date as the file has it.
     """
 
     value: str
     text: str
-    exact: Decimal | None
+    number: Decimal | None = field()  # not the default of other cells
     moment: str
     formatter: Formatter
     cell_kind: CellKind = CellKind.NUMBER
 
-    def number(self) -> Decimal | None:
-        """Returns the number that it has."""
-        return self.exact
-
     def agree(self) -> None:
         """Raises `RowError` where the text has a number without a value, or is cut off."""
-        if self.exact is None and self.cell_kind is CellKind.NUMBER and self.text:
+        if self.number is None and self.cell_kind is CellKind.NUMBER and self.text:
             what = Text("has a number without its value, and the text {}", quoted(self.text))
             raise RowError(what, SAVE_AGAIN)
         if self.text and not self.text.strip("#"):  # the column of the cell is narrow
@@ -105,11 +101,11 @@ class OdsNumber(Special):
     def digits(self, is_data: bool) -> str:
         """Returns the digits as they are shown, or else those of the number, but not as data."""
         self.agree()
-        if self.exact is None or not PLAINLY_SHOWN.fullmatch(self.text):
+        if self.number is None or not PLAINLY_SHOWN.fullmatch(self.text):
             what = Text("is shown as {}, which is not a whole number", quoted(self.text))
             raise RowError(what, AS_TEXT)
         is_whole = self.text.isdecimal()
-        digits = digits_of("0", self.exact)  # none where the number has more than a file keeps
+        digits = digits_of("0", self.number)  # none where the number has more than a file keeps
         digits = digits.zfill(len(self.text)) if is_whole else digits
         if (is_data or is_whole) and digits != self.text:
             what = Text("is shown as {}, and would be drawn as {}", quoted(self.text), digits)

@@ -136,7 +136,7 @@ class XlsxNumber(Special):
     """A cell with a number, or several that are alike; what is worked out once is kept."""
 
     value: str
-    exact: Decimal
+    number: Decimal = field()  # not the default of other cells
     number_format: str
     book: Book
     is_moment: bool | None = None
@@ -147,18 +147,14 @@ class XlsxNumber(Special):
     def cell_kind(self) -> CellKind:
         """What it is by its format; a number may be shown as a date or a time."""
         if self.is_moment is None:
-            self.is_moment = number_format.is_of_time(self.number_format, self.exact)
+            self.is_moment = number_format.is_of_time(self.number_format, self.number)
         return CellKind.MOMENT if self.is_moment else CellKind.NUMBER
-
-    def number(self) -> Decimal | None:
-        """Returns the number that it has."""
-        return self.exact
 
     def shown(self) -> str:
         """Returns the number as its format shows it."""
         if not self.text:
             book = self.book
-            shown = book.formatter.formatted(self.number_format, self.exact, book.is_from_1904)
+            shown = book.formatter.formatted(self.number_format, self.number, book.is_from_1904)
             self.text = shown
         return self.text
 
@@ -174,7 +170,7 @@ class XlsxNumber(Special):
 
     def digits(self, is_data: bool) -> str:
         """Returns the digits of a whole number; as data it is shown so."""
-        return number_format.digits_of(self.number_format, self.exact, is_data)
+        return number_format.digits_of(self.number_format, self.number, is_data)
 
 
 def rows_of_xlsx(

@@ -275,7 +275,10 @@ def wrong_length(digits: str, asked: Sequence[str], rules: CodeRules) -> RowErro
     """Returns the error of a number with other digits than its symbology has, and what to do."""
     count = len(digits)
     missing = rules.digits == NO_CHECK_DIGIT
-    lengths = joined(", ", (code_length(name, missing) for name in asked))
+    of_kinds = (
+        Text("{} has {}", SYMBOLOGIES[name].title, LENGTHS[name] - missing) for name in asked
+    )
+    lengths = joined(", ", of_kinds)
     what = counted("{1} has {0} digit, {2}", "{1} has {0} digits, {2}", count, digits[:20], lengths)
     is_auto = rules.symbology == AUTO
     may_miss = count + 1 in NUMBERS and not missing
@@ -297,11 +300,6 @@ def wrong_length(digits: str, asked: Sequence[str], rules: CodeRules) -> RowErro
     hint, remedies = next((hint, remedies) for is_so, hint, remedies in helps if is_so)
     kind = OtherCode if remedies is OTHER_CODES else RowError
     return kind(what, hint, remedies=remedies)
-
-
-def code_length(name: str, missing: bool) -> Text:
-    """Returns how many digits codes of a symbology have."""
-    return Text("{} has {}", SYMBOLOGIES[name].title, LENGTHS[name] - missing)
 
 
 def wrong_check_digit(filled: str, count: int, rules: CodeRules) -> WrongDigit:

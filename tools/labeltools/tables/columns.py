@@ -118,7 +118,7 @@ class Column:
         if isinstance(cell, str) or not NUMBER.fullmatch(value):
             return False
         is_number = cell.cell_kind is CellKind.NUMBER
-        return is_number and Decimal(value.replace(",", ".")) == cell.number()
+        return is_number and Decimal(value.replace(",", ".")) == cell.number
 
 
 class Start(NamedTuple):

@@ -243,7 +243,7 @@ class DraftReader:
         if not text:
             return ""
         cell = row.cells[column.place]
-        number = None if isinstance(cell, str) else cell.number()
+        number = None if isinstance(cell, str) else cell.number
         rules = self.options.prices
         try:
             may_be_month = number is None and len(text) in MONTH_LENGTHS and MONTH.fullmatch(text)

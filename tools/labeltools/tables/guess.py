@@ -13,7 +13,7 @@ from dataclasses import dataclass, field, replace
 from itertools import islice, takewhile, zip_longest
 
 from labeltools.common.budget import LOOKED_AT, NAMES_LOOKED_AT, Share
-from labeltools.common.messages import Silence, Talk
+from labeltools.common.messages import Talk
 from labeltools.sheets.cells import FORMULA_OF_TEXT
 from labeltools.sheets.rows import Row
 from labeltools.tables.choices import (
@@ -108,7 +108,7 @@ def names_of(data: bytes, name: str, options: TableOptions) -> Sequence[str]:
     """Returns the names of the columns of a table alone; raises `ToolError` where it cannot be
     read.
     """
-    start = head_of(data, name, options, Silence())
+    start = head_of(data, name, options, Talk())
     if options.file.header_row is None:
         rows = [start.row, *sample_of(start, len(data), NAMES_LOOKED_AT)]
         return guessed_header(rows).names

@@ -117,10 +117,6 @@ class Money:
     def __str__(self) -> str:
         return self.text
 
-    def with_thousands(self) -> "Money":
-        """Returns an open price whose sign is that of thousands."""
-        return replace(self, is_open=False)
-
     def with_three_decimals(self) -> "Money":
         """Returns an open price whose sign is the decimal one."""
         value = self.value / 1000
@@ -135,7 +131,7 @@ class Money:
         """
         if not self.is_open:
             return self
-        readings = self.with_thousands(), self.with_three_decimals()
+        readings = replace(self, is_open=False), self.with_three_decimals()
         return min(readings, key=lambda reading: abs(reading.value - number))
 
 

@@ -4,7 +4,7 @@ import re
 from collections import Counter
 from collections.abc import Sequence
 from contextlib import suppress
-from dataclasses import dataclass, field
+from dataclasses import dataclass, field, replace
 from decimal import Decimal, ROUND_HALF_UP
 from functools import cache
 
@@ -127,7 +127,7 @@ class PriceColumn:
         if not self.point:
             raise NotMoney(THOUSANDS_OR_DECIMALS, WHICH_SIGN, remedies=DECIMAL_SIGNS)
         if self.point != price.group:
-            return price.with_thousands()
+            return replace(price, is_open=False)  # its sign is that of thousands
         if not self.has_three_decimals and price.currency not in WITH_THREE_DECIMALS:
             what = Text(
                 "has three digits after {}, which is the decimal sign of its column", price.group

@@ -143,4 +143,4 @@ def is_of_table(remedy: Remedy) -> bool:
     """Returns whether a remedy is an option of label-table, not of label-print; it may have no
     value here.
     """
-    return table_command.has_option(f"--{remedy.option}")
+    return f"--{remedy.option}" in table_command.NAMES_OF_OPTIONS

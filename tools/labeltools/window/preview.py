@@ -6,7 +6,7 @@ from typing import Any
 
 import cairo
 
-from labeltools.common.messages import Silence
+from labeltools.common.messages import Talk
 from labeltools.drawing.dots import drawn_surface
 from labeltools.drawing.pen import Pen
 from labeltools.layout.layout import Page
@@ -43,7 +43,7 @@ class Preview:
         self.count = max(1, job.pages_of(len(self.prints)))  # of pages
         screen = Medium(job.plan.dpi, not job.form.is_drawn, is_smooth=job.form.is_drawn)
         pen = Pen(screen, Letters(job.options.font), job.design)
-        self.press = Press(job, labels.laid_out, [pen], Silence())
+        self.press = Press(job, labels.laid_out, [pen], Talk())
 
     def cell_at(self, x: float, y: float) -> int:
         """Returns the number of the cell at a place of a page, from 1; 0 for none."""

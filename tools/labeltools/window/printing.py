@@ -14,7 +14,8 @@ from labeltools.common.text import whole_sentence
 from labeltools.printing.job import is_direct
 from labeltools.printing.press import Prepared
 from labeltools.printing.selection import ranges_in
-from labeltools.sending.printers import MEDIA, Printer, TRAY
+from labeltools.sending.printers import Printer
+from labeltools.sending.queue import MEDIA, TRAY
 from labeltools.window.gtk import do_soon, Gio, GLib, Gtk
 from labeltools.window.memory import PRINTERS
 from labeltools.window.rows import labels_of_rows, parts_in, Rows

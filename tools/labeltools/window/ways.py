@@ -16,7 +16,7 @@ from labeltools.common.text import counted, joined, Text, translated, whole_sent
 from labeltools.printing.press import Prepared
 from labeltools.sending.job import AWAY, JobState, print_by_cups, SentJob, UnknownJob
 from labeltools.sending.outcomes import Unfinished
-from labeltools.sending.printers import choices_of, Printer, QUEUE
+from labeltools.sending.printers import Printer, QUEUE
 from labeltools.sending.queue import Queue, queue_of
 from labeltools.sending.sender import save_to, send_labels_to
 from labeltools.window.bar import ERROR, Event, INFO, SUCCESS, WARNING
@@ -246,15 +246,14 @@ class WaysOut:
         elif printer.way == QUEUE:
             key, talk = printer.key, WindowTalk(pressed=self.ask_and_print)
             work = self.window.work.begin_work
-            work(lambda _talk: (queue_of(key), choices_of(key)), self.ask_queue, talk)
+            work(lambda _talk: queue_of(key), self.ask_queue, talk)
         else:
             self.ask_direct(printer)
 
-    def ask_queue(self, found: tuple[Queue, Options]) -> None:
+    def ask_queue(self, queue: Queue) -> None:
         """Asks what is printed on a queue. If it has other dots than the labels, they are made for
         these, to be looked at.
         """
-        queue, options = found
         self.window.work.talk.pressed = None  # it is asked now
         job = self.window.made.labels.job
         dpi = queue.dpi_for(not job.plan.sheet.is_single) or job.plan.dpi
@@ -263,10 +262,10 @@ class WaysOut:
             what = Text("{} prints at {} dpi: the labels are drawn for it now", queue.name, dpi)
             self.window.take_values(dpi=str(dpi))
             self.window.make(problem=ToolError(what, Text("check them, and print again")))
-        elif printer and (wanted := self.ask_what_is_printed(printer, options)):
+        elif printer and (wanted := self.ask_what_is_printed(printer, queue.choices)):
             if not wanted.is_trial:
                 kept = PRINTERS.all().get(printer.key, {})
-                others = {name: word for name, word in kept.items() if name not in options}
+                others = {name: word for name, word in kept.items() if name not in queue.choices}
                 PRINTERS.keep(printer.key, {**others, **wanted.options})
             name = self.window.of_printers.shown_name(queue.name)
             way = partial(queued, queue, wanted.options, name)
@@ -378,7 +377,7 @@ def direct_sent(printer: str, name: str, labels: Prepared, talk: WindowTalk) -> 
     talk.printer = name
     sender = send_labels_to(labels, printer, talk, talk.stops)
     count, wrong = sender.progress.taken, sender.progress.wrong
-    if sender.watch.is_printed:
+    if sender.watch.answer.is_empty:
         return Sent(None, printed_on(count, name), wrong, SUCCESS)
     parts = sent_to(count, name), *map(whole_sentence, sender.watch.troubles)
     return Sent(None, joined(" ", parts), wrong, WARNING if sender.watch.is_stuck else INFO)
