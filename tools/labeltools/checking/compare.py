@@ -362,19 +362,21 @@ def modules_with_guards(wanted: Wanted) -> tuple[int, int, bytes]:
     rows = packed if symbol.rows > 1 else packed * where.high
     if symbol.symbology not in GUARDS:
         return where.wide, where.high, rows
-    digits = guards_of(symbol.symbology, symbol.quiet_zones[0], where.wide)
-    guards = int(digits.ljust(8 * len(packed), "0"), 2) & int.from_bytes(packed, "big")
-    rows += guards.to_bytes(len(packed), "big") * LONGER
+    size = len(packed)
+    guards = guards_of(symbol.symbology, symbol.quiet_zones[0], size) & int.from_bytes(
+        packed, "big"
+    )
+    rows += guards.to_bytes(size, "big") * LONGER
     return where.wide, where.high + LONGER, rows
 
 
 @cache
-def guards_of(symbology: str, left: int, wide: int) -> str:
-    """Returns a row with the modules of longer guards, behind a quiet zone, as digits."""
-    found = ["0"] * wide
-    for first, end in GUARDS[symbology]:
-        found[left + first : left + end] = "1" * (end - first)
-    return "".join(found)
+def guards_of(symbology: str, left: int, size: int) -> int:
+    """Returns a row of some bytes with the modules of longer guards, behind a quiet zone, as the
+    number that it is.
+    """
+    behind = 8 * size - left
+    return sum((1 << behind - first) - (1 << behind - end) for first, end in GUARDS[symbology])
 
 
 def wrong(wanted: Wanted, dot: float) -> Different:

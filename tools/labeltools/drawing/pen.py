@@ -64,7 +64,7 @@ class Pen:
         self.options = font_options(medium.is_dots)
         self.fitter = Fitter(letters, medium.is_dots)
         self.digits_face = digits_face(medium.is_dots)
-        large = self.digits_in_size(font_options(False), LARGE)
+        large = in_size(self.digits_face, LARGE, font_options(False))
         extents = large.text_extents("0")
         self.digit_width = extents.x_advance / LARGE
         self.digit_height = -extents.y_bearing / LARGE
@@ -75,11 +75,6 @@ class Pen:
         self.glyphs = lru_cache(KNOWN)(self.new_glyphs)
         self.price_parts = lru_cache(KNOWN)(partial(fitted_price, fitter=self.fitter))
         self.recorded_white = cache(self.new_recorded_white)  # Cairo empties one that is let go
-
-    def digits_in_size(self, options: cairo.FontOptions, size: int) -> Any:
-        """Returns the font of digits in a size."""
-        scale = cairo.Matrix(size, 0, 0, size)
-        return cairo.ScaledFont(self.digits_face, scale, cairo.Matrix(), options)
 
     def draw(self, canvas: Any, page: Page, turn: int = 0) -> None:
         """Draws labels in the areas that begin at their places, turned to the right where the width
@@ -249,14 +244,11 @@ class Pen:
         else:
             self.show_text(canvas, text, style, corner)
 
-    def new_font(self, family: str, is_bold: bool, size: int) -> cairo.ScaledFont:
-        """Returns a font in a size."""
+    def new_font(self, family: str, is_bold: bool, size: int) -> Any:
+        """Returns the font that Pango takes for letters of a size."""
         weight = cairo.FONT_WEIGHT_BOLD if is_bold else cairo.FONT_WEIGHT_NORMAL
         face = cairo.ToyFontFace(family, cairo.FONT_SLANT_NORMAL, weight)
-        asked = asked_size(family, size)
-        return cairo.ScaledFont(
-            face, cairo.Matrix(asked, 0, 0, asked), cairo.Matrix(), self.options
-        )
+        return in_size(face, asked_size(family, size), self.options)
 
     def new_glyphs(self, text: Fitted, style: Style) -> list[Glyph]:
         """Returns the glyphs of a text where Pango has its letters, from the place on where it
@@ -345,7 +337,7 @@ class Pen:
 
     def new_digits(self, size: int) -> tuple[dict[str, int], float]:
         """Returns the glyphs of digits in a size, and how far each one is from the next."""
-        font = self.digits_in_size(self.options, size)
+        font = in_size(self.digits_face, size, self.options)
         glyphs = {digit: font.text_to_glyphs(0, 0, digit, False)[0].index for digit in DIGITS}
         return glyphs, font.text_to_glyphs(0, 0, "00", False)[1].x
 
@@ -374,6 +366,11 @@ class Pen:
 
 
 show_layout = PangoCairo.show_layout
+
+
+def in_size(face: cairo.FontFace, size: int, options: cairo.FontOptions) -> Any:
+    """Returns the font of a face in a size."""
+    return cairo.ScaledFont(face, cairo.Matrix(size, 0, 0, size), cairo.Matrix(), options)
 
 
 def off_white(colour: Colour) -> Colour:

@@ -2,9 +2,9 @@
 
 import re
 from binascii import hexlify
-from functools import lru_cache, reduce
+from functools import lru_cache
 from itertools import repeat
-from operator import ne, or_
+from operator import ne
 from typing import Iterator, NamedTuple
 
 from labeltools.paper.picture import Picture, rows_reader
@@ -81,11 +81,9 @@ def blocks(picture: Picture, block: Block, is_narrow: bool) -> Iterator[Block]:
         yield from bands
         return
     for band in bands:
-        rows = {*block_rows(picture, band)}
-        dots = [int.from_bytes(row, "big") for row in rows]
-        inked = reduce(or_, dots).to_bytes(band.right - band.left, "big")
+        inked = inked_columns(picture, band)
         parts = [*INKED.finditer(inked)]
-        is_split = len(parts) == 1 and len(rows) >= MANY
+        is_split = len(parts) == 1 and len({*block_rows(picture, band)}) >= MANY
         if is_split:
             parts = [*INKED_OF_MANY.finditer(inked)]
         for first, last in map(re.Match.span, parts):
@@ -94,6 +92,14 @@ def blocks(picture: Picture, block: Block, is_narrow: bool) -> Iterator[Block]:
                 yield found
             else:
                 yield from blocks(picture, found, is_split)
+
+
+def inked_columns(picture: Picture, block: Block) -> bytes:
+    """Returns for each column of a block whether it has ink, as 1 or 0."""
+    left, top, right, bottom = block
+    rows = picture.packed[top * picture.stride : bottom * picture.stride]
+    columns = [rows[column :: picture.stride] for column in range(left, right)]
+    return bytes(map(ne, columns, repeat(bytes(bottom - top))))
 
 
 def bands_of(picture: Picture, block: Block) -> Iterator[Block]:
