@@ -255,10 +255,12 @@ class Pen:
         begins; none where a letter is of another font, or the text is shown as shapes.
         """
         letters = text.layout.get_text()
+        is_shape = self.medium.is_dots or style.family in self.medium.outlines
+        if is_shape or style.struck or not is_simple(letters):
+            return []
         font = self.font(style.family, style.is_bold, text.size)
         numbers = [glyph.index for glyph in font.text_to_glyphs(0, 0, letters, False)]
-        is_shape = self.medium.is_dots or style.family in self.medium.outlines
-        if is_shape or style.struck or not is_simple(letters) or not all(numbers):
+        if not all(numbers):
             return []
         line = text.layout.get_line_readonly(0)
         base = text.layout.get_baseline() / UNIT

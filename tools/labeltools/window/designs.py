@@ -174,7 +174,8 @@ def drawn_label(digits: float, price: tuple[float, float], bars: tuple[float, fl
     for place in BARS:
         canvas.rectangle(left + place, top, 1 + place % 2, high)
     canvas.fill()
-    canvas.select_font_face("Liberation Sans", cairo.FONT_SLANT_NORMAL, cairo.FONT_WEIGHT_BOLD)
+    # Cairo keeps a face as it was first used, so that of pages has another name
+    canvas.select_font_face("Liberation Sans ", cairo.FONT_SLANT_NORMAL, cairo.FONT_WEIGHT_BOLD)
     canvas.set_font_size(digits)
     canvas.move_to(*price)
     canvas.show_text("2,95")
