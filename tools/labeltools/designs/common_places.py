@@ -4,12 +4,11 @@ where that cannot be for those of a symbology, or for one label.
 
 from collections import Counter, defaultdict
 from dataclasses import dataclass
-from functools import cache
-from typing import Iterator, Mapping, Sequence
+from functools import cache, partial
+from typing import Hashable, Iterable, Iterator, Mapping, Sequence
 
 from labeltools.common.messages import Talk
 from labeltools.designs.templates import best_places, has_places
-from labeltools.designs.too_small import largest_of
 from labeltools.layout.area import Area
 from labeltools.layout.layout import ASKED
 from labeltools.layout.letters import Letters
@@ -20,6 +19,8 @@ from labeltools.layout.symbol_room import symbol_boxes
 from labeltools.lines.file import Record
 
 Places = tuple[Place, ...]
+# what needs that have the same places have in common: nothing, if these suit all
+ALIKE = ((), ("symbology",), ("code",), Need._fields)
 
 
 @dataclass(frozen=True)
@@ -60,51 +61,36 @@ def places_for(
 
 
 def found_places(counted: Needs, area: Area) -> FoundPlaces:
-    """Returns the same places for all needs; one that they do not suit has those of its symbology,
-    of its code, or some of its own, which are found when they are asked for.
+    """Returns the same places for all needs; those that they do not suit have others with needs of
+    their symbology, of their code, or by themselves.
     """
-    fitting = counted
-    common = best_places(area, fitting) if fitting else ()
-    if not common:
-        fitting = fitting_needs(area, counted)
-        common = best_places(area, fitting) if fitting else ()
-
-    @cache
-    def of_symbology(name: str) -> Places:
-        return best_places(area, {need: n for need, n in fitting.items() if need.symbology == name})
-
-    @cache
-    def of_code(code: tuple[str, int, int]) -> Places:
-        return best_places(area, {need: n for need, n in fitting.items() if need.code == code})
-
-    def sets(need: Need) -> Iterator[Places]:
-        yield common
-        yield of_symbology(need.symbology)
-        yield of_code(need.code)
-        yield best_places(area, {need: fitting[need]})
-
-    @cache
-    def has_room(places: Places, code: tuple[str, int, int]) -> bool:
-        return any(place.part == "code" and symbol_boxes(place, area, code) for place in places)
-
-    found = {}
-    for need in fitting:
-        if places := next((places for places in sets(need) if has_room(places, need.code)), None):
-            found[need] = places
+    best = cache(lambda needs: best_places(area, {need: counted[need] for need in needs}))
+    fitting = [*counted]
+    if fitting and not best(tuple(fitting)):
+        fits = cache(lambda need: has_places(area, {need: 1}))
+        fitting = [need for need in counted if fits(alone(need))]
+    found: dict[Need, Places] = {}
+    for names in ALIKE:
+        for needs in groups_of((need for need in fitting if need not in found), names):
+            places = best(tuple(needs))
+            found.update(dict.fromkeys(suited(places, needs, area), places))
     return FoundPlaces(area, found, tuple(need for need in counted if need not in found))
 
 
-def fitting_needs(area: Area, counted: Needs) -> Needs:
-    """Returns the needs that have places by themselves."""
-    groups: dict[tuple[str, int, int], list[Need]] = defaultdict(list)
-    for need in counted:
-        groups[need.code].append(need)
-    fits = cache(lambda need: has_places(area, {need: 1}))
-    found = {}
-    for needs in groups.values():
-        is_all = fits(alone(largest_of(needs)))
-        found.update({need: counted[need] for need in needs if is_all or fits(alone(need))})
-    return found
+def suited(places: Places, needs: Iterable[Need], area: Area) -> Iterator[Need]:
+    """Yields the needs for whose codes places have room."""
+    for place in places:
+        if place.part == "code":
+            has_room = cache(partial(symbol_boxes, place, area))
+            yield from (need for need in needs if has_room(need.code))
+
+
+def groups_of(needs: Iterable[Need], names: Sequence[str]) -> list[list[Need]]:
+    """Returns needs in groups of which some fields are the same."""
+    groups: dict[Hashable, list[Need]] = defaultdict(list)
+    for need in needs:
+        groups[tuple(getattr(need, name) for name in names)].append(need)
+    return [*groups.values()]
 
 
 def alone(need: Need) -> Need:

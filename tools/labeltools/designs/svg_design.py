@@ -21,7 +21,7 @@ from xml.etree.ElementTree import Element
 
 from labeltools.common.messages import BAD_ARGUMENTS, Problem, Remedy, ToolError
 from labeltools.common.text import Text
-from labeltools.designs.drawer import ask, Drawing, PageArea, places_in
+from labeltools.designs.drawer import ask, Drawer, Drawing, light, lines, PageArea, places_in
 from labeltools.designs.place_names import place_of, title_of
 from labeltools.designs.svg_page import (
     drawing_of,
@@ -109,13 +109,24 @@ class SvgDesign:
         hidden += [f".group-{number}" for number, key in enumerate(self.groups) if key in absent]
         return f"{','.join(hidden)}{{display:none!important}}"
 
+    def drawing(self, scale: float, absent: frozenset[str]) -> Drawing:
+        """Returns what is alike on labels without some parts, in so many units a millimetre."""
+        return Drawing(self.page.file, self.page.data, self.sheet(absent), self.area(scale))
+
     def draw(self, canvas: Any, scale: float, absent: frozenset[str]) -> None:
-        """Draws what is alike on labels without some parts, in so many units a millimetre."""
-        self.page.draw(canvas, self.area(scale), self.sheet(absent))
+        """Draws it as lines; raises `ToolError` where that takes too much: the other process draws
+        the same first.
+        """
+        drawing = self.drawing(scale, absent)
+        left, top, wide, high = drawing.area
+        ask(lines, drawing, left + wide, top + high)
+        Drawer(drawing).draw(canvas)
 
     def light(self, scale: float, absent: frozenset[str], wide: int, high: int) -> bytes:
-        """Returns how light each of some dots of it is, so many a millimetre."""
-        return self.page.light(self.area(scale), self.sheet(absent), wide, high)
+        """Returns how light each of some dots of it is, so many a millimetre: a byte, 0 for black.
+        Raises `ToolError` where that takes too much.
+        """
+        return ask(light, self.drawing(scale, absent), wide, high)
 
     def seen(self, absent: frozenset[str]) -> Seen:
         """Returns the drawing without some parts as it is looked at."""

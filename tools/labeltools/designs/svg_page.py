@@ -13,26 +13,14 @@ import zlib
 from base64 import b64decode
 from dataclasses import dataclass
 from io import BytesIO
-from typing import Any, NamedTuple
+from typing import NamedTuple
 from xml.etree import ElementTree
 from xml.etree.ElementTree import Element
 
 from labeltools.common.budget import check_size, DOTS, PAGE
 from labeltools.common.messages import OF_SYSTEM, Remedy, ToolError
 from labeltools.common.text import NOTHING, Text
-from labeltools.designs.drawer import (
-    ask,
-    DPI,
-    Drawer,
-    Drawing,
-    light,
-    lines,
-    PageArea,
-    PageSides,
-    PLAIN,
-    SAVE_AGAIN,
-    sides,
-)
+from labeltools.designs.drawer import DPI, Drawing, PageSides, PLAIN, SAVE_AGAIN, sides
 from labeltools.paper.stock import Size
 
 SPACE = "{http://www.w3.org/2000/svg}"
@@ -72,20 +60,6 @@ class SvgPage:
     size: Size
     is_real: bool
     tags: frozenset[str]
-
-    def light(self, area: PageArea, sheet: str, wide: int, high: int) -> bytes:
-        """Returns how light each of some dots is with all of it in an area: a byte, 0 for black.
-        Raises `ToolError` where that takes too much.
-        """
-        return ask(light, Drawing(self.file, self.data, sheet, area), wide, high)
-
-    def draw(self, canvas: Any, area: PageArea, sheet: str) -> None:
-        """Draws all of it as lines; raises `ToolError` where that takes too much: the other process
-        draws the same first.
-        """
-        drawing = Drawing(self.file, self.data, sheet, area)
-        ask(lines, drawing, area.x + area.width, area.y + area.height)
-        Drawer(drawing).draw(canvas)
 
     def check_dots(self, wide: int, high: int) -> None:
         """Raises `ToolError` for a drawing in more dots than any printer's label has."""

@@ -48,7 +48,7 @@ def reason(needs: Sequence[Need], area: Area) -> Problem:
             min(modules) * area.dot,
             taken,
         )
-    found = smallest_for(largest_of(needs), area, max(wide, area.width))
+    found = smallest_for(reduce(Need.joined, needs), area, max(wide, area.width))
     larger = Text("take a larger label")
     if found:
         larger = Text("take a label of at least {}", size_text(found))
@@ -58,11 +58,6 @@ def reason(needs: Sequence[Need], area: Area) -> Problem:
     if not is_wide:
         hints.append(Text("less text"))
     return Problem(what, joined(", ", hints))
-
-
-def largest_of(needs: Sequence[Need]) -> Need:
-    """Returns a need that fits only where each of these does."""
-    return reduce(Need.joined, needs)
 
 
 def smallest_for(need: Need, area: Area, width: int) -> Size | None:

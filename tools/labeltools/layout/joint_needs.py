@@ -77,7 +77,7 @@ class JointNeeds:
         self.widths: dict[frozenset[str], float] = {}
         self.rooms_of_titles: dict[int, list[float]] = {}
         self.price_height = max(need.price_height for need in needs)
-        priced = [need for need in needs if need.price > 0]
+        priced = [need for need in needs if need.price_width("price") > 0]
         self.prices = {
             style: common_value(
                 counts_of((need.price_width(style), needs[need]) for need in priced)

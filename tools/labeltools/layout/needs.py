@@ -45,11 +45,6 @@ class Need(NamedTuple):
         """What is of the code alone."""
         return self.symbology, self.width, self.height
 
-    @property
-    def price(self) -> float:
-        """The width of its price in plain letters."""
-        return self.prices[0]
-
     def price_width(self, style: str) -> float:
         """Returns the width of its price in a style."""
         return self.prices[STYLE_NUMBERS[style]]
