@@ -14,7 +14,7 @@ from labeltools.common.messages import quoted, ToolError
 from labeltools.common.text import Text
 from labeltools.layout.fitting import height_of, LINE_END, Style
 from labeltools.layout.layout import PlacedText
-from labeltools.layout.letters import Letters, Sign
+from labeltools.layout.letters import is_simple, Letters, Sign
 from labeltools.layout.needs import common_value, HINTING, hinting_of, LEAST_TEXT, LINE
 from labeltools.layout.place import Place, PRICES
 from labeltools.paper.box import Box
@@ -29,7 +29,6 @@ LOW = 0.5  # of the size of letters: signs with lower ink, as hyphens, are as be
 LETTER = "H"
 HIGHEST = "Åg"  # of usual letters
 MOST_LINES = 20  # of a text in a place
-BALANCED = 6  # rooms that are tried so that the lines of a text are about equally long
 PARTED = 64  # paragraphs whose parts are kept: they are wrapped in several sizes of letters
 KEPT = 16384  # texts of which the sizes and places are kept: more take too much memory
 ENLARGE = Text("enlarge it")
@@ -116,41 +115,42 @@ class Wrapping:
         """Returns the parts of a paragraph behind which lines may end. A price is one part."""
         if self.place.part in PRICES:
             return [Part(paragraph, self.sign(paragraph.rstrip(" "), letters).advance, 0.0)]
-        blank = letters.steps[self.place.is_bold](" ")
+        step = letters.steps[self.place.is_bold]
+        are_apart = is_simple(paragraph)
         found = []
         for text in letters.wrapping_parts(paragraph):
             bare = text.rstrip(" ")
-            wide = self.sign(bare, letters).advance
-            found.append(Part(text, wide, blank * (len(text) - len(bare))))
+            wide = sum(map(step, bare)) if are_apart else self.sign(bare, letters).advance
+            found.append(Part(text, wide, step(" ") * (len(text) - len(bare))))
         return found
 
 
 def balanced(parts: Sequence[Part], room: float) -> list[str]:
-    """Returns the lines of a paragraph: no more than a room needs, and about equally long, so that
-    no word is on a line by itself that has room beside others.
+    """Returns the lines of a paragraph: no more than a room needs, the widest as short as can be,
+    so that no word is on a line by itself that has room beside others.
     """
-    starts = starts_in(parts, room)
-    least = room / len(starts)
-    for _ in range(BALANCED if len(starts) > 1 else 0):
-        tried = (least + room) / 2
-        found = starts_in(parts, tried)
-        if len(found) == len(starts):
-            room, starts = tried, found
-        else:
-            least = tried
+    starts, widest = lines_within(parts, room)
+    while len(starts) > 1:
+        narrower, wide = lines_within(parts, math.nextafter(widest, 0.0))
+        if len(narrower) > len(starts) or wide >= widest:
+            break
+        starts, widest = narrower, wide
     lines = zip(starts, [*starts[1:], len(parts)])
     return ["".join([part.text for part in parts[first:end]]).rstrip(" ") for first, end in lines]
 
 
-def starts_in(parts: Sequence[Part], room: float) -> list[int]:
-    """Returns the parts that lines begin with in a room."""
-    starts, used = [0], 0.0
+def lines_within(parts: Sequence[Part], room: float) -> tuple[list[int], float]:
+    """Returns the parts that lines begin with in a room, and the width of the widest line."""
+    starts, used, widest = [0], 0.0, 0.0
     for number, (_, wide, behind) in enumerate(parts):
         if used and used + wide > room:
             starts.append(number)
             used = 0.0
-        used += wide + behind
-    return starts
+        used += wide
+        if used > widest:
+            widest = used
+        used += behind
+    return starts, widest
 
 
 class SetRoom(Wrapping):
