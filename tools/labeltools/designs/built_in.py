@@ -7,7 +7,7 @@ from typing import Iterator, Mapping, Sequence
 
 from labeltools.common.messages import Talk
 from labeltools.designs.common_places import places_for
-from labeltools.designs.design import Below, Setting
+from labeltools.designs.design import Design, Setting
 from labeltools.designs.fit import SetRoom
 from labeltools.designs.templates import TITLE_INK
 from labeltools.designs.too_small import reasons
@@ -15,7 +15,6 @@ from labeltools.layout.area import Area
 from labeltools.layout.fitting import LEFT, side_of
 from labeltools.layout.layout import LaidOut, LaidOutFile, PlacedSymbol, PlacedText
 from labeltools.layout.letters import Letters
-from labeltools.layout.medium import Medium
 from labeltools.layout.needs import HINTING, STYLE_NUMBERS, styles_from
 from labeltools.layout.place import Place
 from labeltools.layout.price import base_of_price, KEPT, price_widths, shape_of
@@ -24,9 +23,10 @@ from labeltools.lines.file import Record
 from labeltools.paper.box import Box
 
 BETWEEN = "   "  # parts on one line
+NOTHING_ABSENT = frozenset[str]()  # no drawing is below a label
 
 
-class BuiltIn:
+class BuiltIn(Design):
     """A built-in design: what its labels are for is a wish of their area."""
 
     def lay_out(self, labels: Sequence[Record], on: Setting, talk: Talk) -> LaidOutFile:
@@ -45,14 +45,6 @@ class BuiltIn:
                 placed.append(FilledLabel(label, filled[places]))
         return LaidOutFile(tuple(placed), found.area, left_out)
 
-    def printed(self, labels: Sequence[Record], on: Setting) -> Mapping[int, Sequence[str]]:
-        """Returns all texts of labels."""
-        return {label.number: label.texts for label in labels}
-
-    def below(self, medium: Medium) -> Below:
-        """Returns that nothing is below."""
-        return Below()
-
 
 class FilledLabel(LaidOut):
     """A label in the places of a template: its parts are made as often as they are asked for, and
@@ -65,6 +57,7 @@ class FilledLabel(LaidOut):
     def __init__(self, record: Record, places: "FilledPlaces") -> None:
         object.__setattr__(self, "record", record)
         object.__setattr__(self, "places", places)
+        object.__setattr__(self, "absent", NOTHING_ABSENT)
 
     @property
     def symbols(self) -> tuple[PlacedSymbol, ...]:
@@ -79,11 +72,6 @@ class FilledLabel(LaidOut):
     def words(self) -> Iterator[PlacedText]:
         """Yields its texts but for prices."""
         return self.places.words(self.record)
-
-    @property
-    def absent(self) -> frozenset[str]:
-        """Nothing: no drawing is below it."""
-        return frozenset()
 
     @property
     def is_small_price(self) -> bool:

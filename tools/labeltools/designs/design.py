@@ -1,6 +1,7 @@
 """What a design does with labels: each built-in one, and a page of SVG."""
 
-from typing import Any, Mapping, NamedTuple, Protocol, Sequence
+from abc import ABC, abstractmethod
+from typing import Any, Mapping, NamedTuple, Sequence
 
 from labeltools.common.messages import Talk
 from labeltools.layout.area import Area
@@ -33,9 +34,12 @@ class Below:
         return False
 
 
-class Design(Protocol):
-    """How labels look."""
+class Design(ABC):
+    """How labels look: all their texts are in letters and nothing is below them, unless a design
+    says otherwise.
+    """
 
+    @abstractmethod
     def lay_out(self, labels: Sequence[Record], on: Setting, talk: Talk) -> LaidOutFile:
         """Returns labels as they are laid out, why others are left out, and what is said of all;
         raises what `talk.go_on` does.
@@ -45,6 +49,8 @@ class Design(Protocol):
         """Returns the texts of labels that are printed in letters, by the numbers of their
         lines.
         """
+        return {label.number: label.texts for label in labels}
 
     def below(self, medium: Medium) -> Below:
         """Returns what is below the symbols and texts of labels."""
+        return Below()

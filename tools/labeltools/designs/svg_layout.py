@@ -12,7 +12,7 @@ from typing import Iterator, Mapping, NamedTuple, Sequence
 from labeltools.common.messages import Problem, Remedy, Talk, ToolError
 from labeltools.common.text import Text
 from labeltools.designs.background import Background
-from labeltools.designs.design import Below, Setting
+from labeltools.designs.design import Below, Design, Setting
 from labeltools.designs.fit import ENLARGE, NoRoom, Room
 from labeltools.designs.svg_design import mixed_text, NEAR, SvgDesign, UNREAD
 from labeltools.layout.area import LARGEST_MODULE
@@ -85,7 +85,7 @@ def keys_of_columns(
     return keys, names
 
 
-class SvgLabels:
+class SvgLabels(Design):
     """What the design of a file does with labels: its drawing, and then what differs."""
 
     def __init__(self, design: SvgDesign) -> None:
