@@ -76,7 +76,7 @@ class FilledLabel(LaidOut):
     @property
     def is_small_price(self) -> bool:
         """Whether its price is smaller than those of others."""
-        return self.places.has_small_price(self.record.price)
+        return self.places.is_small(shape_of(self.record.price, self.places.letters))
 
 
 class FilledPlaces:
@@ -172,13 +172,11 @@ class FilledPlaces:
         was = self.rooms["was"].text(label.was, len(label.was.encode()))
         yield was._replace(style=was.style._replace(base=base))
 
-    def has_small_price(self, price: str) -> bool:
-        """Returns whether a price is smaller than others."""
-        return "price" in self.rooms and self.is_small(shape_of(price, self.letters))
-
     def new_is_small(self, shape: str) -> bool:
         """Returns whether prices of a shape are smaller than others."""
-        room = self.rooms["price"]
+        room = self.rooms.get("price")
+        if room is None:
+            return False
         widths = price_widths(shape, self.letters)
         wide = min(widths[STYLE_NUMBERS[style]] for style in styles_from(room.place.price_style))
         return HINTING * room.size * wide > room.box.width + room.size / 4

@@ -11,7 +11,7 @@ from importlib import import_module
 from io import BytesIO
 from pathlib import Path
 from threading import Lock
-from typing import Any, Callable, IO, Iterator, NamedTuple, Sequence, TypeVar
+from typing import Any, Callable, Iterator, NamedTuple, Sequence, TypeVar
 
 import cairo
 import gi
@@ -205,9 +205,11 @@ class PageProcess:
             return work(drawing, *more)
         with self.lock:
             self.process = self.process or begun()
+            question, answering = self.process.stdin, self.process.stdout
+            assert question and answering
             try:
-                Pipe(fileno_of(self.process.stdin)).tell("ask", work, drawing, *more)
-                answer: Told = result_of(fileno_of(self.process.stdout), Talk())
+                Pipe(question.fileno()).tell("ask", work, drawing, *more)
+                answer: Told = result_of(answering.fileno(), Talk())
             except Ended as error:
                 seconds, memory = (share.most(0) for share in (PAGE_SECONDS, PAGE_MEMORY))
                 most = (seconds, memory // PAGE_MEMORY.unit)
@@ -235,11 +237,6 @@ def begun() -> "subprocess.Popen[bytes]":
     command = (sys.executable, "-I", "-B", "-c", START, TOOLS)
     pipe, null = subprocess.PIPE, subprocess.DEVNULL
     return subprocess.Popen(command, stdin=pipe, stdout=pipe, stderr=null)
-
-
-def fileno_of(stream: IO[bytes] | None) -> int:
-    """Returns the number of a pipe of a process."""
-    return stream.fileno() if stream else -1
 
 
 def main() -> None:

@@ -138,11 +138,14 @@ class SvgDesign:
             self.looked_at[absent] = Seen(self.light(scale, absent, wide, high), wide, scale)
         return self.looked_at[absent]
 
-    def colours(self, absent: frozenset[str]) -> dict[Place, Colour]:
-        """Returns the colours of letters in places on the drawing without some parts."""
+    def coloured(self, absent: frozenset[str]) -> dict[Place, Place]:
+        """Returns the places of texts on the drawing without some parts, with the colours of
+        letters there.
+        """
         seen = self.seen(absent)
-        texts = (place for place in self.places if not place.is_symbol)
-        return {place: colour_on(place, seen.behind(place, 0.0)) for place in texts}
+        texts = [place for place in self.places if not place.is_symbol]
+        colours = (colour_on(place, seen.behind(place, 0.0)) for place in texts)
+        return {place: replace(place, colour=colour) for place, colour in zip(texts, colours)}
 
     def mixed(self, absent: frozenset[str], least: float, most: float) -> list[Place]:
         """Returns the places of texts in which that part of the drawing is of the rarer kind, light
@@ -206,9 +209,8 @@ def design_in(drawing: Drawing, cell: Size, white: Edges, turn: bool | None) -> 
     for absent in {frozenset[str](), frozenset(groups)}:
         check_white(design, design.seen(absent))
     said = tuple(design_remarks(design, smaller, edges))
-    colours = design.colours(frozenset())
-    coloured = (replace(place, colour=colours.get(place, BLACK)) for place in cut)
-    return replace(design, places=tuple(coloured), remarks=said)
+    coloured = design.coloured(frozenset())
+    return replace(design, places=tuple(coloured.get(place, place) for place in cut), remarks=said)
 
 
 def fitting_turn(page: OpenPage, cell: Size, turn: bool | None) -> bool:

@@ -4,7 +4,6 @@ module that their place takes. Lengths are in dots.
 
 import math
 from collections import Counter
-from dataclasses import replace
 from functools import cache, lru_cache
 from itertools import combinations, compress, repeat
 from typing import Iterator, Mapping, NamedTuple, Sequence
@@ -121,7 +120,7 @@ class SvgLayouts:
         self.boxes = {place: place.box_in(self.area) for place in self.places}
         self.boxes_of = cache(self.new_boxes)
         self.unread = cache(lambda absent: self.design.mixed(absent, UNREAD, 0.5))
-        self.coloured = cache(self.new_coloured)
+        self.coloured = cache(self.design.coloured)
 
     def lay_out(self, labels: Sequence[Record], talk: Talk) -> LaidOutFile:
         """Returns labels with their layouts, why others are left out, and what is said of all."""
@@ -197,7 +196,7 @@ class SvgLayouts:
         """Returns a label whose texts are those of a row as it is laid out; raises `NoRoom`."""
         texts = []
         symbols = []
-        unread, coloured = self.unread(absent), self.coloured(absent)
+        unread = self.unread(absent)
         for place, text in zip(self.places, row):
             if not text:
                 continue
@@ -205,7 +204,8 @@ class SvgLayouts:
                 raise NoRoom(mixed_text(self.design.page.file, place.title))
             if place in rooms:
                 placed = rooms[place].text(short(text))
-                texts.append(placed._replace(place=coloured[place]) if absent else placed)
+                own = self.coloured(absent)[place] if absent else place
+                texts.append(placed._replace(place=own))
                 continue
             symbology, modules, data = label.kind, label.modules, label.data
             if place.symbology:
@@ -218,11 +218,6 @@ class SvgLayouts:
             how = (data, modules, symbology, module, boxes)
             symbols.append(PlacedSymbol(place, self.boxes[place], *how))
         return LaidOut(label, tuple(symbols), tuple(texts), absent)
-
-    def new_coloured(self, absent: frozenset[str]) -> Mapping[Place, Place]:
-        """Returns the places of texts on the drawing without some parts, with their colours."""
-        colours = self.design.colours(absent) if absent else {}
-        return {place: replace(place, colour=colour) for place, colour in colours.items()}
 
     def new_boxes(
         self, place: Place, name: str, width: int, height: int

@@ -320,17 +320,13 @@ class Filling:
         shown = math.pow(code, power["code" if code < 1 else "more"])
         return worth * shown * math.pow(room.mean, power["module"])
 
-    @property
-    def has_only_words_beside(self) -> bool:
-        """Whether words are beside the code, and no numbers."""
-        return self.has_words_beside and not NUMBERS & self.side
-
     def places(self, found: Filled) -> tuple[Place, ...]:
         """Returns the places of what is filled."""
         is_middle = self.template.kind == "below"
         words, numbers = (MIDDLE, MIDDLE) if is_middle else (LEFT, RIGHT)
         price = RIGHT if found.was else numbers
-        block = 0.5 if self.has_only_words_beside else 0.0
+        has_only_words_beside = self.has_words_beside and not NUMBERS & self.side
+        block = 0.5 if has_only_words_beside else 0.0
         dot = self.area.dot
         how: dict[str, dict[str, Any]] = {
             "code": {"across": words, "module": self.room.module * dot, "size": 0},

@@ -19,7 +19,8 @@ def need_of(label: Record, letters: Letters) -> Need:
     word = text = was = unit = 0.0
     if label.head:
         of_title = letters.of(label.head)
-        title = title_widths(label.head, of_title)
+        widths = [of_title.width(line, True) for line in label.head.split("\n") if line]
+        title = tuple([rounded_up(width, ROUNDED) for width in widths])
         word = longest_word(label.head, of_title)
     if lines:
         of_text = letters.of(label.body)
@@ -43,12 +44,6 @@ def need_of(label: Record, letters: Letters) -> Need:
         was,
         unit,
     )
-
-
-def title_widths(title: str, letters: Letters) -> tuple[float, ...]:
-    """Returns the widths of the lines of a title."""
-    widths = [letters.width(line, True) for line in title.split("\n") if line]
-    return tuple([rounded_up(width, ROUNDED) for width in widths])
 
 
 def longest_word(title: str, letters: Letters) -> float:
