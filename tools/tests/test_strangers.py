@@ -35,6 +35,7 @@ from labeltools.common.apart import apart, Input, result_of
 from labeltools.common.budget import CSV, Kind, MEGABYTE, MEMORY, Share, TABLE, TooMuch
 from labeltools.common.messages import (
     Cancelled,
+    Origin,
     Problem,
     Remedy,
     Talk,
@@ -466,7 +467,7 @@ class Rows(unittest.TestCase):
             found = labels_of(job, "a", b"qr A\nqr B\nqr C\n", Talk())
         self.assertEqual([item.record.number for item in found.prints], [1, 3])
         (left_out,) = found.left_out
-        self.assertEqual(str(left_out.origin), "line 2")
+        self.assertEqual(left_out.origin, Origin("", "line", 2))
 
     def test_prices_of_any_length(self) -> None:
         """One that no paper takes leaves out its label, at once."""
@@ -1024,7 +1025,7 @@ class Drawings(unittest.TestCase):
         sizes = [item.texts[0].style.size for item in found.labels]
         self.assertEqual(len(sizes), 2)
         self.assertGreaterEqual(min(sizes) * 25.4 / 203, 3)
-        self.assertEqual([str(left.origin) for left in found.left_out], ["row 3"])
+        self.assertEqual([left.origin for left in found.left_out], [Origin("", "row", 3)])
 
     def drawn(self, *words: str) -> None:
         """Draws a label."""

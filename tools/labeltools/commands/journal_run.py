@@ -58,11 +58,11 @@ def settle(journal: Journal, options: PrintOptions, is_printed: bool) -> int:
     return 0 if count else 1
 
 
-def record_of(code: bytes, entry: Entry) -> Record:
+def record_of(code: str, entry: Entry) -> Record:
     """Returns the label of a journal, as far as it chooses labels."""
-    symbology, _, data = code.partition(b" ")
+    symbology, _, data = code.partition(" ")
     number = entry.origin.number
-    return Record(number=number, symbology=symbology.decode(), data=unescaped(data))
+    return Record(number=number, symbology=symbology, data=unescaped(data.encode()))
 
 
 def require_clear(only: Selection, found: list[Entry]) -> None:

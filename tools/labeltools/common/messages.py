@@ -189,9 +189,6 @@ class Origin(NamedTuple):
     unit: str  # `row` or `line`
     number: int
 
-    def __str__(self) -> str:
-        return str(self.text)
-
     @property
     def text(self) -> Text:
         """What a message calls it."""

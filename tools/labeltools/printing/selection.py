@@ -77,7 +77,7 @@ def names_of_code(record: Record) -> set[bytes]:
     """Returns how the code of a line may be named: its data, of a number without its check digit
     too, of UPC-A as EAN-13 too; and as a journal has it, with its symbology.
     """
-    whole = record.code_line
+    whole = record.code_line.encode("utf-8", "replace")
     if record.symbology not in ("ean13", "ean8", "upca"):
         return {record.data, whole}
     _, number = record.key

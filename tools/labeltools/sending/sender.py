@@ -47,7 +47,7 @@ class Sender:
         self.way: object = None
         self.asked_after = ASKED_AFTER
         self.unasked = 0  # labels that the printer has taken since it was asked what it has left
-        self.known: set[bytes] = set()  # the codes that the journal had
+        self.known: set[str] = set()  # the codes that the journal had
         self.is_at_end = False  # whether standard output takes no more
         self.is_off = False  # whether the way out broke off, or is not there any more
 
@@ -208,7 +208,7 @@ class Sender:
                 self.journal.give_up()
             raise Broken.of(known.problem, known.status) from error
 
-    def end_run(self) -> Mapping[bytes, Entry]:
+    def end_run(self) -> Mapping[str, Entry]:
         """Ends the run, and returns what is in doubt in the journal; nothing if that cannot be
         read, which is an error of the label before.
         """
@@ -229,15 +229,14 @@ class Sender:
             return NOTHING
         code = record.code_line
         if code in self.doubtful_codes():
-            words = code.decode()
-            hint = Text("then write #printed {} or #missing {}", words, words)
+            hint = Text("then write #printed {} or #missing {}", code, code)
             return sentence(may_be_missing(entry.printer), hint)
         if not self.journal or not self.journal.is_sending(entry):
             return NOTHING  # it was taken meanwhile
         what = Text("{} is sending it", entry.printer)
         return sentence(what, Text("send the line again to see whether it was taken"))
 
-    def doubtful_codes(self) -> Mapping[bytes, Entry]:
+    def doubtful_codes(self) -> Mapping[str, Entry]:
         """Returns the codes of labels of which it is not known whether they are on paper; none if
         the journal cannot be read, which is an error of the label before.
         """
@@ -245,23 +244,23 @@ class Sender:
             return self.journal.doubtful() if self.journal else {}
         return {}
 
-    def doubts(self, doubtful: Mapping[bytes, Entry]) -> Iterator[Text]:
+    def doubts(self, doubtful: Mapping[str, Entry]) -> Iterator[Text]:
         """Yields messages that name all labels in doubt, those of a printer together, and the
         commands that settle them.
         """
-        printers: dict[str, list[bytes]] = {}
+        printers: dict[str, list[str]] = {}
         for code, entry in doubtful.items():
             printers.setdefault(entry.printer, []).append(code)
         places = {record.code_line: record.origin for record in self.records if printers}
         for printer, codes in printers.items():
             here = [places[code] for code in codes if code in places]
-            others = [code.decode() for code in codes if code not in places]
+            others = [code for code in codes if code not in places]
             named = [places_text(here, self.progress.has_tables)] if here else []
             named += [Text("{}, of another input", few(others))] if others else []
             yield Text("{}: {}", joined("; ", named), may_be_missing(printer))
             words = ["--print", printer]
             if len(codes) == 1:
-                words = ["--only-code", codes[0].decode()]
+                words = ["--only-code", codes[0]]
             ranges = ranges_of(sorted(place.number for place in here))
             if self.progress.is_clear and not others and len(ranges) <= MOST_RANGES:
                 words = ["--only", ",".join(range_words(ranges))]

@@ -286,8 +286,8 @@ class Stream:
         """
         journal = self.sender.journal
         text = code.decode("utf-8", "backslashreplace")
-        entry = journal.doubtful().get(code) if journal else None
-        if journal is None or entry is None or not journal.settle(code, entry, word == PRINTED):
+        entry = journal.doubtful().get(text) if journal else None
+        if journal is None or entry is None or not journal.settle(text, entry, word == PRINTED):
             return REFUSED, Text("{} is not in doubt", text)
         return SETTLES[word], Text("{}", text)
 
