@@ -403,10 +403,7 @@ def all_labels(job: Job, talk: CommandTalk) -> Prepared:
     except OSError:
         raise
     except Exception as error:
-        known = expected(error, ToolError)
-        if known is error:
-            raise
-        raise ToolError(Text("{}: {}", known.what, NOTHING_OUT), status=known.status) from error
+        raise expected(error, ToolError, NOTHING_OUT) from error
 
 
 def stock_lines(wanted: str) -> str:

@@ -58,12 +58,13 @@ class NetworkPrinter(Outlet):
     """A printer named as tcp://HOST[:PORT]; `stuck` are seconds in which it may take nothing."""
 
     is_direct = True
+    broken = Text("{}: the printer broke off", "")
+    line: socket.socket | None = None
 
     def __init__(self, name: str, stuck: float = STUCK) -> None:
         self.address = address_of(name)
         self.name = name
         self.stuck = stuck
-        self.line: socket.socket | None = None
         self.has_sent = False  # labels, by this connection
 
     def open(self) -> socket.socket:
@@ -83,24 +84,12 @@ class NetworkPrinter(Outlet):
             self.has_sent = False
         return self.line
 
-    def send(self, data: bytes) -> None:
-        """Sends a whole label and waits until it is acknowledged; raises `Unreachable` and
-        `Broken`.
-        """
-        line = self.line or self.open()
-        self.has_sent = True
-        try:
-            self.push(line, data)
-        except OSError as error:
-            self.drop()
-            told = error.args[0]
-            what = told if isinstance(told, Text) else Text("{}: the printer broke off", self.name)
-            raise Broken(what) from error
-
     def push(self, line: socket.socket, data: bytes) -> None:
         """Sends bytes until all are acknowledged, however slowly they are taken. What the printer
-        says meanwhile is read: one that nobody hears may stop taking. Raises `OSError`.
+        says meanwhile is read: one that nobody hears may stop taking. Raises `OSError` and
+        `Broken`.
         """
+        self.has_sent = True
         rest = memoryview(data)
         patience = Patience(self, self.stuck)
         pause = SHORT
@@ -138,7 +127,7 @@ class NetworkPrinter(Outlet):
             return self.heard(line, question)
         except OSError as error:
             self.drop()
-            raise Broken(Text("{}: the printer broke off", self.name)) from error
+            raise Broken(self.broken.with_fields(self.name)) from error
 
     def heard(self, line: socket.socket, question: Query) -> Reply | None:
         """Returns the answer to a question that was sent; raises `OSError`."""
@@ -186,12 +175,6 @@ class NetworkPrinter(Outlet):
             raise Broken(Text("{}: the printer broke off at the end", self.name)) from error
         finally:
             self.drop()
-
-    def drop(self) -> None:
-        """Ends the connection at once."""
-        if self.line is not None:
-            self.line.close()
-            self.line = None
 
 
 def has_ended(line: socket.socket) -> bool:

@@ -9,11 +9,11 @@ import select
 import stat
 import tempfile
 import time
-from collections.abc import Callable, Sequence, Sized
+from collections.abc import Callable, Mapping, Sequence, Sized
 from contextlib import nullcontext, suppress
-from io import BytesIO
+from io import BytesIO, FileIO
 from pathlib import Path
-from typing import Any, IO
+from typing import Any, BinaryIO, IO
 
 from labeltools.common.files import save_file, temporary, Unwritten, write_whole
 from labeltools.common.messages import Problem, Remedy, Talk, ToolError
@@ -42,10 +42,10 @@ class Unreachable(ToolError):
 
 
 class Untaken(ToolError):
-    """A way out that took nothing of a label."""
+    """A way out that did not take a label: nothing of it is there."""
 
 
-class Broken(ToolError):
+class Broken(Untaken):
     """A way out that took a part of a label, or all of it without saying so."""
 
 
@@ -53,16 +53,20 @@ class Outlet:
     """Where labels go. `is_direct` is whether each is there for certain once it was sent, whatever
     comes after it; `is_kept` is whether what was sent is in a file on a disk, and `is_collected`
     whether nothing of it goes out before all is there. `open` is called before a label is written
-    into the journal. `came` has something once somebody has stopped the work, and `say` says that a
-    printer is waited for.
+    into the journal. `line` is what is open, if it has to be closed, and `done` how many labels are
+    before the next one. `came` has something once somebody has stopped the work, and `say` says
+    that a printer is waited for. `broken` is what is said of its name and an error of the system.
     """
 
     name: str
     is_direct = False
     is_kept = False
     is_collected = False
+    line: Any = None
+    done = 0
     came: Sized = ()
     say: Callable[[Problem], object] = Talk().say
+    broken = Text("{}: {}", "", "")
 
     def open(self) -> Any:
         """Returns the way out, which is another one once it was made again after a good end; raises
@@ -71,13 +75,22 @@ class Outlet:
         return self
 
     def send(self, data: bytes) -> None:
-        """Sends what is whole by itself; raises `Untaken` if nothing of it is there, and `Broken`
-        if a part of it may have gone out.
+        """Sends what is whole by itself; raises `Untaken` if nothing of it is there, `Broken` if a
+        part of it may have gone out, and what `open` does.
         """
-        raise NotImplementedError
+        line = self.line or self.open()
+        try:
+            self.push(line, data)
+        except Exception as error:
+            self.drop()
+            if not isinstance(error, OSError):
+                raise
+            kind = Untaken if isinstance(error, Unwritten) else Broken
+            raise kind(self.broken.with_fields(self.name, error.strerror)) from error
 
-    def leave_out(self) -> None:
-        """Leaves out the next label, which cannot be sent."""
+    def push(self, line: Any, data: bytes) -> None:
+        """Sends all bytes by what is open; raises `OSError` and `Broken`."""
+        raise NotImplementedError
 
     def ask(self, _question: Query) -> Reply | None:
         """Returns what a printer answers to a question; None if it does not. Raises `Broken`."""
@@ -85,9 +98,16 @@ class Outlet:
 
     def close(self) -> None:
         """Ends the way out after what was sent; raises `Broken` if it broke off before."""
+        try:
+            self.drop()
+        except OSError as error:
+            raise Broken(self.broken.with_fields(self.name, error.strerror)) from error
 
     def drop(self) -> None:
-        """Ends the way out at once, if nothing was sent."""
+        """Ends the way out at once."""
+        line, self.line = self.line, None
+        if line is not None:
+            line.close()
 
 
 class Patience:
@@ -104,8 +124,8 @@ class Patience:
         self.is_said = False
 
     def check_progress(self, left: int) -> None:
-        """Takes how many bytes are left; says once that it waits; raises `TimeoutError`, with what
-        is told of it, when its time is over.
+        """Takes how many bytes are left; says once that it waits; raises `Broken` when its time is
+        over.
         """
         now = time.monotonic()
         if left != self.left:
@@ -114,13 +134,12 @@ class Patience:
         waited = now - self.since
         name = self.outlet.name
         if self.outlet.came and waited > min(STOPPED, self.seconds):
-            raise TimeoutError(Text("{}: stopped while the printer took nothing", name))
+            raise Broken(Text("{}: stopped while the printer took nothing", name))
         if waited > self.seconds:
             seconds = f"{self.seconds:.0f}"
-            what = Text("{}: the printer has taken nothing for {} seconds", name, seconds)
-            raise TimeoutError(what)
+            raise Broken(Text("{}: the printer has taken nothing for {} seconds", name, seconds))
         if now > self.end:
-            raise TimeoutError(Text("{}: the printer takes the label too slowly", name))
+            raise Broken(Text("{}: the printer takes the label too slowly", name))
         if waited > QUIET and not self.is_said:
             self.is_said = True
             what = Text("{}: the printer takes nothing: it is waited for", name)
@@ -133,21 +152,14 @@ class OpenFile(Outlet):
     is_direct = True
     is_synced = True
 
-    def send(self, data: bytes) -> None:
-        """Writes what is whole, for which a signal waits; raises `Broken`, of standard output
-        `Untaken` if nothing of it is there, and what `open` does.
-        """
-        file = self.open()
-        try:
-            with hold_signals() if self.name == OUTPUT else nullcontext():  # not in a window
-                self.is_kept = stat.S_ISREG(os.fstat(file).st_mode)
-                write_whole(data, file)
-                if self.is_synced and self.is_kept:
-                    os.fdatasync(file)
-        except OSError as error:
-            self.drop()
-            kind = Untaken if isinstance(error, Unwritten) else Broken
-            raise kind(Text("{}: {}", self.name, error.strerror)) from error
+    def push(self, line: Any, data: bytes) -> None:
+        """Writes bytes, for which a signal waits; raises `OSError`."""
+        file = line.fileno()
+        with hold_signals() if self.name == OUTPUT else nullcontext():  # not in a window
+            self.is_kept = stat.S_ISREG(os.fstat(file).st_mode)
+            write_whole(data, file)
+            if self.is_synced and self.is_kept:
+                os.fdatasync(file)
 
 
 class StandardOutput(OpenFile):
@@ -159,9 +171,9 @@ class StandardOutput(OpenFile):
         self.is_direct = is_direct
         self.is_synced = is_synced
 
-    def open(self) -> int:
-        """Returns its number; raises `ToolError` if it is closed."""
-        return standard_output().fileno()
+    def open(self) -> BinaryIO:
+        """Returns it; raises `ToolError` if it is closed."""
+        return standard_output()
 
 
 class Device(OpenFile):
@@ -170,28 +182,30 @@ class Device(OpenFile):
     its bytes; a printer without paper takes none, and is waited for as one in the network is.
     """
 
+    line: FileIO | None = None
+
     def __init__(self, name: str, begin: bytes, stuck: float = STUCK) -> None:
         self.name = name
         self.begin = begin
         self.stuck = stuck
-        self.file: int | None = None
 
-    def open(self) -> int:
-        """Returns its number, and opens it if it is not open; raises `Unreachable`."""
-        if self.file is None:
+    def open(self) -> FileIO:
+        """Returns the open file, and opens it if it is not open; raises `Unreachable`."""
+        if self.line is None:
+            flags = os.O_WRONLY | os.O_APPEND | os.O_NONBLOCK
             try:
-                self.file = os.open(self.name, os.O_WRONLY | os.O_APPEND | os.O_NONBLOCK)
+                self.line = FileIO(os.open(self.name, flags), "wb")
             except OSError as error:
                 what = Text("{}: {}", self.name, error.strerror)
                 if error.errno == errno.ENXIO:  # of a FIFO
                     what = Text("{}: no program reads it", self.name)
                 raise Unreachable(what, HINTS.get(type(error), NOTHING)) from error
-            self.require_labels(self.file)
-        return self.file
+            self.require_labels(self.line)
+        return self.line
 
-    def require_labels(self, file: int) -> None:
+    def require_labels(self, line: FileIO) -> None:
         """Raises `Unreachable` if a file on a disk has something else than labels."""
-        found = os.fstat(file)
+        found = os.fstat(line.fileno())
         if not stat.S_ISREG(found.st_mode) or not found.st_size:
             return
         with open(self.name, "rb") as labels:
@@ -201,24 +215,14 @@ class Device(OpenFile):
             what = Text("{} is a file that has no labels", self.name)
             raise Unreachable(what, Text("name a printer, or a new file that is empty"))
 
-    def send(self, data: bytes) -> None:
-        """Sends what is whole; raises `Broken`, and what `open` does."""
-        file = self.open()
-        if stat.S_ISREG(os.fstat(file).st_mode):
-            super().send(data)
-            return
-        try:
-            self.push(file, data)
-        except OSError as error:
-            self.drop()
-            told = error.args[0]
-            what = told if isinstance(told, Text) else Text("{}: {}", self.name, error.strerror)
-            raise Broken(what) from error
-
-    def push(self, file: int, data: bytes) -> None:
-        """Writes bytes until all have gone out, however slowly; raises `OSError`. The last ones of
-        a printer on USB have once it would take more.
+    def push(self, line: Any, data: bytes) -> None:
+        """Writes bytes until all have gone out, however slowly; raises `OSError` and `Broken`. The
+        last ones of a printer on USB have once it would take more.
         """
+        file = line.fileno()
+        if stat.S_ISREG(os.fstat(file).st_mode):
+            super().push(line, data)
+            return
         rest = memoryview(data)
         patience = Patience(self, self.stuck)
         while True:
@@ -232,19 +236,6 @@ class Device(OpenFile):
                     rest = rest[os.write(file, rest) :]
             patience.check_progress(len(rest))
 
-    def close(self) -> None:
-        """Closes it after what was sent; raises `Broken`."""
-        try:
-            self.drop()
-        except OSError as error:
-            raise Broken(Text("{}: {}", self.name, error.strerror)) from error
-
-    def drop(self) -> None:
-        """Closes it at once."""
-        file, self.file = self.file, None
-        if file is not None:
-            os.close(file)
-
 
 class Files(Outlet):
     """A file for each label, whose data are given in the order of the labels; `name` has %d for the
@@ -256,17 +247,13 @@ class Files(Outlet):
         files have one name.
         """
         self.name = name
-        self.paths = enumerate(paths_of(name, data, first), first)
-
-    def leave_out(self) -> None:
-        """Leaves out the file of the next label."""
-        next(self.paths)
+        self.paths = paths_of(name, data, first)
 
     def send(self, data: bytes) -> None:
         """Writes the file of the next label, for which a signal waits; raises `OSError`."""
-        number, path = next(self.paths)
+        number = self.done + 1
         with hold_signals():
-            save_file(BytesIO(data), path, number)
+            save_file(BytesIO(data), self.paths[number], number)
 
 
 class Collected(Outlet):
@@ -313,7 +300,7 @@ def has_reader(file: int) -> bool:
     return not events_of(file, 0)
 
 
-def paths_of(name: str, data: Sequence[bytes], first: int) -> list[Path]:
+def paths_of(name: str, data: Sequence[bytes], first: int) -> Mapping[int, Path]:
     """Returns the file of each label, by its number from `first` on, in a folder that is new or
     empty; raises `ToolError` if two would be one.
     """
@@ -332,7 +319,7 @@ def paths_of(name: str, data: Sequence[bytes], first: int) -> list[Path]:
         what = Text("the folder {} is not empty", folder)
         hint = Text("old labels would be among the new ones: name another one")
         raise ToolError(what, hint, remedies=OF_EACH)
-    return list(paths.values())
+    return dict(enumerate(paths.values(), first))
 
 
 def file_name(name: str, number: int, data: bytes) -> str:

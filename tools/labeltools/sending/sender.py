@@ -15,8 +15,16 @@ from labeltools.printing.job import Job
 from labeltools.printing.press import Batch, Prepared, Press, WrongLabels
 from labeltools.sending.journal import Entry, Journal, PRINTED
 from labeltools.sending.network import is_in_network, NetworkPrinter
-from labeltools.sending.outcomes import is_of_outlet, NOTHING_OUT, Progress
-from labeltools.sending.outlets import Broken, Collected, Device, Outlet, OUTPUT, Unreachable
+from labeltools.sending.outcomes import NOTHING_OUT, Progress
+from labeltools.sending.outlets import (
+    Broken,
+    Collected,
+    Device,
+    Outlet,
+    OUTPUT,
+    Unreachable,
+    Untaken,
+)
 from labeltools.sending.watch import Watch
 
 TOOL = "label-print"  # which settles what is in doubt
@@ -69,16 +77,16 @@ class Sender:
             except OSError:
                 raise
             except Exception as error:
-                known = expected(error, ToolError)
                 if not self.outlet.is_direct:
-                    raise self.error_of_whole(known, known is not error) from error
+                    raise expected(error, ToolError, self.progress.so_far()) from error
+                known = expected(error, ToolError)
                 place = self.progress.labels_in_words(part.items)
                 ended = self.progress.ended(known, place)
                 self.is_off = self.is_off or isinstance(known, (Broken, Unreachable))
                 self.do_between_labels(self.close_well)
                 raise ended from error
-            self.progress.done += len(part.items)
-            talk.go_on(self.progress.done - found.job.options.after, len(found.prints))
+            self.outlet.done += len(part.items)
+            talk.go_on(self.outlet.done - found.job.options.after, len(found.prints))
         if self.progress.wrong and not self.progress.taken:
             raise ToolError(NOTHING_OUT)
         self.do_between_labels(self.end_way_out)
@@ -134,14 +142,6 @@ class Sender:
                 raise
             raise self.progress.ended_between_labels(known) from error
 
-    def error_of_whole(self, error: ToolError, is_fault: bool) -> ToolError:
-        """Returns an error of what goes out as a whole, or as files; of a fault of ours with what
-        went out before it.
-        """
-        if not is_fault:
-            return error
-        return error.saying(Text("{}: {}", error.what, self.progress.so_far()))
-
     def send_right(self, press: Press, part: Batch, talk: Talk) -> None:
         """Sends what goes out as a whole, without labels that would be drawn wrongly, of which it
         says so.
@@ -155,7 +155,6 @@ class Sender:
                     talk.say(wrong.problem)
                 self.progress.wrong.update(error.errors)
                 part = press.without(part, error.errors)
-        self.outlet.leave_out()
 
     def send_batch(self, press: Press, part: Batch, is_first: bool, is_last: bool = False) -> int:
         """Sends what goes out as a whole, and returns how many bytes it has; 0 if the journal has
@@ -201,7 +200,7 @@ class Sender:
             raise
         except Exception as error:
             known = expected(error, Broken)
-            self.is_at_end = self.outlet.name == OUTPUT and is_of_outlet(known)
+            self.is_at_end = self.outlet.name == OUTPUT and isinstance(known, Untaken)
             if self.journal is None:
                 raise known from error
             with suppress(ToolError):  # something else is reported
@@ -270,11 +269,13 @@ class Sender:
             yield Text("if missing, to be printed again: {}", line)
 
 
-def expected(error: Exception, kind: type[ToolError]) -> ToolError:
-    """Returns the error of a tool for any exception: of a kind for one that nobody expected."""
+def expected(error: Exception, kind: type[ToolError], so_far: Text = NOTHING) -> ToolError:
+    """Returns the error of a tool for any exception: for one that nobody expected of a kind, and
+    with what went out before it.
+    """
     if isinstance(error, ToolError):
         return error
-    return kind(fault_of(error), status=UNEXPECTED)
+    return kind(joined(": ", filter(None, (fault_of(error), so_far))), status=UNEXPECTED)
 
 
 def direct_outlet(printer: str, form: Form) -> Outlet:

@@ -50,11 +50,10 @@ from labeltools.printing.job import Job
 from labeltools.printing.press import pens_of, Prepared, prepared, Press, WrongLabels
 from labeltools.printing.remarks import SHORTENED
 from labeltools.sending.database import is_in_place
-from labeltools.sending.outcomes import outcome_word, UNSENT
 from labeltools.sending.outlets import Broken, has_reader, OUTPUT, Unreachable
 from labeltools.sending.sender import Sender
 
-TAKEN, KNOWN, REFUSED = "taken", "known", "refused"  # answers, beside those of outcomes
+TAKEN, REFUSED, KNOWN, UNSENT, DOUBTFUL = "taken", "refused", "known", "unsent", "doubtful"
 SKIPPED = (b'#{"labels"', b'#{"end"')
 PRINTED = b"#printed"
 SETTLES = {PRINTED: KNOWN, b"#missing": UNSENT}  # lines that settle a doubt, and their answers
@@ -271,7 +270,7 @@ class Stream:
         except ToolError as error:
             if error.status == UNEXPECTED:
                 self.status = error.status
-            return outcome_word(error), error.problem.line
+            return DOUBTFUL if isinstance(error, Broken) else UNSENT, error.problem.line
         except OSError:
             raise
         except Exception as error:  # before anything goes out: see `Sender.give`
