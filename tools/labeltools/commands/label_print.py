@@ -10,7 +10,7 @@ from functools import partial
 from pathlib import Path
 from typing import Mapping, Sequence
 
-from labeltools.common.arguments import add_options, Option, Parser, wrong_argument
+from labeltools.common.arguments import add_options, Option, Parser
 from labeltools.common.messages import BAD_ARGUMENTS, Problem, sentence, ToolError, write_message
 from labeltools.common.process import CommandTalk, keep_standard_error, read_input, standard_output
 from labeltools.common.report import left_out_messages, places_text, Ranges
@@ -70,7 +70,7 @@ def lengths(argument: str, example: str, least: float = 0.0) -> tuple[float, ...
     is_like = len(parts) == example.count(sign) + 1 and all(map(LENGTH.fullmatch, parts))
     found = tuple(float(part) for part in parts) if is_like else ()
     if not found or min(found) < least:
-        raise wrong_argument(Text("{!r}: write it as {}", argument, example))
+        raise ValueError(Text("{!r}: write it as {}", argument, example))
     return found
 
 
@@ -78,7 +78,7 @@ def grid(argument: str) -> tuple[int, int]:
     """Returns how many cells are side by side, and how many are below one another."""
     found = GRID.fullmatch(argument)
     if not found:
-        raise wrong_argument(Text("{!r}: write it as {}", argument, SOME_CELLS))
+        raise ValueError(Text("{!r}: write it as {}", argument, SOME_CELLS))
     return int(found[1]), int(found[2])
 
 
@@ -97,7 +97,7 @@ def number_from(argument: str, least: int, digits: int, example: str) -> int:
     """Returns a whole number of so many digits at most, from `least` on."""
     is_number = argument.isascii() and argument.isdecimal() and len(argument) <= digits
     if not is_number or int(argument) < least:
-        raise wrong_argument(Text("{!r}: write it as {}", argument, example))
+        raise ValueError(Text("{!r}: write it as {}", argument, example))
     return int(argument)
 
 
@@ -110,7 +110,7 @@ def design_of(argument: str) -> str:
     if not is_file(argument):
         known = ", ".join(PURPOSES)
         what = Text("{!r} is neither one of {} nor a file such as rack.svg", argument, known)
-        raise wrong_argument(what)
+        raise ValueError(what)
     share = Path(__file__).resolve().parents[3]  # of a checkout, or PREFIX/share
     folders = (Path(), share / "designs", share / "doc/labels/designs")
     paths = (folder / argument for folder in folders)
@@ -121,13 +121,13 @@ def row_ranges(argument: str) -> Ranges:
     """Returns rows such as 2,7-9 or 7-."""
     if found := ranges_in(argument):
         return found
-    raise wrong_argument(Text("{!r}: write rows as 2,7-9 or 7-", argument))
+    raise ValueError(Text("{!r}: write rows as 2,7-9 or 7-", argument))
 
 
 def not_empty(argument: str) -> str:
     """Returns an argument that is not empty, as it is where a variable of a shell is not set."""
     if not argument.strip("@ "):
-        raise wrong_argument(Text("it is empty"))
+        raise ValueError(Text("it is empty"))
     return argument
 
 
@@ -137,7 +137,7 @@ def printer_of(argument: str) -> str:
         try:
             address_of(argument)
         except ToolError as error:
-            raise wrong_argument(error.what) from error
+            raise ValueError(error.what) from error
     return argument
 
 

@@ -8,10 +8,10 @@ from contextlib import suppress
 from dataclasses import fields, replace
 from functools import partial
 from itertools import chain
-from typing import Any, Callable, Mapping, Sequence, TypeVar
+from typing import Any, Mapping, Sequence, TypeVar
 
 from labeltools.common.apart import apart, Input, read_apart
-from labeltools.common.arguments import add_options, Option, Parser, words_of, wrong_argument
+from labeltools.common.arguments import add_options, Option, Parser, words_of
 from labeltools.common.budget import LINES, TABLE
 from labeltools.common.messages import (
     BAD_ARGUMENTS,
@@ -117,26 +117,12 @@ class TableTalk(CommandTalk):
                 write_message(TOOL, what)
 
 
-def reported(make: Callable[[str], Read]) -> Callable[[str], Read]:
-    """Returns a function of an argument whose ValueError, which has a `Text`, is reported."""
-
-    def of(text: str) -> Read:
-        try:
-            return make(text)
-        except ValueError as error:
-            raise wrong_argument(error.args[0]) from None
-
-    return of
-
-
-@reported
 def dates(text: str) -> str:
     """Returns the pattern of dates that an argument is."""
     date_section(text)
     return text
 
 
-@reported
 def look_of_prices(text: str) -> PricePattern | str:
     """Returns the pattern of prices that an argument is, or the word for prices of any text."""
     return text if text == ANY_TEXT.value else PricePattern.from_text(text)
@@ -146,21 +132,21 @@ def condition(text: str) -> tuple[str, str]:
     """Returns the column and the value of an argument."""
     column, equals, wanted = text.partition("=")
     if not equals or not column:
-        raise wrong_argument(Text("{}: write it as COLUMN=VALUE", quoted(text)))
+        raise ValueError(Text("{}: write it as COLUMN=VALUE", quoted(text)))
     return column, wanted
 
 
 def sign(text: str) -> str:
     """Returns the decimal sign that an argument is."""
     if text not in SIGNS:
-        raise wrong_argument(Text("{} is neither comma nor point", quoted(text)))
+        raise ValueError(Text("{} is neither comma nor point", quoted(text)))
     return SIGNS[text]
 
 
 def of_form(text: str, form: re.Pattern[str], wrong: Text) -> str:
     """Returns an argument that has a form; what is said of another one has the argument in it."""
     if not form.fullmatch(text):
-        raise wrong_argument(wrong.with_fields(quoted(text)))
+        raise ValueError(wrong.with_fields(quoted(text)))
     return text
 
 
