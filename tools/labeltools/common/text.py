@@ -7,7 +7,8 @@ import re
 import shlex
 import unicodedata
 from dataclasses import dataclass
-from typing import Iterable
+from string import Formatter
+from typing import Any, Iterable
 
 from labeltools.common.language import ngettext, one_text
 
@@ -107,15 +108,23 @@ def bash_escape(sign: str) -> str:
     return "".join(f"\\x{byte:02x}" for byte in sign.encode("utf-8", known))
 
 
-@dataclass(frozen=True)
-class Figure:
-    """A number as the user's language writes it."""
+class InLanguage(Formatter):
+    """Fills the places of a template: a `Text` is translated, a number has the signs of the user's
+    language, and anything else stays as it is.
+    """
 
-    value: float
-
-    def __format__(self, form: str) -> str:
+    def format_field(self, value: Any, format_spec: str) -> str:
+        """Returns what is in the place of a field."""
+        if isinstance(value, Text):
+            return translated(value)
+        shown = format(value, format_spec)
+        if not isinstance(value, (int, float)):
+            return shown
         signs = translated(SIGNS)
-        return format(self.value, form).translate({ord(","): signs[1], ord("."): signs[-2]})
+        return shown.translate({ord(","): signs[1], ord("."): signs[-2]})
+
+
+IN_LANGUAGE = InLanguage()
 
 
 def translated(text: object) -> str:
@@ -131,7 +140,7 @@ def translated(text: object) -> str:
         template = ngettext(text.template, text.many, first)
     else:
         template = one_text(text.template)
-    return template.format(*map(shown_field, text.fields))
+    return IN_LANGUAGE.format(template, *text.fields)
 
 
 def whole_sentence(text: Text) -> str:
@@ -162,10 +171,3 @@ def begins_with_word(text: object) -> bool:
         ngettext(text.template, text.many, 2) if text.many else one_text(text.template),
     )
     return begins_with_word(text.fields[int(first[1] or 0)]) if first else True
-
-
-def shown_field(field: object) -> object:
-    """Returns what a text has in the place of a field."""
-    if isinstance(field, Text):
-        return translated(field)
-    return Figure(field) if isinstance(field, (int, float)) else field
