@@ -5,6 +5,7 @@ import math
 import re
 from collections.abc import Iterable, Sequence
 from dataclasses import dataclass
+from functools import partial
 from typing import NamedTuple
 
 from labeltools.common.messages import BAD_ARGUMENTS, Remedy, ToolError
@@ -127,7 +128,7 @@ class Papers:
             if is_given:
                 return PrinterPaper("", page, self.white, self.is_general)
             raise self.below_least(printer)
-        near = min((paper.size for paper in self.known), key=lambda size: distance(size, page))
+        near = min((paper.size for paper in self.known), key=partial(math.dist, page))
         hint = Text(
             "the nearest that it has is {}; labels on sheets need the name of their sheet",
             size_text(near),
@@ -149,11 +150,6 @@ class Papers:
         return ToolError(what, hint, BAD_ARGUMENTS, (*OF_SHEETS, AS_GIVEN))
 
 
-def distance(size: Size, other: Size) -> float:
-    """Returns by how much two sizes differ."""
-    return abs(size[0] - other[0]) + abs(size[1] - other[1])
-
-
 def papers_of_driver(text: str) -> Papers:
     """Returns the papers that the file of a driver names.
 
@@ -168,7 +164,7 @@ def papers_of_driver(text: str) -> Papers:
     for found in DIMENSION.finditer(text):
         width, height = in_millimetres(found.groups()[1:])
         left, bottom, right, top = printed.get(found[1], [0.0, 0.0, width, height])
-        white = at_least_none((left, height - top, width - right, bottom))
+        white = left, height - top, width - right, bottom
         is_general = has_general and are_general(white)
         known.append(PrinterPaper(found[1], (width, height), white, is_general))
     sides = {found[1]: in_millimetres(found.groups()[1:]) for found in SIDE.finditer(text)}
@@ -205,9 +201,3 @@ def in_millimetres(numbers: Iterable[str]) -> list[float]:
 def are_general(white: Edges) -> bool:
     """Returns whether edges are those that foomatic has for any printer."""
     return all(abs(side - points * POINT) < NEAR for side, points in zip(white, GENERAL))
-
-
-def at_least_none(white: Edges) -> Edges:
-    """Returns edges of which none is beyond the paper."""
-    left, top, right, bottom = (max(0.0, side) for side in white)
-    return left, top, right, bottom
