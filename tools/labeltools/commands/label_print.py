@@ -37,8 +37,8 @@ from labeltools.printing.selection import ranges_in, selection_of
 from labeltools.sending.journal import Journal
 from labeltools.sending.network import address_of
 from labeltools.sending.outcomes import NOTHING_OUT
-from labeltools.sending.outlets import Files, Outlet, OUTPUT, StandardOutput
-from labeltools.sending.sender import direct_outlet, expected, labels_text, Sender
+from labeltools.sending.outlets import Files, Outlet, OUTPUT
+from labeltools.sending.sender import expected, labels_text, outlet_of, Sender
 
 TOOL = "label-print"
 USAGE = """label-print --stock NAME [OPTIONS] [LINES]
@@ -374,7 +374,7 @@ def run() -> int:
     if options.is_stream:
         from labeltools.sending import stream
 
-        return stream.answer_lines(job, sender_of(job, direct_way(job), ()))
+        return stream.answer_lines(job, sender_of(job, outlet_of(job, options.queue), ()))
     return give_out(labels_in(job, CommandTalk(TOOL)), CommandTalk(TOOL))
 
 
@@ -431,13 +431,6 @@ def check_given(job: Job, is_queue: bool = False) -> None:
     refuse(needless, only, LEAVE_OUT, [AS_GIVEN.option])
 
 
-def direct_way(job: Job) -> Outlet:
-    """Returns the way to a printer, or else standard output."""
-    if job.options.queue:
-        return direct_outlet(job.options.queue, job.form)
-    return StandardOutput(job.form.is_roll, is_synced=job.options.journal is not None)
-
-
 def sender_of(job: Job, outlet: Outlet, records: Sequence[Record]) -> Sender:
     """Returns what sends the labels of some lines, after a look at the journal."""
     options = job.options
@@ -472,7 +465,7 @@ def check_journal(options: PrintOptions, journal: Journal) -> None:
 def give_out(found: Prepared, talk: CommandTalk) -> int:
     """Writes labels or sends them; returns 1 where one is left out or doubtful."""
     options = found.job.options
-    outlet = direct_way(found.job)
+    outlet = outlet_of(found.job, options.queue)
     if options.each is not None:
         data = [item.record.data for item in found.prints]
         outlet = Files(options.each, data, options.after + 1)

@@ -9,7 +9,6 @@ from labeltools.common.files import save_file
 from labeltools.common.messages import fault_of, sentence, Talk, ToolError, UNEXPECTED
 from labeltools.common.report import few, MOST_RANGES, places_text, range_words, ranges_of
 from labeltools.common.text import counted, joined, NOTHING, shell_line, Text
-from labeltools.drawing.forms import Form
 from labeltools.lines.file import Record
 from labeltools.printing.job import Job
 from labeltools.printing.press import Batch, Prepared, Press, WrongLabels
@@ -22,6 +21,7 @@ from labeltools.sending.outlets import (
     Device,
     Outlet,
     OUTPUT,
+    StandardOutput,
     Unreachable,
     Untaken,
 )
@@ -278,20 +278,23 @@ def expected(error: Exception, kind: type[ToolError], so_far: Text = NOTHING) ->
     return kind(joined(": ", filter(None, (fault_of(error), so_far))), status=UNEXPECTED)
 
 
-def direct_outlet(printer: str, form: Form) -> Outlet:
-    """Returns the way to a printer in the network, or to one that is a file, for labels of a
-    form.
+def outlet_of(job: Job, printer: str | None) -> Outlet:
+    """Returns the way for the labels of a job to a printer in the network, or to one that is a
+    file, or to standard output if none is named.
     """
+    if not printer:
+        is_synced = job.options.journal is not None
+        return StandardOutput(job.form.is_roll, is_synced)
     if is_in_network(printer):
         return NetworkPrinter(printer)
-    return Device(printer, form.begin)
+    return Device(printer, job.form.begin)
 
 
 def send_labels_to(found: Prepared, printer: str, talk: Talk, came: Sized = ()) -> Sender:
     """Sends labels one by one to a printer until something came, and returns the sender, which
     knows what the printer took; raises `ToolError`.
     """
-    sender = Sender(found.job, direct_outlet(printer, found.job.form))
+    sender = Sender(found.job, outlet_of(found.job, printer))
     sender.send_all(found, talk, came)
     return sender
 
