@@ -1,9 +1,9 @@
 """Sends labels: one loop for every way out, with a journal or without one."""
 
-from contextlib import suppress
+from contextlib import contextmanager, suppress
 from functools import partial
 from pathlib import Path
-from typing import Any, Callable, Iterator, Mapping, Sequence, Sized
+from typing import Callable, Iterator, Mapping, Sequence, Sized
 
 from labeltools.common.files import save_file
 from labeltools.common.messages import fault_of, sentence, Talk, ToolError, UNEXPECTED
@@ -71,7 +71,8 @@ class Sender:
         for part in press.batches(found.prints):
             try:
                 if came:
-                    self.do_between_labels(self.close_well)
+                    with self.between_labels():
+                        self.close_well()
                     raise ToolError(Text("{}: {}", self.outlet.name, self.progress.so_far()))
                 self.send_right(press, part, talk)
             except OSError:
@@ -83,21 +84,17 @@ class Sender:
                 place = self.progress.labels_in_words(part.items)
                 ended = self.progress.ended(known, place)
                 self.is_off = self.is_off or isinstance(known, (Broken, Unreachable))
-                self.do_between_labels(self.close_well)
+                with self.between_labels():
+                    self.close_well()
                 raise ended from error
             self.outlet.done += len(part.items)
             talk.go_on(self.outlet.done - found.job.options.after, len(found.prints))
         if self.progress.wrong and not self.progress.taken:
             raise ToolError(NOTHING_OUT)
-        self.do_between_labels(self.end_way_out)
-
-    def end_way_out(self) -> None:
-        """Ends the way out, once a printer that answers has printed all labels, or does not go on;
-        raises `Broken`.
-        """
-        if self.progress.taken:
-            self.watch.wait_until_printed(self.progress.taken)
-        self.close_well()
+        with self.between_labels():
+            if self.progress.taken:
+                self.watch.wait_until_printed(self.progress.taken)
+            self.close_well()
 
     def close_well(self) -> None:
         """Ends the way out, and writes that what it took is printed, but for what a printer says
@@ -113,7 +110,8 @@ class Sender:
         long as it is not there, or says that it does not suit.
         """
         if self.question is not None:
-            self.do_between_labels(self.question)
+            with self.between_labels():
+                self.question()
             self.question = None
 
     def ask_for_left(self) -> None:
@@ -127,12 +125,13 @@ class Sender:
         if self.journal is not None and left is not None:
             self.journal.write_printed(left + 1 if left else 0)
 
-    def do_between_labels(self, act: Callable[[], Any]) -> Any:
-        """Returns what is done before a label, or after the last one; raises `ToolError` in place
-        of `Broken`, since what broke off are the labels that were sent.
+    @contextmanager
+    def between_labels(self) -> Iterator[None]:
+        """For what is done before a label, or after the last one: raises `ToolError` in place of
+        `Broken`, since what broke off are the labels that were sent.
         """
         try:
-            return act()
+            yield
         except OSError:
             raise
         except Exception as error:
@@ -167,12 +166,13 @@ class Sender:
             return 0
         document = press.document(part, is_first)
         self.ask_before()
-        way = self.do_between_labels(self.outlet.open)
-        if way != self.way:
-            self.way = way
-            self.progress.on_way.clear()
-        if journal is not None:
-            self.do_between_labels(self.ask_for_left)
+        with self.between_labels():
+            way = self.outlet.open()
+            if way != self.way:
+                self.way = way
+                self.progress.on_way.clear()
+            if journal is not None:
+                self.ask_for_left()
         if journal is not None and not journal.claim(record):
             self.known.add(record.code_line)
             return 0
