@@ -10,7 +10,7 @@ from dataclasses import dataclass
 from string import Formatter
 from typing import Any, Iterable
 
-from labeltools.common.language import ngettext, one_text
+from labeltools.common.language import _, ngettext
 
 # the classes of characters in Unicode that change what a terminal shows, or that cut a message
 UNSEEN = ("Cc", "Cf", "Cs", "Zl", "Zp")
@@ -131,15 +131,15 @@ def translated(text: object) -> str:
     """Returns a text in the language of the user; what is neither a `Text` nor a number stays as it
     is.
     """
-    if not isinstance(text, Text):
+    if not isinstance(text, Text) or not text.template:  # for which gettext has its own head
         return str(text)
     if not text.fields:
-        return one_text(text.template)
+        return _(text.template)
     first = text.fields[0]
     if text.many and isinstance(first, int):
         template = ngettext(text.template, text.many, first)
     else:
-        template = one_text(text.template)
+        template = _(text.template)
     return IN_LANGUAGE.format(template, *text.fields)
 
 
@@ -168,6 +168,6 @@ def begins_with_word(text: object) -> bool:
         return False
     first = re.match(
         r"\{([0-9]*)",
-        ngettext(text.template, text.many, 2) if text.many else one_text(text.template),
+        ngettext(text.template, text.many, 2) if text.many else _(text.template),
     )
     return begins_with_word(text.fields[int(first[1] or 0)]) if first else True
