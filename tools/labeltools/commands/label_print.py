@@ -25,6 +25,7 @@ from labeltools.paper.stock import forget_glabels, list_stock
 from labeltools.printing.job import (
     AS_GIVEN,
     DRAWING_DPI,
+    form_of,
     Job,
     LEAVE_OUT,
     planned,
@@ -59,6 +60,7 @@ SOME_CELLS = "3x8"  # as they are written
 SMALLEST = 0.0001  # of a length that is above zero, in millimetres
 TURNS = {"yes": True, "no": False}
 FARTHEST = 10_000.0  # that something is moved
+ONLY_BY_DRIVER = Text("a paper is taken as given only for a PDF on a queue of CUPS")
 
 
 def lengths(argument: str, example: str, least: float = 0.0) -> tuple[float, ...]:
@@ -364,7 +366,11 @@ def run() -> int:
         from labeltools.commands import journal_run  # with the journal
 
         return journal_run.run(options)
-    if options.queue and not options.is_stream and not options.is_sent_singly:
+    is_queue = options.queue and not options.is_stream and not options.is_sent_singly
+    has_driver = is_queue and not form_of(options).is_roll
+    needless = options.is_paper_as_given and not has_driver
+    refuse(needless, ONLY_BY_DRIVER, LEAVE_OUT, [AS_GIVEN.option])
+    if is_queue:
         from labeltools.commands.queue_run import print_on_queue  # with CUPS, which takes time
 
         return print_on_queue(options)
@@ -417,18 +423,10 @@ def stock_lines(wanted: str) -> str:
 
 def check_way(job: Job) -> None:
     """Raises `ToolError` where standard output is closed or would show a drawing."""
-    check_given(job)
     if job.options.queue is None and not job.is_each:
         if standard_output().isatty() and not job.form.is_roll:
             hint = Text("add > labels.{}", job.form.name)
             raise ToolError(Text("standard output is a terminal"), hint, BAD_ARGUMENTS)
-
-
-def check_given(job: Job, is_queue: bool = False) -> None:
-    """Raises `ToolError` where a paper is as given of which no driver says anything."""
-    needless = job.options.is_paper_as_given and (not is_queue or job.form.is_roll)
-    only = Text("a paper is taken as given only for a PDF on a queue of CUPS")
-    refuse(needless, only, LEAVE_OUT, [AS_GIVEN.option])
 
 
 def sender_of(job: Job, outlet: Outlet, records: Sequence[Record]) -> Sender:
