@@ -70,8 +70,8 @@ class Symbologies(unittest.TestCase):
             left, right = symbology.quiet
             self.assertEqual(row[: left + 1], "0" * left + "1")
             self.assertEqual(row[-right - 1 :], "1" + "0" * right)
-            for span in symbology.guards:
-                self.assertIn("1", row[span.left : span.right])
+            for first, end in symbology.guards:
+                self.assertIn("1", row[first:end])
             places = [place.last - place.first for place in symbology.places]
             self.assertEqual(sum(places), symbology.digits)
 
