@@ -112,22 +112,25 @@ class NetworkPrinter(Outlet):
 
     def ask(self, question: Query) -> Reply | None:
         """Returns what the printer answers to a question; None if it gives no answer in a second,
-        or somebody stops the work. Raises `Unreachable`, and `Broken` if it breaks off.
+        or somebody stops the work. One that ends the connection gets another one, unless labels
+        were sent by this one. Raises `Unreachable`, and `Broken` if it breaks off.
         """
         line = self.line or self.open()
+        answer = None
         try:
             with suppress(BlockingIOError):
                 line.recv(HEARD)  # what it said before
-            # to a question it would break off, as if it had thrown labels away
-            if events_of(line.fileno(), select.POLLRDHUP, REGRET if self.has_sent else FIRST):
-                self.give_another()
-                return None
-            with suppress(BlockingIOError):
-                line.send(question.data)
-            return self.heard(line, question)
+            # to a question behind its end it would break off, as if it had thrown labels away
+            if not events_of(line.fileno(), select.POLLRDHUP, REGRET if self.has_sent else FIRST):
+                with suppress(BlockingIOError):
+                    line.send(question.data)
+                answer = self.heard(line, question)
+            if not self.has_sent and events_of(line.fileno(), select.POLLRDHUP):
+                self.drop()
         except OSError as error:
             self.drop()
             raise Broken(self.broken.with_fields(self.name)) from error
+        return answer
 
     def heard(self, line: socket.socket, question: Query) -> Reply | None:
         """Returns the answer to a question that was sent; raises `OSError`."""
@@ -138,19 +141,11 @@ class NetworkPrinter(Outlet):
                 continue
             data = line.recv(HEARD)
             if not data:
-                self.give_another()
                 return None
             heard += data
             if answer := question.read(heard):
                 return answer
         return None
-
-    def give_another(self) -> None:
-        """Drops a connection that the printer has ended at a question: it gets another one, unless
-        labels were sent by this one.
-        """
-        if not self.has_sent:
-            self.drop()
 
     def close(self) -> None:
         """Ends the connection after what was sent; raises `Broken` where the printer breaks it off.
