@@ -10,7 +10,7 @@ from functools import partial
 from pathlib import Path
 from typing import Mapping, Sequence
 
-from labeltools.common.arguments import add_options, Option, Parser
+from labeltools.common.arguments import add_options, number_from, Option, Parser
 from labeltools.common.messages import BAD_ARGUMENTS, Problem, sentence, ToolError, write_message
 from labeltools.common.process import CommandTalk, keep_standard_error, read_input, standard_output
 from labeltools.common.report import left_out_messages, places_text, Ranges
@@ -93,14 +93,6 @@ def module(argument: str) -> float:
 def edges(argument: str) -> tuple[float, ...]:
     """Returns the edges of one number for all, or of four."""
     return lengths(argument, "5,5,5,5") if "," in argument else 4 * lengths(argument, "5")
-
-
-def number_from(argument: str, least: int, digits: int, example: str) -> int:
-    """Returns a whole number of so many digits at most, from `least` on."""
-    is_number = argument.isascii() and argument.isdecimal() and len(argument) <= digits
-    if not is_number or int(argument) < least:
-        raise ValueError(Text("{!r}: write it as {}", argument, example))
-    return int(argument)
 
 
 def design_of(argument: str) -> str:

@@ -11,7 +11,7 @@ from itertools import chain
 from typing import Any, Mapping, Sequence, TypeVar
 
 from labeltools.common.apart import apart, Input, read_apart
-from labeltools.common.arguments import add_options, Option, Parser, words_of
+from labeltools.common.arguments import add_options, number_from, Option, Parser, words_of
 from labeltools.common.budget import LINES, TABLE
 from labeltools.common.messages import (
     BAD_ARGUMENTS,
@@ -72,7 +72,6 @@ EXAMPLES = """examples:
 
 label-print prints these files. man label-table explains the options, and
 man 5 label-table says what is accepted in each kind of column."""
-ROW_NUMBER = re.compile("0|[1-9][0-9]{0,6}")
 SIGNS = {"comma": ",", "point": ".", ",": ",", ".": "."}
 MOST_PROPOSED = 8  # commands
 # what is found in the columns of options, in the order in which it is named
@@ -150,11 +149,7 @@ def of_form(text: str, form: re.Pattern[str], wrong: Text) -> str:
     return text
 
 
-def row_number(text: str) -> int:
-    """Returns the number of a row."""
-    return int(of_form(text, ROW_NUMBER, Text("{} is not the number of a row", text)))
-
-
+ROW_NUMBER = partial(number_from, least=0, digits=7, example="1")
 SETTINGS = partial(
     of_form,
     form=re.compile("[a-z-]+=[A-Za-z0-9]+(?:,[a-z-]+=[A-Za-z0-9]+)*"),
@@ -252,7 +247,7 @@ OPTIONS: Mapping[str, Sequence[Option]] = {
             "--header-row",
             "N",
             "this row has the names of the columns; 0: no row has them",
-            row_number,
+            ROW_NUMBER,
         ),
     ),
 }

@@ -95,6 +95,14 @@ def add_options(parser: Parser, groups: Mapping[str, Sequence[Option]]) -> None:
             option.add_to(apart[option.apart])
 
 
+def number_from(argument: str, least: int, digits: int, example: str) -> int:
+    """Returns a whole number of so many digits at most, from `least` on."""
+    is_number = argument.isascii() and argument.isdecimal() and len(argument) <= digits
+    if not is_number or int(argument) < least:
+        raise ValueError(Text("{!r}: write it as {}", argument, example))
+    return int(argument)
+
+
 def words_of(options: Mapping[str, Any]) -> list[str]:
     """Returns the words of a command for options by their names; those without a value are left
     out, one with several is repeated.
