@@ -124,7 +124,8 @@ class Papers:
             hint = Text("it has {}: give the sides in this order", size_text(other))
         if self.find(other) or self.is_too_wide(page):
             raise ToolError(what, hint, BAD_ARGUMENTS)
-        if self.is_below(page):
+        larger = (max(page[0], self.least[0]), max(page[1], self.least[1]))
+        if self.find(larger):  # such drivers send it all the same, and many printers take it
             if is_given:
                 return PrinterPaper("", page, self.white, self.is_general)
             raise self.below_least(printer)
@@ -134,12 +135,6 @@ class Papers:
             size_text(near),
         )
         raise ToolError(what, hint, BAD_ARGUMENTS, OF_SHEETS)
-
-    def is_below(self, page: Size) -> bool:
-        """Returns whether a page is too small for a printer that takes others of any size. Such
-        drivers send it all the same, and many printers take it.
-        """
-        return self.find((max(page[0], self.least[0]), max(page[1], self.least[1]))) is not None
 
     def below_least(self, printer: str) -> ToolError:
         """Returns that a page is smaller than what a driver says that a printer takes. The user may
