@@ -69,7 +69,7 @@ class Connections(Desk):
         line = outlet.open()
         outlet.send(label)  # its system has taken the label, and it reads it then
         printer.told.set()
-        self.assertTrue(outlets.events_of(line.fileno(), network.BREAK, support.SECONDS))
+        self.assertTrue(files.events_of(line.fileno(), network.BREAK, support.SECONDS))
         outlet.open()
         with self.assertRaises(Broken):
             outlet.send(label)

@@ -11,6 +11,7 @@ from io import RawIOBase, TextIOWrapper
 from typing import Any, BinaryIO, Callable, NoReturn
 
 from labeltools.common.budget import check_size, Kind, LINES
+from labeltools.common.files import events_of
 from labeltools.common.messages import (
     BadArguments,
     fault_of,
@@ -93,9 +94,7 @@ def read_file(path: str, kind: Kind = LINES) -> bytes:
     """
     with open(path, "rb", opener=lambda name, how: os.open(name, how | os.O_NONBLOCK)) as file:
         if stat.S_ISFIFO(os.fstat(file.fileno()).st_mode):
-            writer = select.poll()
-            writer.register(file, select.POLLIN)
-            if not writer.poll(WRITER * 1000):
+            if not events_of(file.fileno(), select.POLLIN, WRITER):
                 raise ToolError(Text("{}: no program writes to it", path))
         os.set_blocking(file.fileno(), True)
         return read_all(file, path, kind)

@@ -14,12 +14,13 @@ import termios
 import time
 from contextlib import suppress
 
+from labeltools.common.files import events_of
 from labeltools.common.messages import BAD_ARGUMENTS, ToolError
 from labeltools.common.text import Text
 from labeltools.sending.answers import Query, Reply
-from labeltools.sending.outlets import Broken, events_of, LOOK, Outlet, Patience, STUCK, Unreachable
+from labeltools.sending.outlets import Broken, LOOK, Outlet, Patience, STUCK, Unreachable
 
-SCHEME = "tcp://"
+SCHEME = "tcp://"  # begins the name of a printer in the network
 NAME = re.compile(r"tcp://(\[[0-9A-Fa-f:.%]+\]|[^\s/:\[\]]+)(?::([0-9]{1,5}))?/?", re.ASCII)
 PORT = 9100
 CONNECT = 10.0  # seconds
@@ -47,11 +48,6 @@ def address_of(name: str) -> tuple[str, int]:
             return host, port
     what = Text("{}: write it as tcp://HOST or tcp://HOST:9100", name)
     raise ToolError(what, status=BAD_ARGUMENTS)
-
-
-def is_in_network(printer: str) -> bool:
-    """Returns whether a printer is one in the network, which is named as tcp://HOST."""
-    return printer.startswith(SCHEME)
 
 
 class NetworkPrinter(Outlet):

@@ -15,7 +15,7 @@ from io import BytesIO, FileIO
 from pathlib import Path
 from typing import Any, BinaryIO, IO
 
-from labeltools.common.files import save_file, temporary, Unwritten, write_whole
+from labeltools.common.files import events_of, save_file, temporary, Unwritten, write_whole
 from labeltools.common.messages import Problem, Remedy, Talk, ToolError
 from labeltools.common.process import standard_output
 from labeltools.common.signals import hold_signals
@@ -51,16 +51,18 @@ class Broken(Untaken):
 
 class Outlet:
     """Where labels go. `is_direct` is whether each is there for certain once it was sent, whatever
-    comes after it; `is_kept` is whether what was sent is in a file on a disk, and `is_collected`
-    whether nothing of it goes out before all is there. `open` is called before a label is written
-    into the journal. `line` is what is open, if it has to be closed, and `done` how many labels are
-    before the next one. `came` has something once somebody has stopped the work, and `say` says
-    that a printer is waited for. `broken` is what is said of its name and an error of the system.
+    comes after it; `is_kept` is whether what was sent is in a file on a disk, `is_synced` whether
+    each label has to be there before the next one, and `is_collected` whether nothing of it goes
+    out before all is there. `open` is called before a label is written into the journal. `line` is
+    what is open, if it has to be closed, and `done` how many labels are before the next one. `came`
+    has something once somebody has stopped the work, and `say` says that a printer is waited for.
+    `broken` is what is said of its name and an error of the system.
     """
 
     name: str
     is_direct = False
     is_kept = False
+    is_synced = True
     is_collected = False
     line: Any = None
     done = 0
@@ -89,8 +91,15 @@ class Outlet:
             raise kind(self.broken.with_fields(self.name, error.strerror)) from error
 
     def push(self, line: Any, data: bytes) -> None:
-        """Sends all bytes by what is open; raises `OSError` and `Broken`."""
-        raise NotImplementedError
+        """Sends all bytes by what is open, here a file, for which a signal waits; what goes into
+        one on a disk is there then, if it is synced. Raises `OSError`, and `Broken`.
+        """
+        file = line.fileno()
+        with hold_signals() if self.name == OUTPUT else nullcontext():  # not in a window
+            self.is_kept = stat.S_ISREG(os.fstat(file).st_mode)
+            write_whole(data, file)
+            if self.is_synced and self.is_kept:
+                os.fdatasync(file)
 
     def ask(self, _question: Query) -> Reply | None:
         """Returns what a printer answers to a question; None if it does not. Raises `Broken`."""
@@ -146,23 +155,7 @@ class Patience:
             self.outlet.say(Problem(what, Text("is it switched on, and has it paper?")))
 
 
-class OpenFile(Outlet):
-    """What is written to an open file; each label of a file on a disk is there once it is sent."""
-
-    is_direct = True
-    is_synced = True
-
-    def push(self, line: Any, data: bytes) -> None:
-        """Writes bytes, for which a signal waits; raises `OSError`."""
-        file = line.fileno()
-        with hold_signals() if self.name == OUTPUT else nullcontext():  # not in a window
-            self.is_kept = stat.S_ISREG(os.fstat(file).st_mode)
-            write_whole(data, file)
-            if self.is_synced and self.is_kept:
-                os.fdatasync(file)
-
-
-class StandardOutput(OpenFile):
+class StandardOutput(Outlet):
     """Standard output, which is closed at the end of the tool."""
 
     name = OUTPUT
@@ -176,12 +169,13 @@ class StandardOutput(OpenFile):
         return standard_output()
 
 
-class Device(OpenFile):
+class Device(Outlet):
     """A printer named by a path, such as /dev/usb/lp0, or a file that is there, to which labels are
     added if it is empty or begins as they do. A label counts as taken once the system has all of
     its bytes; a printer without paper takes none, and is waited for as one in the network is.
     """
 
+    is_direct = True
     line: FileIO | None = None
 
     def __init__(self, name: str, begin: bytes, stuck: float = STUCK) -> None:
@@ -282,15 +276,6 @@ class Collected(Outlet):
             with temporary():
                 self.file.seek(0)
             self.given = self.give(self.file)
-
-
-def events_of(file: int, wanted: int, seconds: float = 0.0) -> int:
-    """Returns which of some events an open file has, or its break or end, in some seconds at most;
-    0 for none.
-    """
-    look = select.poll()  # it takes any number of open files, unlike select
-    look.register(file, wanted)
-    return sum(event for _, event in look.poll(seconds * 1000))
 
 
 def has_reader(file: int) -> bool:

@@ -14,7 +14,7 @@ from labeltools.drawing.forms import PDF
 from labeltools.printing.job import is_direct
 from labeltools.sending.cups import connection, queues
 from labeltools.sending.job import trouble_of
-from labeltools.sending.network import is_in_network, SCHEME
+from labeltools.sending.network import SCHEME
 
 QUEUE, NETWORK, USB = "queue", "network", "usb"  # the ways to a printer
 DEVICES = Path("/dev/usb")  # has the printers on USB
@@ -53,7 +53,7 @@ def known_printers(known: Known) -> Iterator[Printer]:
     with suppress(ToolError):
         yield from queues_of_cups(known)
     for key, kept in known.items():
-        if is_in_network(key):
+        if key.startswith(SCHEME):
             yield direct_printer(key, NETWORK, kept)
     for path in sorted(map(str, DEVICES.glob("lp*"))):
         yield direct_printer(path, USB, known.get(path, {}))
@@ -91,7 +91,7 @@ def lost_printer(key: str) -> Printer:
     """Returns a printer that is not there any more."""
     way = QUEUE
     if is_direct(key):
-        way = NETWORK if is_in_network(key) else USB
+        way = NETWORK if key.startswith(SCHEME) else USB
     return Printer(key, key.removeprefix(SCHEME), way, LOST, False)
 
 

@@ -13,7 +13,7 @@ from labeltools.lines.file import Record
 from labeltools.printing.job import Job
 from labeltools.printing.press import Batch, Prepared, Press, WrongLabels
 from labeltools.sending.journal import Entry, Journal, PRINTED
-from labeltools.sending.network import is_in_network, NetworkPrinter
+from labeltools.sending.network import NetworkPrinter, SCHEME
 from labeltools.sending.outcomes import NOTHING_OUT, Progress
 from labeltools.sending.outlets import (
     Broken,
@@ -285,7 +285,7 @@ def outlet_of(job: Job, printer: str | None) -> Outlet:
     if not printer:
         is_synced = job.options.journal is not None
         return StandardOutput(job.form.is_roll, is_synced)
-    if is_in_network(printer):
+    if printer.startswith(SCHEME):
         return NetworkPrinter(printer)
     return Device(printer, job.form.begin)
 

@@ -31,6 +31,7 @@ from threading import Thread
 from typing import BinaryIO, Iterator, Sequence
 
 from labeltools.common.budget import LINE_OF_STREAM, SINGLE_LINE, too_much
+from labeltools.common.files import events_of
 from labeltools.common.messages import (
     fault_of,
     Talk,
@@ -79,8 +80,6 @@ class Fifo:
         self.path = path
         self.source = os.open(path, os.O_RDONLY | os.O_NONBLOCK)  # it waits for no writer
         os.set_blocking(self.source, True)
-        self.poll = select.poll()  # it takes any number of open files, unlike select
-        self.poll.register(self.source, select.POLLIN)
         self.found: Queue[bytes | Exception] = Queue(MOST_AHEAD)
         Thread(target=self.read_ahead, daemon=True).start()
 
@@ -108,9 +107,10 @@ class Fifo:
             if not is_in_place(self.path, self.source):
                 raise ToolError(Text("{}: another program has changed it", self.path), NO_FIFO)
             writer = os.open(self.path, os.O_WRONLY)
-            has_bytes = bool(self.poll.poll(LOOK * 1000))
+            has_bytes = bool(events_of(self.source, select.POLLIN, LOOK))
             os.close(writer)
-            has_writer = has_bytes or not self.poll.poll(0)  # it is not at its end
+            is_at_end = bool(events_of(self.source, select.POLLIN))
+            has_writer = has_bytes or not is_at_end
 
     def readline(self, _: int = 0) -> bytes:
         """Returns a line, or the next part of a long one; nothing at the end of a writer. Raises
