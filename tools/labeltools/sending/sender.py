@@ -32,9 +32,7 @@ ASKED_AFTER = 20  # labels of a run, after which a printer is asked how many it 
 
 
 class Sender:
-    """Sends labels by an outlet; what the job asks for `again` is sent once more, though the
-    journal has it.
-    """
+    """Sends labels by an outlet, but for those that a journal has."""
 
     def __init__(
         self,
@@ -46,7 +44,6 @@ class Sender:
         """Takes all lines of the input, too."""
         self.outlet = outlet
         self.journal = journal
-        self.again = job.options.again
         self.records = records
         self.progress = Progress(job, outlet, records)
         self.watch = Watch(outlet, job.form.name, job.plan.dpi)
@@ -161,7 +158,7 @@ class Sender:
         """
         record = part.items[0].record
         journal = self.journal
-        if journal is not None and self.again is None and journal.entry(record) is not None:
+        if journal and record.code_line not in journal.again and journal.entry(record):
             self.known.add(record.code_line)  # so no connection is made
             return 0
         document = press.document(part, is_first)
