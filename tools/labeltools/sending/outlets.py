@@ -30,7 +30,7 @@ QUIET = 5.0  # seconds of these before it is said
 STOPPED = 2.0  # seconds of these if somebody has stopped the work
 LOOK = 0.1  # seconds between two looks at a file that takes nothing
 MOST_NAME = 100  # letters of the data in the name of a file
-NUMBERED = re.compile(r"%(0?\d?)d|%s")
+NUMBERED = re.compile(r"%0?\d?d", re.ASCII)
 HINTS = {
     FileNotFoundError: Text("is it switched on, and connected?"),
     PermissionError: Text("sudo adduser $USER lp, then log in again"),
@@ -309,10 +309,8 @@ def paths_of(name: str, data: Sequence[bytes], first: int) -> Mapping[int, Path]
 
 def file_name(name: str, number: int, data: bytes) -> str:
     """Returns the name of the file of a label."""
+    for form in {*NUMBERED.findall(name)}:
+        name = name.replace(form, form % number)
     text = data.decode("latin-1")
     safe = re.sub(r"[^\w.-]|^[.-]", "_", text, flags=re.ASCII)[:MOST_NAME]
-
-    def part(match: re.Match[str]) -> str:
-        return safe if match[0] == "%s" else f"{number:{match[1]}d}"
-
-    return NUMBERED.sub(part, name)
+    return name.replace("%s", safe)
