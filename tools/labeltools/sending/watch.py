@@ -1,12 +1,11 @@
 """Asks a printer how it is, before labels are sent to it, and then until they are printed."""
 
 import time
-from collections.abc import Sequence
 from contextlib import suppress
 from dataclasses import replace
 
-from labeltools.common.messages import BAD_ARGUMENTS, Problem, Remedy, Talk, ToolError
-from labeltools.common.text import counted, joined, NOTHING, Text
+from labeltools.common.messages import BAD_ARGUMENTS, Remedy, Talk, ToolError
+from labeltools.common.text import joined, Text
 from labeltools.paper.plan import MILLIMETRES
 from labeltools.sending.answers import DOTS, QUERIES, read_status, Reply
 from labeltools.sending.outlets import Broken, Outlet
@@ -43,10 +42,8 @@ class Watch:
             return
         name = self.outlet.name
         self.require_dots()
-        for trouble in self.answer.troubles:
-            talk.say(replace(trouble, what=Text("{}: {}", name, trouble.what)))
-        if self.answer.left:
-            talk.say(Problem(Text("{}: {}", name, left_text(self.answer.left))))
+        for problem in self.answer.problems:
+            talk.say(replace(problem, what=Text("{}: {}", name, problem.what)))
 
     def require_dots(self) -> None:
         """Raises `ToolError` if a printer of ZPL says that it has other dots than the labels: they
@@ -78,9 +75,7 @@ class Watch:
         before = self.answer
         while self.question is not None:
             self.answer = answer = self.ask()
-            if answer.left is None:  # nobody knows how many it has left
-                return
-            if answer.is_empty or answer.troubles:
+            if not answer.left or answer.troubles:  # it may not say how many it has left
                 return
             if answer.left != before.left:
                 before = answer
@@ -109,15 +104,5 @@ class Watch:
         name = self.outlet.name
         if self.answer.is_empty:
             return Text("{} printed by {}", labels, name)
-        return joined("; ", (Text("{} sent to {}", labels, name), *self.troubles))
-
-    @property
-    def troubles(self) -> Sequence[Text]:
-        """What the printer has left, and what keeps it from printing."""
-        left = left_text(self.answer.left) if self.answer.left else NOTHING
-        return [*filter(None, (left, *(trouble.line for trouble in self.answer.troubles)))]
-
-
-def left_text(count: int) -> Text:
-    """Returns how many labels a printer has."""
-    return counted("{} label is left in the printer", "{} labels are left in the printer", count)
+        problems = (problem.line for problem in self.answer.problems)
+        return joined("; ", (Text("{} sent to {}", labels, name), *problems))

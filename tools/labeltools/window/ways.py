@@ -379,7 +379,8 @@ def direct_sent(printer: str, name: str, labels: Prepared, talk: WindowTalk) -> 
     count, wrong = sender.progress.taken, sender.progress.wrong
     if sender.watch.answer.is_empty:
         return Sent(None, printed_on(count, name), wrong, SUCCESS)
-    parts = sent_to(count, name), *map(whole_sentence, sender.watch.troubles)
+    problems = [whole_sentence(problem.line) for problem in sender.watch.answer.problems]
+    parts = sent_to(count, name), *problems
     return Sent(None, joined(" ", parts), wrong, WARNING if sender.watch.is_stuck else INFO)
 
 
