@@ -9,7 +9,7 @@ from typing import Iterable, Iterator
 
 from labeltools.common.messages import Origin, Problem, Remedy, ToolError
 from labeltools.common.process import read_file
-from labeltools.common.report import few, is_in_ranges, LeftOut, Ranges, ranges_of, ranges_text
+from labeltools.common.report import few, is_in_ranges, LeftOut, listed, Ranges
 from labeltools.common.text import Text
 from labeltools.lines.file import Record
 
@@ -47,8 +47,7 @@ class Selection:
             rows.add(record.origin_number)
             if self.codes:
                 codes.update(names_of_code(record))
-        if lacking := ranges_of(self.lacking(rows)):
-            named = ranges_text(lacking)
+        if named := listed(self.lacking(rows)):
             text = Text("the input does not have {}", named)
             yield LeftOut(None, "", Problem(text, remedies=(Remedy("only"),)))
         if unknown := [code.decode("utf-8", "backslashreplace") for code in self.codes - codes]:
