@@ -448,7 +448,7 @@ class Rows(unittest.TestCase):
                     raise KeyError("a")
                 return before(self, *found)
 
-            options = table_options(table_parser().parse_args(["--code", "EAN", "--price", "P"]))
+            options = table_options(["--code", "EAN", "--price", "P"])
             with self.subTest(place), mock.patch.object(owner, method, broken):
                 made = lines_of_table(data, "a", options, Talk())
             self.assertEqual((made.count, made.left_out), (2, (3,)))

@@ -277,21 +277,22 @@ def record_of_arguments(kind: type[Read], arguments: argparse.Namespace, **more:
     return kind(**{name: found[name] for name in names if found[name] is not None})
 
 
-def symbology_column(arguments: argparse.Namespace) -> str | None:
-    """Returns the column of the symbologies, None where all codes have one."""
-    return None if symbology_named(arguments.symbology) else arguments.symbology
-
-
-def code_rules(arguments: argparse.Namespace) -> CodeRules:
-    """Returns how codes are read; the symbology may be in a column."""
-    kind = symbology_named(arguments.symbology) or AUTO
-    return record_of_arguments(CodeRules, arguments, symbology=kind)
-
-
-def table_options(arguments: argparse.Namespace) -> TableOptions:
-    """Returns the options that the arguments are; raises `ToolError` and `OSError` for older lines
-    that cannot be read.
+def code_rules(arguments: argparse.Namespace) -> tuple[str | None, CodeRules]:
+    """Returns the column of the symbologies, None where all codes have one, and how codes are
+    read.
     """
+    kind = symbology_named(arguments.symbology)
+    rules = record_of_arguments(CodeRules, arguments, symbology=kind or AUTO)
+    return None if kind else arguments.symbology, rules
+
+
+def table_options(words: Sequence[str]) -> TableOptions:
+    """Returns the options that words are; raises `BadArguments`, and `ToolError` and `OSError` for
+    older lines that cannot be read.
+    """
+    arguments = table_parser().parse_args(words)
+    check_arguments(arguments)
+    column, rules = code_rules(arguments)
     several = {name: tuple(getattr(arguments, name)) for name in ("title", "text", "where")}
     older = arguments.new_since
     is_text = arguments.price_as == ANY_TEXT.value
@@ -299,29 +300,20 @@ def table_options(arguments: argparse.Namespace) -> TableOptions:
     return record_of_arguments(
         TableOptions,
         arguments,
-        columns=record_of_arguments(
-            Columns, arguments, symbology=symbology_column(arguments), **several
-        ),
+        columns=record_of_arguments(Columns, arguments, symbology=column, **several),
         file=record_of_arguments(FileOptions, arguments),
-        codes=code_rules(arguments),
+        codes=rules,
         prices=PriceRules(is_text, pattern, arguments.currency_name),
         new_since=None if older is None else older_lines(older),
         table="" if arguments.table in (None, "-") else arguments.table,
     )
 
 
-def understood(words: Sequence[str]) -> argparse.Namespace:
-    """Returns the arguments that words are; raises `BadArguments`."""
-    arguments = table_parser().parse_args(words)
-    if arguments.code is None:
-        raise BadArguments(Text("the following arguments are required: --code"))
-    check_arguments(arguments)
-    return arguments
-
-
 def check_arguments(arguments: argparse.Namespace) -> None:
     """Raises `BadArguments` for arguments that are wrong, or do not go together."""
-    rules = code_rules(arguments)
+    if arguments.code is None:
+        raise BadArguments(Text("the following arguments are required: --code"))
+    column, rules = code_rules(arguments)
     if rules.is_free and rules.digits:
         as_they_are = NO_ZEROS if rules.digits == ZEROS_ARE_LOST else HAS_DIGIT
         number = replace(kind_remedy(AUTO), value=rules.symbology, is_less=True)
@@ -331,7 +323,7 @@ def check_arguments(arguments: argparse.Namespace) -> None:
         raise BadArguments(what, Text("name its column"), (Remedy("title"),))
     if arguments.price_as and not any(getattr(arguments, name) for name in OF_PRICES):
         raise BadArguments(NO_PRICES, remedies=(AS_IN_TABLE,))
-    if symbology_column(arguments) is None:
+    if column is None:
         kind = SYMBOLOGIES[EAN13.name if rules.symbology == AUTO else rules.symbology]
         wrong = TableOptions(settings=arguments.settings or "").wrong_setting(kind.name)
         if wrong:
@@ -363,7 +355,7 @@ def show_commands(commands: Sequence[Sequence[str]], guess: Guess, data: bytes, 
     """Writes commands, each with the first labels that it makes; and the columns of amounts that
     none of them uses, as they are beside the first label. Raises `ToolError` for a wrong command.
     """
-    ways = [table_options(understood(command)) for command in commands]
+    ways = [*map(table_options, commands)]
     asked = {column for options in ways for column in options.columns.asked}
     words = {place: column_word(guess.names, place) for place in guess.amounts}
     unused = [place for place, word in words.items() if asked.isdisjoint((word, str(place + 1)))]
@@ -401,7 +393,7 @@ def found_in(
 
 def is_given(arguments: argparse.Namespace) -> bool:
     """Returns whether it was said how the codes are read."""
-    return code_rules(arguments) != CodeRules() or symbology_column(arguments) is not None
+    return code_rules(arguments) != (None, CodeRules())
 
 
 def commands_for(
@@ -559,9 +551,8 @@ def run() -> int:
     if arguments.code is None and arguments.table not in (None, "-"):
         propose(words, arguments)
         return BAD_ARGUMENTS
-    arguments = understood(words)
+    options = table_options(words)
     output = standard_output()
-    options = table_options(arguments)
     name, data = read_input(arguments.table, TABLE)
     talk = TableTalk()
     lines = read_apart(lines_of_table, data, name, options, talk)
