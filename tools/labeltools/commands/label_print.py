@@ -39,7 +39,7 @@ from labeltools.sending.journal import Journal
 from labeltools.sending.network import address_of
 from labeltools.sending.outcomes import NOTHING_OUT
 from labeltools.sending.outlets import Files, Outlet, OUTPUT
-from labeltools.sending.sender import expected, labels_text, outlet_of, Sender
+from labeltools.sending.sender import labels_text, outlet_of, Sender, unforeseen
 
 TOOL = "label-print"
 USAGE = """label-print --stock NAME [OPTIONS] [LINES]
@@ -379,7 +379,8 @@ def run() -> int:
 def labels_in(job: Job, talk: CommandTalk) -> Prepared:
     """Returns the labels of the lines of a file; reports what there is to say of them."""
     gc.disable()  # no label leaves a cycle behind, and to look for them takes time
-    found = all_labels(job, talk)
+    with unforeseen(ToolError, NOTHING_OUT):
+        found = labels_of(job, *read_input(job.options.lines), talk)
     for message in [
         *left_out_messages(found.left_out, found.tables),
         *(remark.problem.line for remark in found.remarks),
@@ -390,18 +391,6 @@ def labels_in(job: Job, talk: CommandTalk) -> Prepared:
         place = places_text([found.prints[0].record.origin], len(found.tables) > 1)
         write_message(TOOL, Text("the first label is {}", place))
     return found
-
-
-def all_labels(job: Job, talk: CommandTalk) -> Prepared:
-    """Returns the labels of a file of lines; raises `ToolError` and `OSError`. Of an exception that
-    nobody expected it is said that nothing was printed.
-    """
-    try:
-        return labels_of(job, *read_input(job.options.lines), talk)
-    except OSError:
-        raise
-    except Exception as error:
-        raise expected(error, ToolError, NOTHING_OUT) from error
 
 
 def stock_lines(wanted: str) -> str:

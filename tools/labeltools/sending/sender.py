@@ -66,21 +66,16 @@ class Sender:
         self.outlet.came = came
         self.outlet.say = talk.say
         for part in press.batches(found.prints):
+            so_far = NOTHING if self.outlet.is_direct else self.progress.so_far()
             try:
-                if came:
-                    with self.between_labels():
-                        self.close_well()
-                    raise ToolError(Text("{}: {}", self.outlet.name, self.progress.so_far()))
-                self.send_right(press, part, talk)
-            except OSError:
-                raise
-            except Exception as error:
+                with unforeseen(ToolError, so_far):
+                    self.send_right(press, part, talk)
+            except ToolError as error:
                 if not self.outlet.is_direct:
-                    raise expected(error, ToolError, self.progress.so_far()) from error
-                known = expected(error, ToolError)
+                    raise
                 place = self.progress.labels_in_words(part.items)
-                ended = self.progress.ended(known, place)
-                self.is_off = self.is_off or isinstance(known, (Broken, Unreachable))
+                ended = self.progress.ended(error, place)
+                self.is_off = self.is_off or isinstance(error, (Broken, Unreachable))
                 with self.between_labels():
                     self.close_well()
                 raise ended from error
@@ -128,20 +123,22 @@ class Sender:
         `Broken`, since what broke off are the labels that were sent.
         """
         try:
-            yield
-        except OSError:
-            raise
-        except Exception as error:
-            known = expected(error, Broken)
-            self.is_off = isinstance(known, (Broken, Unreachable))
-            if not isinstance(known, Broken):
+            with unforeseen(Broken):
+                yield
+        except ToolError as error:
+            self.is_off = isinstance(error, (Broken, Unreachable))
+            if not isinstance(error, Broken):
                 raise
-            raise self.progress.ended_between_labels(known) from error
+            raise self.progress.ended_between_labels(error) from error
 
     def send_right(self, press: Press, part: Batch, talk: Talk) -> None:
         """Sends what goes out as a whole, without labels that would be drawn wrongly, of which it
-        says so.
+        says so; raises `ToolError` if somebody has stopped the work.
         """
+        if self.outlet.came:
+            with self.between_labels():
+                self.close_well()
+            raise ToolError(Text("{}: {}", self.outlet.name, self.progress.so_far()))
         while part.items:
             try:
                 self.send_batch(press, part, not self.progress.taken)
@@ -188,21 +185,19 @@ class Sender:
         with a journal `Broken`, since the label is in doubt there, too.
         """
         try:
-            self.outlet.send(document)
-            if is_last:
-                self.outlet.close()
-            if self.journal is not None:
-                self.journal.write_taken(record, is_printed=self.outlet.is_kept)
-        except OSError:
-            raise
-        except Exception as error:
-            known = expected(error, Broken)
-            self.is_at_end = self.outlet.name == OUTPUT and isinstance(known, Untaken)
+            with unforeseen(Broken):
+                self.outlet.send(document)
+                if is_last:
+                    self.outlet.close()
+                if self.journal is not None:
+                    self.journal.write_taken(record, is_printed=self.outlet.is_kept)
+        except ToolError as error:
+            self.is_at_end = self.outlet.name == OUTPUT and isinstance(error, Untaken)
             if self.journal is None:
-                raise known from error
+                raise
             with suppress(ToolError):  # something else is reported
                 self.journal.give_up()
-            raise Broken.of(known.problem, known.status) from error
+            raise Broken.of(error.problem, error.status) from error
 
     def end_run(self) -> Mapping[str, Entry]:
         """Ends the run, and returns what is in doubt in the journal; nothing if that cannot be
@@ -266,13 +261,18 @@ class Sender:
             yield Text("if missing, to be printed again: {}", line)
 
 
-def expected(error: Exception, kind: type[ToolError], so_far: Text = NOTHING) -> ToolError:
-    """Returns the error of a tool for any exception: for one that nobody expected of a kind, and
-    with what went out before it.
+@contextmanager
+def unforeseen(kind: type[ToolError], so_far: Text = NOTHING) -> Iterator[None]:
+    """Raises an error of a kind, with what went out before it, in place of an exception that nobody
+    expected.
     """
-    if isinstance(error, ToolError):
-        return error
-    return kind(joined(": ", filter(None, (fault_of(error), so_far))), status=UNEXPECTED)
+    try:
+        yield
+    except (OSError, ToolError):
+        raise
+    except Exception as error:
+        what = joined(": ", filter(None, (fault_of(error), so_far)))
+        raise kind(what, status=UNEXPECTED) from error
 
 
 def outlet_of(job: Job, printer: str | None) -> Outlet:

@@ -32,14 +32,7 @@ from typing import BinaryIO, Iterator, Sequence
 
 from labeltools.common.budget import LINE_OF_STREAM, SINGLE_LINE, too_much
 from labeltools.common.files import events_of
-from labeltools.common.messages import (
-    fault_of,
-    Talk,
-    ToolError,
-    UNEXPECTED,
-    visible,
-    write_message,
-)
+from labeltools.common.messages import Talk, ToolError, UNEXPECTED, visible, write_message
 from labeltools.common.process import standard_output
 from labeltools.common.report import places_text
 from labeltools.common.signals import end_with, ENDING, hold_signals
@@ -52,7 +45,7 @@ from labeltools.printing.press import pens_of, Prepared, prepared, Press, WrongL
 from labeltools.printing.remarks import SHORTENED
 from labeltools.sending.database import is_in_place
 from labeltools.sending.outlets import Broken, has_reader, OUTPUT, Unreachable
-from labeltools.sending.sender import Sender
+from labeltools.sending.sender import Sender, unforeseen
 
 TAKEN, REFUSED, KNOWN, UNSENT, DOUBTFUL = "taken", "refused", "known", "unsent", "doubtful"
 SKIPPED = (b'#{"labels"', b'#{"end"')
@@ -255,27 +248,23 @@ class Stream:
         self.notes = []
         text = parts[-1][1].removesuffix(b"\n").decode("utf-8", "backslashreplace")
         try:
-            said, _, code = parts[-1][1].rstrip().partition(b" ")
-            if said in SETTLES:
-                return self.settle(said, code)
-            self.require_reader()
-            try:
-                found = self.label_of_line(parts)
-            except ToolError as error:
-                return REFUSED, error.problem.line
-            size = self.print(found)
-            return (TAKEN, Text("{} {}", size, text)) if size else (KNOWN, Text("{}", text))
+            with unforeseen(ToolError):
+                said, _, code = parts[-1][1].rstrip().partition(b" ")
+                if said in SETTLES:
+                    return self.settle(said, code)
+                self.require_reader()
+                try:
+                    found = self.label_of_line(parts)
+                except ToolError as error:
+                    return REFUSED, error.problem.line
+                size = self.print(found)
+                return (TAKEN, Text("{} {}", size, text)) if size else (KNOWN, Text("{}", text))
         except WrongLabels as error:  # the next label is another one
             return REFUSED, error.problem.line
         except ToolError as error:
             if error.status == UNEXPECTED:
                 self.status = error.status
             return DOUBTFUL if isinstance(error, Broken) else UNSENT, error.problem.line
-        except OSError:
-            raise
-        except Exception as error:  # before anything goes out: see `Sender.give`
-            self.status = UNEXPECTED
-            return UNSENT, fault_of(error)
         finally:
             self.sender.outlet.drop()  # it is left to others if nothing went out by it
 
