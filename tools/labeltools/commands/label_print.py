@@ -34,7 +34,7 @@ from labeltools.printing.job import (
     STATES,
 )
 from labeltools.printing.press import check_count, labels_of, Prepared
-from labeltools.printing.selection import ranges_in, selection_of
+from labeltools.printing.selection import codes_named, ranges_in, Selection
 from labeltools.sending.journal import Journal
 from labeltools.sending.network import address_of
 from labeltools.sending.outcomes import NOTHING_OUT
@@ -339,7 +339,7 @@ def print_options(words: Sequence[str] | None = None) -> PrintOptions:
     `OSError`.
     """
     given = vars(print_parser().parse_args(words))
-    given["only"] = selection_of(given.pop("rows_only") or (), given.pop("codes"))
+    given["only"] = Selection(given.pop("rows_only") or (), codes_named(given.pop("codes")))
     given["turn"] = TURNS.get(given["turn"])
     return PrintOptions(**given)
 

@@ -87,13 +87,6 @@ def names_of_code(record: Record) -> set[bytes]:
     return {whole, *names, *(kind + b" " + name for name in names)}
 
 
-def selection_of(rows: Ranges, codes: Iterable[str]) -> Selection:
-    """Returns what is asked for: rows, and codes or files of them; raises `ToolError` and
-    `OSError`.
-    """
-    return Selection(rows, frozenset(code for argument in codes for code in codes_named(argument)))
-
-
 def ranges_in(rows: str) -> Ranges:
     """Returns the ranges that an argument such as 2,7-9 or 7- names; none if it names no rows.
 
@@ -115,14 +108,20 @@ def ranges_in(rows: str) -> Ranges:
     return tuple(sorted(found))
 
 
-def codes_named(argument: str) -> set[bytes]:
-    """Returns the code that an argument is, or those of the lines of a file, as in @damaged.txt."""
-    if not argument.startswith(FILE):
-        return {argument.encode("utf-8", "surrogateescape")}
-    data = read_file(argument[len(FILE) :]).removeprefix(BOM_UTF8)
-    found = {line.strip() for line in data.splitlines()}
-    found.discard(b"")
-    if not found:
-        what = Text("{}: there is no code", argument[len(FILE) :])
-        raise ToolError(what, Text("write a code on each line"))
-    return found
+def codes_named(arguments: Iterable[str]) -> frozenset[bytes]:
+    """Returns the codes that arguments are, or those of the lines of a file, as in @damaged.txt;
+    raises `ToolError` and `OSError`.
+    """
+    found: set[bytes] = set()
+    for argument in arguments:
+        if not argument.startswith(FILE):
+            found.add(argument.encode("utf-8", "surrogateescape"))
+            continue
+        path = argument.removeprefix(FILE)
+        lines = read_file(path).removeprefix(BOM_UTF8).splitlines()
+        codes = {line.strip() for line in lines} - {b""}
+        if not codes:
+            what = Text("{}: there is no code", path)
+            raise ToolError(what, Text("write a code on each line"))
+        found |= codes
+    return frozenset(found)
