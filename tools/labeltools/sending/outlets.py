@@ -9,7 +9,7 @@ import select
 import stat
 import tempfile
 import time
-from collections.abc import Callable, Mapping, Sequence, Sized
+from collections.abc import Callable, Sequence, Sized
 from contextlib import nullcontext, suppress
 from io import BytesIO, FileIO
 from pathlib import Path
@@ -241,7 +241,22 @@ class Files(Outlet):
         files have one name.
         """
         self.name = name
-        self.paths = paths_of(name, data, first)
+        folder = Path(name).parent
+        if folder == Path() or "%" in str(folder):
+            what = Text("the files of labels need a folder")
+            raise ToolError(what, Text("name one, as in labels/%s.png"), remedies=OF_EACH)
+        paths: dict[str, Path] = {}
+        for number, label in enumerate(data, first):
+            path = Path(file_name(name, number, label))
+            if paths.setdefault(path.name.lower(), path) is not path:
+                what = Text("two labels would be the file {}", path)
+                raise ToolError(what, Text("put %d into the name"), remedies=OF_EACH)
+        folder.mkdir(parents=True, exist_ok=True)
+        if any(folder.iterdir()):
+            what = Text("the folder {} is not empty", folder)
+            hint = Text("old labels would be among the new ones: name another one")
+            raise ToolError(what, hint, remedies=OF_EACH)
+        self.paths = dict(enumerate(paths.values(), first))
 
     def send(self, data: bytes) -> None:
         """Writes the file of the next label, for which a signal waits; raises `OSError`."""
@@ -283,28 +298,6 @@ def has_reader(file: int) -> bool:
     connection or of a terminal has gone.
     """
     return not events_of(file, 0)
-
-
-def paths_of(name: str, data: Sequence[bytes], first: int) -> Mapping[int, Path]:
-    """Returns the file of each label, by its number from `first` on, in a folder that is new or
-    empty; raises `ToolError` if two would be one.
-    """
-    folder = Path(name).parent
-    if folder == Path() or "%" in str(folder):
-        what = Text("the files of labels need a folder")
-        raise ToolError(what, Text("name one, as in labels/%s.png"), remedies=OF_EACH)
-    paths: dict[str, Path] = {}
-    for number, label in enumerate(data, first):
-        path = Path(file_name(name, number, label))
-        if paths.setdefault(path.name.lower(), path) is not path:
-            what = Text("two labels would be the file {}", path)
-            raise ToolError(what, Text("put %d into the name"), remedies=OF_EACH)
-    folder.mkdir(parents=True, exist_ok=True)
-    if any(folder.iterdir()):
-        what = Text("the folder {} is not empty", folder)
-        hint = Text("old labels would be among the new ones: name another one")
-        raise ToolError(what, hint, remedies=OF_EACH)
-    return dict(enumerate(paths.values(), first))
 
 
 def file_name(name: str, number: int, data: bytes) -> str:

@@ -67,15 +67,10 @@ def queues_of_cups(known: Known) -> Iterator[Printer]:
         shown = about.get("printer-info") or name
         is_raw = RAW in about.get("printer-make-and-model", "")
         form = kept.get("to", "" if is_raw else PDF.name)
-        state, is_ready = state_of(name, about)
-        yield Printer(name, shown, QUEUE, state, is_ready, form, int(kept.get("dpi", 0)))
-
-
-def state_of(name: str, about: Mapping[str, Any]) -> tuple[Text, bool]:
-    """Returns the state of a queue in words, and whether it prints now."""
-    if trouble := trouble_of(name, about):
-        return trouble.what, False
-    return (PRINTING if about.get("printer-state") == PROCESSING else READY), True
+        trouble = trouble_of(name, about)
+        state = PRINTING if about.get("printer-state") == PROCESSING else READY
+        state = trouble.what if trouble else state
+        yield Printer(name, shown, QUEUE, state, trouble is None, form, int(kept.get("dpi", 0)))
 
 
 def direct_printer(key: str, way: str, kept: Mapping[str, str]) -> Printer:
