@@ -61,7 +61,7 @@ class NetworkPrinter(Outlet):
         self.address = address_of(name)
         self.name = name
         self.stuck = stuck
-        self.has_sent = False  # labels, by this connection
+        self.on_way = []
 
     def open(self) -> socket.socket:
         """Returns the connection, which is made where there is none, or the printer has ended it;
@@ -77,7 +77,7 @@ class NetworkPrinter(Outlet):
                 hint = Text("is it switched on, and in the network?")
                 raise Unreachable(Text("{}: {}", self.name, reason), hint) from error
             self.line.setblocking(False)
-            self.has_sent = False
+            self.on_way = []
         return self.line
 
     def push(self, line: socket.socket, data: bytes) -> None:
@@ -85,7 +85,6 @@ class NetworkPrinter(Outlet):
         says meanwhile is read: one that nobody hears may stop taking. Raises `OSError` and
         `Broken`.
         """
-        self.has_sent = True
         rest = memoryview(data)
         patience = Patience(self, self.stuck)
         pause = SHORT
@@ -117,11 +116,11 @@ class NetworkPrinter(Outlet):
             with suppress(BlockingIOError):
                 line.recv(HEARD)  # what it said before
             # to a question behind its end it would break off, as if it had thrown labels away
-            if not events_of(line.fileno(), select.POLLRDHUP, REGRET if self.has_sent else FIRST):
+            if not events_of(line.fileno(), select.POLLRDHUP, REGRET if self.on_way else FIRST):
                 with suppress(BlockingIOError):
                     line.send(question.data)
                 answer = self.heard(line, question)
-            if not self.has_sent and events_of(line.fileno(), select.POLLRDHUP):
+            if not self.on_way and events_of(line.fileno(), select.POLLRDHUP):
                 self.drop()
         except OSError as error:
             self.drop()

@@ -40,7 +40,7 @@ class Progress:
         self.has_tables = len({record.table for record in records}) > 1
         # whether a number is that of one line: several tables have rows of the same numbers
         self.is_clear = len({record.origin_number for record in records}) == len(records)
-        self.on_way: list[LaidOut] = []  # since the way out was made: they may be thrown away
+        outlet.on_way = []
         outlet.done = job.options.after  # labels on paper or in the journal, and the wrong ones
         self.taken = 0
         self.wrong: dict[int, ToolError] = {}  # labels that would be drawn wrongly, by their lines
@@ -112,8 +112,8 @@ class Progress:
         """Returns what to do about labels that a printer took, and may have thrown away when it
         broke off; nothing if it took none, or a journal has them as doubtful.
         """
-        if not self.on_way or self.has_journal:
+        if not self.outlet.on_way or self.has_journal:
             return ()
-        labels = self.labels_in_words(self.on_way)
+        labels = self.labels_in_words(self.outlet.on_way)
         look = Text("{} may be missing: look which label came out last, and go on", labels)
         return look, Remedy("after", "N")

@@ -20,6 +20,7 @@ from labeltools.common.messages import Problem, Remedy, Talk, ToolError
 from labeltools.common.process import standard_output
 from labeltools.common.signals import hold_signals
 from labeltools.common.text import NOTHING, Text
+from labeltools.layout.layout import LaidOut
 from labeltools.sending.answers import Query, Reply
 
 OF_EACH = (Remedy("each"),)
@@ -54,9 +55,10 @@ class Outlet:
     comes after it; `is_kept` is whether what was sent is in a file on a disk, `is_synced` whether
     each label has to be there before the next one, and `is_collected` whether nothing of it goes
     out before all is there. `open` is called before a label is written into the journal. `line` is
-    what is open, if it has to be closed, and `done` how many labels are before the next one. `came`
-    has something once somebody has stopped the work, and `say` says that a printer is waited for.
-    `broken` is what is said of its name and an error of the system.
+    what is open, if it has to be closed; `on_way` are the labels that went out since it is, and may
+    be thrown away, and `done` is how many labels are before the next one. `came` has something once
+    somebody has stopped the work, and `say` says that a printer is waited for. `broken` is what is
+    said of its name and an error of the system.
     """
 
     name: str
@@ -65,14 +67,15 @@ class Outlet:
     is_synced = True
     is_collected = False
     line: Any = None
+    on_way: list[LaidOut]
     done = 0
     came: Sized = ()
     say: Callable[[Problem], object] = Talk().say
     broken = Text("{}: {}", "", "")
 
     def open(self) -> Any:
-        """Returns the way out, which is another one once it was made again after a good end; raises
-        `ToolError` if nothing can be sent.
+        """Returns the way out, which is made again after a good end; raises `ToolError` if nothing
+        can be sent.
         """
         return self
 
@@ -194,6 +197,7 @@ class Device(Outlet):
                 if error.errno == errno.ENXIO:  # of a FIFO
                     what = Text("{}: no program reads it", self.name)
                 raise Unreachable(what, HINTS.get(type(error), NOTHING)) from error
+            self.on_way = []
             self.require_labels(self.line)
         return self.line
 

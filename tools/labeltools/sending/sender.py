@@ -49,7 +49,6 @@ class Sender:
         self.watch = Watch(outlet, job.form.name, job.plan.dpi)
         # what is asked of the printer before its first label
         self.question: Callable[[], object] | None = None
-        self.way: object = None
         self.asked_after = ASKED_AFTER
         self.unasked = 0  # labels that the printer has taken since it was asked what it has left
         self.known: set[str] = set()  # the codes that the journal had
@@ -161,10 +160,7 @@ class Sender:
         document = press.document(part, is_first)
         self.ask_before()
         with self.between_labels():
-            way = self.outlet.open()
-            if way != self.way:
-                self.way = way
-                self.progress.on_way.clear()
+            self.outlet.open()
             if journal is not None:
                 self.ask_for_left()
         if journal is not None and not journal.claim(record):
@@ -175,9 +171,9 @@ class Sender:
         self.progress.taken += len(part.items)
         self.unasked += 1
         if not self.outlet.is_kept:
-            self.progress.on_way += part.items
+            self.outlet.on_way += part.items
         if is_last:
-            self.progress.on_way.clear()
+            self.outlet.on_way.clear()
         return len(document)
 
     def give_label(self, record: Record, document: bytes, is_last: bool) -> None:
