@@ -51,7 +51,7 @@ from labeltools.lines.library import own_files
 from labeltools.printing.job import planned, PrintOptions
 from labeltools.printing.press import labels_of
 from labeltools.sending import stream, watch
-from labeltools.sending.answers import Query, read_status, Reply
+from labeltools.sending.answers import QUERIES, Query, read_status, Reply
 from labeltools.sending.job import trouble_of
 from labeltools.sending.outlets import Outlet
 from labeltools.sending.queue import lp_line
@@ -814,7 +814,7 @@ class Printers(Desk):
     def test_a_count_that_never_comes_to_its_end(self) -> None:
         """It is not asked for ever, whether it goes up and down or only falls."""
         for outlet in (Swinging(), Falling()):
-            watcher = watch.Watch(outlet, "zpl")
+            watcher = watch.Watch(outlet, QUERIES["zpl"])
             short = mock.patch.multiple(watch, IDLE=0.2, LOOKS=(0.001, 0.001), LONGEST=0.3)
             with short, mock.patch.object(watch, "SLOWEST", 0.01):
                 watcher.wait_until_printed(3)

@@ -5,7 +5,7 @@ import gc
 import re
 import sys
 from contextlib import suppress
-from dataclasses import fields, replace
+from dataclasses import dataclass, field, fields, replace
 from functools import partial
 from itertools import chain
 from typing import Any, Mapping, Sequence, TypeVar
@@ -91,14 +91,14 @@ NO_PRICES = Text("there are no prices to be given another look")
 Read = TypeVar("Read")
 
 
+@dataclass
 class TableTalk(CommandTalk):
     """The talk of label-table: of many messages that are alike, the first ones are written, and the
     others counted.
     """
 
-    def __init__(self) -> None:
-        super().__init__(TOOL)
-        self.rows: dict[tuple[object, ...], list[int]] = {}
+    tool: str = TOOL
+    rows: dict[tuple[object, ...], list[int]] = field(default_factory=dict)
 
     def note(self, origin: Origin, cell: str, problem: Problem) -> None:
         """Writes why a row is left out."""

@@ -11,6 +11,7 @@ import tempfile
 import time
 from collections.abc import Callable, Sequence, Sized
 from contextlib import nullcontext, suppress
+from dataclasses import dataclass, field
 from io import BytesIO, FileIO
 from pathlib import Path
 from typing import Any, BinaryIO, IO
@@ -122,18 +123,18 @@ class Outlet:
             line.close()
 
 
+@dataclass
 class Patience:
     """The time of a printer that takes nothing of a label: a minute, but only moments if somebody
     stops the work then. One that takes something has a quarter of an hour for the label.
     """
 
-    def __init__(self, outlet: Outlet, seconds: float) -> None:
-        self.outlet = outlet
-        self.seconds = seconds
-        self.left = -1  # bytes, at the last look
-        self.since = 0.0
-        self.end = time.monotonic() + LONGEST
-        self.is_said = False
+    outlet: Outlet
+    seconds: float
+    left: int = -1  # bytes, at the last look
+    since: float = 0.0
+    begun: float = field(default_factory=time.monotonic)
+    is_said: bool = False
 
     def check_progress(self, left: int) -> None:
         """Takes how many bytes are left; says once that it waits; raises `Broken` when its time is
@@ -150,7 +151,7 @@ class Patience:
         if waited > self.seconds:
             seconds = f"{self.seconds:.0f}"
             raise Broken(Text("{}: the printer has taken nothing for {} seconds", name, seconds))
-        if now > self.end:
+        if now > self.begun + LONGEST:
             raise Broken(Text("{}: the printer takes the label too slowly", name))
         if waited > QUIET and not self.is_said:
             self.is_said = True
@@ -158,20 +159,20 @@ class Patience:
             self.outlet.say(Problem(what, Text("is it switched on, and has it paper?")))
 
 
+@dataclass
 class StandardOutput(Outlet):
     """Standard output, which is closed at the end of the tool."""
 
     name = OUTPUT
-
-    def __init__(self, is_direct: bool = False, is_synced: bool = False) -> None:
-        self.is_direct = is_direct
-        self.is_synced = is_synced
+    is_direct: bool = False
+    is_synced: bool = False
 
     def open(self) -> BinaryIO:
         """Returns it; raises `ToolError` if it is closed."""
         return standard_output()
 
 
+@dataclass
 class Device(Outlet):
     """A printer named by a path, such as /dev/usb/lp0, or a file that is there, to which labels are
     added if it is empty or begins as they do. A label counts as taken once the system has all of
@@ -179,14 +180,11 @@ class Device(Outlet):
     """
 
     is_direct = True
-    line: FileIO | None = None
+    name: str
+    begin: bytes
+    stuck: float = STUCK
 
-    def __init__(self, name: str, begin: bytes, stuck: float = STUCK) -> None:
-        self.name = name
-        self.begin = begin
-        self.stuck = stuck
-
-    def open(self) -> FileIO:
+    def open(self) -> Any:
         """Returns the open file, and opens it if it is not open; raises `Unreachable`."""
         if self.line is None:
             flags = os.O_WRONLY | os.O_APPEND | os.O_NONBLOCK

@@ -12,6 +12,7 @@ from labeltools.common.text import counted, joined, NOTHING, shell_line, Text
 from labeltools.lines.file import Record
 from labeltools.printing.job import Job
 from labeltools.printing.press import Batch, Prepared, Press, WrongLabels
+from labeltools.sending.answers import QUERIES
 from labeltools.sending.journal import Entry, Journal, PRINTED
 from labeltools.sending.network import NetworkPrinter, SCHEME
 from labeltools.sending.outcomes import NOTHING_OUT, Progress
@@ -46,7 +47,7 @@ class Sender:
         self.journal = journal
         self.records = records
         self.progress = Progress(job, outlet, records)
-        self.watch = Watch(outlet, job.form.name, job.plan.dpi)
+        self.watch = Watch(outlet, QUERIES.get(job.form.name), job.plan.dpi)
         # what is asked of the printer before its first label
         self.question: Callable[[], object] | None = None
         self.asked_after = ASKED_AFTER

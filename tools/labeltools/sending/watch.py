@@ -2,12 +2,12 @@
 
 import time
 from contextlib import suppress
-from dataclasses import replace
+from dataclasses import dataclass, replace
 
 from labeltools.common.messages import BAD_ARGUMENTS, Remedy, Talk, ToolError
 from labeltools.common.text import joined, Text
 from labeltools.paper.plan import MILLIMETRES
-from labeltools.sending.answers import DOTS, QUERIES, read_status, Reply
+from labeltools.sending.answers import DOTS, Query, read_status, Reply
 from labeltools.sending.outlets import Broken, Outlet
 
 IDLE = 10.0  # seconds in which a printer with labels left may print none
@@ -19,17 +19,17 @@ LOOKS = 0.1, 0.5  # seconds between two questions, at first and later
 NOTHING_SAID = Reply()
 
 
+@dataclass
 class Watch:
-    """What a printer says of itself. One that does not answer at first is asked no more, and
-    nothing is known of it. `answer` is the last that it said.
+    """What a printer says of itself to a question, if there is one for its language. One that does
+    not answer at first is asked no more, and nothing is known of it. `answer` is the last that it
+    said.
     """
 
-    def __init__(self, outlet: Outlet, form: str, dpi: int = 0) -> None:
-        """Takes a way out, the form of what is sent, and its dots an inch."""
-        self.outlet = outlet
-        self.dpi = dpi
-        self.question = QUERIES.get(form)
-        self.answer = NOTHING_SAID
+    outlet: Outlet
+    question: Query | None
+    dpi: int = 0  # of what is sent
+    answer: Reply = NOTHING_SAID
 
     def report_before(self, talk: Talk) -> None:
         """Says what is wrong with a printer before anything is sent, and what it has of before;
