@@ -152,11 +152,6 @@ class Journal:
         """Returns the code, state, time, printer and place of each label, the oldest first."""
         return self.base.do(LISTED)
 
-    def close(self) -> None:
-        """Ends the run, and closes the journal."""
-        self.give_up()
-        self.base.close()
-
 
 def clean(text: str) -> str:
     """Returns a text without what no database takes."""

@@ -204,7 +204,7 @@ class Sender:
             if self.journal is not None:
                 self.journal.give_up()
                 doubtful = self.journal.doubtful()
-                self.journal.close()
+                self.journal.base.close()
                 return doubtful
         return {}
 
