@@ -24,7 +24,7 @@ from pathlib import Path
 from unittest import mock
 
 import support
-from labeltools.commands.label_table import table_options, table_parser
+from labeltools.commands.label_table import table_options
 from labeltools.common.budget import SECONDS
 from labeltools.common.messages import Talk, ToolError
 from labeltools.designs.svg_design import read_design
@@ -161,7 +161,7 @@ def judge_table(chance: random.Random, data: bytes) -> None:
     """Gives a table to label-table; raises `Wrong`."""
     words = ["--code", "EAN", "--title", "Name", "--price", "Price"]
     words += chance.choice(MORE_WORDS)
-    options = table_options(table_parser().parse_args(words))
+    options = table_options(words)
     with suppress(ToolError):
         made = table.lines_of_table(data, "bent", options, Talk())
         require_known(read_lines(made.output, "bent").records, text_of(data))
@@ -237,7 +237,7 @@ def shown_wrong() -> bool:
 
 def options_of_codes() -> TableOptions:
     """Options by which a table is read."""
-    return table_options(table_parser().parse_args(["--code", "EAN"]))
+    return table_options(["--code", "EAN"])
 
 
 def run(cases: int, seed: int, keep: Path | None = None) -> tuple[Counter[str], list[str]]:

@@ -216,7 +216,9 @@ class Scheduler:
         """Adds a queue with a driver of KINDS or of the samples, or without one; by itself it
         prints into a file.
         """
-        device = device or f"file://{self.folder}/{name}.out"
+        if not device:
+            device = f"file://{self.folder}/{name}.out"
+            Path(self.folder, f"{name}.out").touch()  # CUPS makes no file since deb12u10
         words = ["lpadmin", "-p", name, "-E", "-v", device]
         if not driver:
             subprocess.run([*words, "-m", "raw"], check=True, capture_output=True)
@@ -269,7 +271,10 @@ class Scheduler:
         self.wait(lambda: not subprocess.run(["lpstat", "-o", name], capture_output=True).stdout)
         place = self.folder / name
         jobs = place.iterdir() if place.is_dir() else [place.with_suffix(".out")]
-        return max(jobs, key=os.path.getmtime).read_bytes()
+        last = max(jobs, key=os.path.getmtime)
+        data = last.read_bytes()
+        os.truncate(last, 0)  # nor does it empty one
+        return data
 
     def stop(self) -> None:
         """Ends the scheduler."""

@@ -17,7 +17,7 @@ import support
 from desk import Desk, entry, labels_in, PIPE, printed, TICKETS
 from labeltools.lines.escapes import escaped
 from labeltools.lines.file import read_lines
-from labeltools.printing.selection import ranges_in, selection_of
+from labeltools.printing.selection import codes_named, ranges_in, Selection
 from labeltools.sending.network import NetworkPrinter
 from printers import Printer, READY, STATUS
 
@@ -32,7 +32,7 @@ class Chosen(Desk):
     """--only and --only-code; each code once; the library; a line that is cut off."""
 
     def rows(self, rows: str, *codes: str) -> list[int]:
-        only = selection_of(ranges_in(rows), codes)
+        only = Selection(ranges_in(rows), codes_named(codes))
         records = read_lines(b"ean13 4006381333931\n" + TICKETS, "lines").records
         return [record.number for record in records if only and only.has_label(record)]
 

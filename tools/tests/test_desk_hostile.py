@@ -69,7 +69,7 @@ class Connections(Desk):
         line = outlet.open()
         outlet.send(label)  # its system has taken the label, and it reads it then
         printer.told.set()
-        self.assertTrue(outlets.events_of(line.fileno(), network.BREAK, support.SECONDS))
+        self.assertTrue(files.events_of(line.fileno(), network.BREAK, support.SECONDS))
         outlet.open()
         with self.assertRaises(Broken):
             outlet.send(label)
@@ -287,7 +287,8 @@ class Ends(Desk):
 
     def test_a_way_out_that_breaks_off_before_a_label(self) -> None:
         """As of a printer that has ended the connection: of that label nothing was sent."""
-        code = "StandardOutput.open = lambda outlet, left=[1] * 4: left.pop() if left else broken()"
+        code = "ways = [sys.stdout.buffer] * 4\n"
+        code += "StandardOutput.open = lambda outlet: ways.pop() if ways else broken()"
         done = self.begin("--journal", self.path, code=code, stdout=PIPE).done()
         self.said(done, 1, "it is off: it took 2 labels whole: line 3 and what follows it were not")
         self.said(done, 1, "lines 1-2: may be missing, sent to standard output: look there\n")

@@ -221,8 +221,8 @@ class Running(unittest.TestCase):
             for tool, total in (("label-table", 0), ("label-print", 3)):
                 with mock.patch("labeltools.common.process.QUIET", 0.0):
                     talk = CommandTalk(tool)
-                for done in (0, 1, 2):
-                    talk.go_on(done, total)
+                    for done in (0, 1, 2):
+                        talk.go_on(done, total)
         shown = b""
         with suppress(OSError):  # of a terminal that is closed
             while part := os.read(own, 999):

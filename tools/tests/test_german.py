@@ -256,7 +256,7 @@ class German(unittest.TestCase):
         lines = 0
         for name, (text, words) in tables.items():
             capitals: Any = {
-                "one_text": in_capitals,
+                "_": in_capitals,
                 "ngettext": lambda text, plural, count: in_capitals(text if count == 1 else plural),
             }
             with mock.patch.multiple("labeltools.common.text", **capitals):

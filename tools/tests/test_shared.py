@@ -70,8 +70,8 @@ class Symbologies(unittest.TestCase):
             left, right = symbology.quiet
             self.assertEqual(row[: left + 1], "0" * left + "1")
             self.assertEqual(row[-right - 1 :], "1" + "0" * right)
-            for span in symbology.guards:
-                self.assertIn("1", row[span.left : span.right])
+            for first, end in symbology.guards:
+                self.assertIn("1", row[first:end])
             places = [place.last - place.first for place in symbology.places]
             self.assertEqual(sum(places), symbology.digits)
 
@@ -97,14 +97,15 @@ class LinesFile(unittest.TestCase):
         self.assertEqual(places, [Origin("articles.xlsx", "row", row) for row in (2, 4)])
         data = [(record.number, record.symbology, record.data) for record in found.records]
         self.assertEqual(data, [(3, "ean13", CODE.encode()), (5, "qr", b"a\\nb")])
-        self.assertEqual([str(place) for place in found.left_out], ["row 3", "row 5"])
+        self.assertEqual([str(place.text) for place in found.left_out], ["row 3", "row 5"])
         self.assertEqual(found.left_out_count, 2)
         self.assertEqual(read_lines(self.file(), "x", has_escapes=True).records[1].data, b"a\nb")
 
     def test_lines_of_no_table(self) -> None:
         found = read_lines(b"# a remark\nqr a\r\n\nean8 7351353\n", "x")
         self.assertEqual([record.data for record in found.records], [b"a\r", b"73513537"])
-        self.assertEqual([str(record.origin) for record in found.records], ["line 2", "line 4"])
+        places = [str(record.origin.text) for record in found.records]
+        self.assertEqual(places, ["line 2", "line 4"])
 
     def refused(self, data: bytes) -> str:
         with self.assertRaises(ToolError) as caught:

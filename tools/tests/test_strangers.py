@@ -35,6 +35,7 @@ from labeltools.common.apart import apart, Input, result_of
 from labeltools.common.budget import CSV, Kind, MEGABYTE, MEMORY, Share, TABLE, TooMuch
 from labeltools.common.messages import (
     Cancelled,
+    Origin,
     Problem,
     Remedy,
     Talk,
@@ -50,7 +51,7 @@ from labeltools.lines.library import own_files
 from labeltools.printing.job import planned, PrintOptions
 from labeltools.printing.press import labels_of
 from labeltools.sending import stream, watch
-from labeltools.sending.answers import Query, read_status, Reply
+from labeltools.sending.answers import QUERIES, Query, read_status, Reply
 from labeltools.sending.job import trouble_of
 from labeltools.sending.outlets import Outlet
 from labeltools.sending.queue import lp_line
@@ -447,7 +448,7 @@ class Rows(unittest.TestCase):
                     raise KeyError("a")
                 return before(self, *found)
 
-            options = table_options(table_parser().parse_args(["--code", "EAN", "--price", "P"]))
+            options = table_options(["--code", "EAN", "--price", "P"])
             with self.subTest(place), mock.patch.object(owner, method, broken):
                 made = lines_of_table(data, "a", options, Talk())
             self.assertEqual((made.count, made.left_out), (2, (3,)))
@@ -466,7 +467,7 @@ class Rows(unittest.TestCase):
             found = labels_of(job, "a", b"qr A\nqr B\nqr C\n", Talk())
         self.assertEqual([item.record.number for item in found.prints], [1, 3])
         (left_out,) = found.left_out
-        self.assertEqual(str(left_out.origin), "line 2")
+        self.assertEqual(left_out.origin, Origin("", "line", 2))
 
     def test_prices_of_any_length(self) -> None:
         """One that no paper takes leaves out its label, at once."""
@@ -813,7 +814,7 @@ class Printers(Desk):
     def test_a_count_that_never_comes_to_its_end(self) -> None:
         """It is not asked for ever, whether it goes up and down or only falls."""
         for outlet in (Swinging(), Falling()):
-            watcher = watch.Watch(outlet, "zpl")
+            watcher = watch.Watch(outlet, QUERIES["zpl"])
             short = mock.patch.multiple(watch, IDLE=0.2, LOOKS=(0.001, 0.001), LONGEST=0.3)
             with short, mock.patch.object(watch, "SLOWEST", 0.01):
                 watcher.wait_until_printed(3)
@@ -1024,7 +1025,7 @@ class Drawings(unittest.TestCase):
         sizes = [item.texts[0].style.size for item in found.labels]
         self.assertEqual(len(sizes), 2)
         self.assertGreaterEqual(min(sizes) * 25.4 / 203, 3)
-        self.assertEqual([str(left.origin) for left in found.left_out], ["row 3"])
+        self.assertEqual([left.origin for left in found.left_out], [Origin("", "row", 3)])
 
     def drawn(self, *words: str) -> None:
         """Draws a label."""

@@ -29,7 +29,7 @@ import cairo
 import support
 import test_german
 from labeltools.commands.label_print import OPTIONS, print_options
-from labeltools.commands.label_table import understood
+from labeltools.commands.label_table import table_options
 from labeltools.common.arguments import words_of
 from labeltools.common.messages import Problem, ToolError
 from labeltools.common.text import capitalized, NOTHING, Text, translated
@@ -686,7 +686,7 @@ class Sentences(unittest.TestCase):
         ):
             chosen = {"code": "1", "symbology": kind, "price": price, "price-as": pattern}
             words = words_of({**chosen, "digits": digits})
-            said.add(self.said_of(understood, [*words, "a.csv"]))
+            said.add(self.said_of(table_options, [*words, "a.csv"]))
         self.assertEqual(len(said), 3)
         papers: list[dict[str, str]] = [{"paper": "60x40"}, {"paper": "5x5"}, {}]
         papers += [{"stock": "Avery L7160"}, {"stock": "-x"}]

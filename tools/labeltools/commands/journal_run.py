@@ -36,7 +36,7 @@ def run(options: PrintOptions) -> int:
         return settle(journal, options, options.state == IS_PRINTED)
     rows = csv.writer(sys.stdout, lineterminator="\n")
     rows.writerows([COLUMNS, *journal.listed()])
-    journal.close()
+    journal.base.close()
     return 0
 
 
@@ -50,7 +50,7 @@ def settle(journal: Journal, options: PrintOptions, is_printed: bool) -> int:
     }
     require_clear(options.only, [*found.values()])
     count = sum(journal.settle(code, entry, is_printed) for code, entry in found.items())
-    journal.close()
+    journal.base.close()
     told = counted("{} label is in doubt no more", "{} labels are in doubt no more", count)
     if count and not is_printed:
         told = sentence(told, Text("the same command as before prints what is missing"))
@@ -58,11 +58,11 @@ def settle(journal: Journal, options: PrintOptions, is_printed: bool) -> int:
     return 0 if count else 1
 
 
-def record_of(code: bytes, entry: Entry) -> Record:
+def record_of(code: str, entry: Entry) -> Record:
     """Returns the label of a journal, as far as it chooses labels."""
-    symbology, _, data = code.partition(b" ")
+    symbology, _, data = code.partition(" ")
     number = entry.origin.number
-    return Record(number=number, symbology=symbology.decode(), data=unescaped(data))
+    return Record(number=number, symbology=symbology, data=unescaped(data.encode()))
 
 
 def require_clear(only: Selection, found: list[Entry]) -> None:

@@ -10,7 +10,7 @@ from functools import partial
 from pathlib import Path
 from typing import Mapping, Sequence
 
-from labeltools.common.arguments import add_options, Option, Parser, wrong_argument
+from labeltools.common.arguments import add_options, number_from, Option, Parser
 from labeltools.common.messages import BAD_ARGUMENTS, Problem, sentence, ToolError, write_message
 from labeltools.common.process import CommandTalk, keep_standard_error, read_input, standard_output
 from labeltools.common.report import left_out_messages, places_text, Ranges
@@ -25,6 +25,7 @@ from labeltools.paper.stock import forget_glabels, list_stock
 from labeltools.printing.job import (
     AS_GIVEN,
     DRAWING_DPI,
+    form_of,
     Job,
     LEAVE_OUT,
     planned,
@@ -33,12 +34,12 @@ from labeltools.printing.job import (
     STATES,
 )
 from labeltools.printing.press import check_count, labels_of, Prepared
-from labeltools.printing.selection import ranges_in, selection_of
+from labeltools.printing.selection import codes_named, ranges_in, Selection
 from labeltools.sending.journal import Journal
 from labeltools.sending.network import address_of
 from labeltools.sending.outcomes import NOTHING_OUT
-from labeltools.sending.outlets import Files, Outlet, OUTPUT, StandardOutput
-from labeltools.sending.sender import direct_outlet, expected, labels_text, Sender
+from labeltools.sending.outlets import Files, Outlet, OUTPUT
+from labeltools.sending.sender import labels_text, outlet_of, Sender, unforeseen
 
 TOOL = "label-print"
 USAGE = """label-print --stock NAME [OPTIONS] [LINES]
@@ -59,6 +60,7 @@ SOME_CELLS = "3x8"  # as they are written
 SMALLEST = 0.0001  # of a length that is above zero, in millimetres
 TURNS = {"yes": True, "no": False}
 FARTHEST = 10_000.0  # that something is moved
+ONLY_BY_DRIVER = Text("a paper is taken as given only for a PDF on a queue of CUPS")
 
 
 def lengths(argument: str, example: str, least: float = 0.0) -> tuple[float, ...]:
@@ -70,7 +72,7 @@ def lengths(argument: str, example: str, least: float = 0.0) -> tuple[float, ...
     is_like = len(parts) == example.count(sign) + 1 and all(map(LENGTH.fullmatch, parts))
     found = tuple(float(part) for part in parts) if is_like else ()
     if not found or min(found) < least:
-        raise wrong_argument(Text("{!r}: write it as {}", argument, example))
+        raise ValueError(Text("{!r}: write it as {}", argument, example))
     return found
 
 
@@ -78,7 +80,7 @@ def grid(argument: str) -> tuple[int, int]:
     """Returns how many cells are side by side, and how many are below one another."""
     found = GRID.fullmatch(argument)
     if not found:
-        raise wrong_argument(Text("{!r}: write it as {}", argument, SOME_CELLS))
+        raise ValueError(Text("{!r}: write it as {}", argument, SOME_CELLS))
     return int(found[1]), int(found[2])
 
 
@@ -93,14 +95,6 @@ def edges(argument: str) -> tuple[float, ...]:
     return lengths(argument, "5,5,5,5") if "," in argument else 4 * lengths(argument, "5")
 
 
-def number_from(argument: str, least: int, digits: int, example: str) -> int:
-    """Returns a whole number of so many digits at most, from `least` on."""
-    is_number = argument.isascii() and argument.isdecimal() and len(argument) <= digits
-    if not is_number or int(argument) < least:
-        raise wrong_argument(Text("{!r}: write it as {}", argument, example))
-    return int(argument)
-
-
 def design_of(argument: str) -> str:
     """Returns the name of a design, or the file of a user's own, which may be one of those that are
     installed with this package.
@@ -110,7 +104,7 @@ def design_of(argument: str) -> str:
     if not is_file(argument):
         known = ", ".join(PURPOSES)
         what = Text("{!r} is neither one of {} nor a file such as rack.svg", argument, known)
-        raise wrong_argument(what)
+        raise ValueError(what)
     share = Path(__file__).resolve().parents[3]  # of a checkout, or PREFIX/share
     folders = (Path(), share / "designs", share / "doc/labels/designs")
     paths = (folder / argument for folder in folders)
@@ -121,13 +115,13 @@ def row_ranges(argument: str) -> Ranges:
     """Returns rows such as 2,7-9 or 7-."""
     if found := ranges_in(argument):
         return found
-    raise wrong_argument(Text("{!r}: write rows as 2,7-9 or 7-", argument))
+    raise ValueError(Text("{!r}: write rows as 2,7-9 or 7-", argument))
 
 
 def not_empty(argument: str) -> str:
     """Returns an argument that is not empty, as it is where a variable of a shell is not set."""
     if not argument.strip("@ "):
-        raise wrong_argument(Text("it is empty"))
+        raise ValueError(Text("it is empty"))
     return argument
 
 
@@ -137,7 +131,7 @@ def printer_of(argument: str) -> str:
         try:
             address_of(argument)
         except ToolError as error:
-            raise wrong_argument(error.what) from error
+            raise ValueError(error.what) from error
     return argument
 
 
@@ -345,7 +339,7 @@ def print_options(words: Sequence[str] | None = None) -> PrintOptions:
     `OSError`.
     """
     given = vars(print_parser().parse_args(words))
-    given["only"] = selection_of(given.pop("rows_only") or (), given.pop("codes"))
+    given["only"] = Selection(given.pop("rows_only") or (), codes_named(given.pop("codes")))
     given["turn"] = TURNS.get(given["turn"])
     return PrintOptions(**given)
 
@@ -364,7 +358,11 @@ def run() -> int:
         from labeltools.commands import journal_run  # with the journal
 
         return journal_run.run(options)
-    if options.queue and not options.is_stream and not options.is_sent_singly:
+    is_queue = options.queue and not options.is_stream and not options.is_sent_singly
+    has_driver = is_queue and not form_of(options).is_roll
+    needless = options.is_paper_as_given and not has_driver
+    refuse(needless, ONLY_BY_DRIVER, LEAVE_OUT, [AS_GIVEN.option])
+    if is_queue:
         from labeltools.commands.queue_run import print_on_queue  # with CUPS, which takes time
 
         return print_on_queue(options)
@@ -374,14 +372,15 @@ def run() -> int:
     if options.is_stream:
         from labeltools.sending import stream
 
-        return stream.answer_lines(job, sender_of(job, direct_way(job), ()))
+        return stream.answer_lines(job, sender_of(job, outlet_of(job, options.queue), ()))
     return give_out(labels_in(job, CommandTalk(TOOL)), CommandTalk(TOOL))
 
 
 def labels_in(job: Job, talk: CommandTalk) -> Prepared:
     """Returns the labels of the lines of a file; reports what there is to say of them."""
     gc.disable()  # no label leaves a cycle behind, and to look for them takes time
-    found = all_labels(job, talk)
+    with unforeseen(ToolError, NOTHING_OUT):
+        found = labels_of(job, *read_input(job.options.lines), talk)
     for message in [
         *left_out_messages(found.left_out, found.tables),
         *(remark.problem.line for remark in found.remarks),
@@ -392,21 +391,6 @@ def labels_in(job: Job, talk: CommandTalk) -> Prepared:
         place = places_text([found.prints[0].record.origin], len(found.tables) > 1)
         write_message(TOOL, Text("the first label is {}", place))
     return found
-
-
-def all_labels(job: Job, talk: CommandTalk) -> Prepared:
-    """Returns the labels of a file of lines; raises `ToolError` and `OSError`. Of an exception that
-    nobody expected it is said that nothing was printed.
-    """
-    try:
-        return labels_of(job, *read_input(job.options.lines), talk)
-    except OSError:
-        raise
-    except Exception as error:
-        known = expected(error, ToolError)
-        if known is error:
-            raise
-        raise ToolError(Text("{}: {}", known.what, NOTHING_OUT), status=known.status) from error
 
 
 def stock_lines(wanted: str) -> str:
@@ -420,25 +404,10 @@ def stock_lines(wanted: str) -> str:
 
 def check_way(job: Job) -> None:
     """Raises `ToolError` where standard output is closed or would show a drawing."""
-    check_given(job)
     if job.options.queue is None and not job.is_each:
         if standard_output().isatty() and not job.form.is_roll:
             hint = Text("add > labels.{}", job.form.name)
             raise ToolError(Text("standard output is a terminal"), hint, BAD_ARGUMENTS)
-
-
-def check_given(job: Job, is_queue: bool = False) -> None:
-    """Raises `ToolError` where a paper is as given of which no driver says anything."""
-    needless = job.options.is_paper_as_given and (not is_queue or job.form.is_roll)
-    only = Text("a paper is taken as given only for a PDF on a queue of CUPS")
-    refuse(needless, only, LEAVE_OUT, [AS_GIVEN.option])
-
-
-def direct_way(job: Job) -> Outlet:
-    """Returns the way to a printer, or else standard output."""
-    if job.options.queue:
-        return direct_outlet(job.options.queue, job.form)
-    return StandardOutput(job.form.is_roll, is_synced=job.options.journal is not None)
 
 
 def sender_of(job: Job, outlet: Outlet, records: Sequence[Record]) -> Sender:
@@ -475,7 +444,7 @@ def check_journal(options: PrintOptions, journal: Journal) -> None:
 def give_out(found: Prepared, talk: CommandTalk) -> int:
     """Writes labels or sends them; returns 1 where one is left out or doubtful."""
     options = found.job.options
-    outlet = direct_way(found.job)
+    outlet = outlet_of(found.job, options.queue)
     if options.each is not None:
         data = [item.record.data for item in found.prints]
         outlet = Files(options.each, data, options.after + 1)

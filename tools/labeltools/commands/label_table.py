@@ -5,13 +5,13 @@ import gc
 import re
 import sys
 from contextlib import suppress
-from dataclasses import fields, replace
+from dataclasses import dataclass, field, fields, replace
 from functools import partial
 from itertools import chain
-from typing import Any, Callable, Mapping, Sequence, TypeVar
+from typing import Any, Mapping, Sequence, TypeVar
 
 from labeltools.common.apart import apart, Input, read_apart
-from labeltools.common.arguments import add_options, Option, Parser, words_of, wrong_argument
+from labeltools.common.arguments import add_options, number_from, Option, Parser, words_of
 from labeltools.common.budget import LINES, TABLE
 from labeltools.common.messages import (
     BAD_ARGUMENTS,
@@ -72,7 +72,6 @@ EXAMPLES = """examples:
 
 label-print prints these files. man label-table explains the options, and
 man 5 label-table says what is accepted in each kind of column."""
-ROW_NUMBER = re.compile("0|[1-9][0-9]{0,6}")
 SIGNS = {"comma": ",", "point": ".", ",": ",", ".": "."}
 MOST_PROPOSED = 8  # commands
 # what is found in the columns of options, in the order in which it is named
@@ -92,14 +91,14 @@ NO_PRICES = Text("there are no prices to be given another look")
 Read = TypeVar("Read")
 
 
+@dataclass
 class TableTalk(CommandTalk):
     """The talk of label-table: of many messages that are alike, the first ones are written, and the
     others counted.
     """
 
-    def __init__(self) -> None:
-        super().__init__(TOOL)
-        self.rows: dict[tuple[object, ...], list[int]] = {}
+    tool: str = TOOL
+    rows: dict[tuple[object, ...], list[int]] = field(default_factory=dict)
 
     def note(self, origin: Origin, cell: str, problem: Problem) -> None:
         """Writes why a row is left out."""
@@ -117,26 +116,12 @@ class TableTalk(CommandTalk):
                 write_message(TOOL, what)
 
 
-def reported(make: Callable[[str], Read]) -> Callable[[str], Read]:
-    """Returns a function of an argument whose ValueError, which has a `Text`, is reported."""
-
-    def of(text: str) -> Read:
-        try:
-            return make(text)
-        except ValueError as error:
-            raise wrong_argument(error.args[0]) from None
-
-    return of
-
-
-@reported
 def dates(text: str) -> str:
     """Returns the pattern of dates that an argument is."""
     date_section(text)
     return text
 
 
-@reported
 def look_of_prices(text: str) -> PricePattern | str:
     """Returns the pattern of prices that an argument is, or the word for prices of any text."""
     return text if text == ANY_TEXT.value else PricePattern.from_text(text)
@@ -146,29 +131,25 @@ def condition(text: str) -> tuple[str, str]:
     """Returns the column and the value of an argument."""
     column, equals, wanted = text.partition("=")
     if not equals or not column:
-        raise wrong_argument(Text("{}: write it as COLUMN=VALUE", quoted(text)))
+        raise ValueError(Text("{}: write it as COLUMN=VALUE", quoted(text)))
     return column, wanted
 
 
 def sign(text: str) -> str:
     """Returns the decimal sign that an argument is."""
     if text not in SIGNS:
-        raise wrong_argument(Text("{} is neither comma nor point", quoted(text)))
+        raise ValueError(Text("{} is neither comma nor point", quoted(text)))
     return SIGNS[text]
 
 
 def of_form(text: str, form: re.Pattern[str], wrong: Text) -> str:
     """Returns an argument that has a form; what is said of another one has the argument in it."""
     if not form.fullmatch(text):
-        raise wrong_argument(wrong.with_fields(quoted(text)))
+        raise ValueError(wrong.with_fields(quoted(text)))
     return text
 
 
-def row_number(text: str) -> int:
-    """Returns the number of a row."""
-    return int(of_form(text, ROW_NUMBER, Text("{} is not the number of a row", text)))
-
-
+ROW_NUMBER = partial(number_from, least=0, digits=7, example="1")
 SETTINGS = partial(
     of_form,
     form=re.compile("[a-z-]+=[A-Za-z0-9]+(?:,[a-z-]+=[A-Za-z0-9]+)*"),
@@ -266,7 +247,7 @@ OPTIONS: Mapping[str, Sequence[Option]] = {
             "--header-row",
             "N",
             "this row has the names of the columns; 0: no row has them",
-            row_number,
+            ROW_NUMBER,
         ),
     ),
 }
@@ -296,21 +277,22 @@ def record_of_arguments(kind: type[Read], arguments: argparse.Namespace, **more:
     return kind(**{name: found[name] for name in names if found[name] is not None})
 
 
-def symbology_column(arguments: argparse.Namespace) -> str | None:
-    """Returns the column of the symbologies, None where all codes have one."""
-    return None if symbology_named(arguments.symbology) else arguments.symbology
-
-
-def code_rules(arguments: argparse.Namespace) -> CodeRules:
-    """Returns how codes are read; the symbology may be in a column."""
-    kind = symbology_named(arguments.symbology) or AUTO
-    return record_of_arguments(CodeRules, arguments, symbology=kind)
-
-
-def table_options(arguments: argparse.Namespace) -> TableOptions:
-    """Returns the options that the arguments are; raises `ToolError` and `OSError` for older lines
-    that cannot be read.
+def code_rules(arguments: argparse.Namespace) -> tuple[str | None, CodeRules]:
+    """Returns the column of the symbologies, None where all codes have one, and how codes are
+    read.
     """
+    kind = symbology_named(arguments.symbology)
+    rules = record_of_arguments(CodeRules, arguments, symbology=kind or AUTO)
+    return None if kind else arguments.symbology, rules
+
+
+def table_options(words: Sequence[str]) -> TableOptions:
+    """Returns the options that words are; raises `BadArguments`, and `ToolError` and `OSError` for
+    older lines that cannot be read.
+    """
+    arguments = table_parser().parse_args(words)
+    check_arguments(arguments)
+    column, rules = code_rules(arguments)
     several = {name: tuple(getattr(arguments, name)) for name in ("title", "text", "where")}
     older = arguments.new_since
     is_text = arguments.price_as == ANY_TEXT.value
@@ -318,29 +300,20 @@ def table_options(arguments: argparse.Namespace) -> TableOptions:
     return record_of_arguments(
         TableOptions,
         arguments,
-        columns=record_of_arguments(
-            Columns, arguments, symbology=symbology_column(arguments), **several
-        ),
+        columns=record_of_arguments(Columns, arguments, symbology=column, **several),
         file=record_of_arguments(FileOptions, arguments),
-        codes=code_rules(arguments),
+        codes=rules,
         prices=PriceRules(is_text, pattern, arguments.currency_name),
         new_since=None if older is None else older_lines(older),
         table="" if arguments.table in (None, "-") else arguments.table,
     )
 
 
-def understood(words: Sequence[str]) -> argparse.Namespace:
-    """Returns the arguments that words are; raises `BadArguments`."""
-    arguments = table_parser().parse_args(words)
-    if arguments.code is None:
-        raise BadArguments(Text("the following arguments are required: --code"))
-    check_arguments(arguments)
-    return arguments
-
-
 def check_arguments(arguments: argparse.Namespace) -> None:
     """Raises `BadArguments` for arguments that are wrong, or do not go together."""
-    rules = code_rules(arguments)
+    if arguments.code is None:
+        raise BadArguments(Text("the following arguments are required: --code"))
+    column, rules = code_rules(arguments)
     if rules.is_free and rules.digits:
         as_they_are = NO_ZEROS if rules.digits == ZEROS_ARE_LOST else HAS_DIGIT
         number = replace(kind_remedy(AUTO), value=rules.symbology, is_less=True)
@@ -350,7 +323,7 @@ def check_arguments(arguments: argparse.Namespace) -> None:
         raise BadArguments(what, Text("name its column"), (Remedy("title"),))
     if arguments.price_as and not any(getattr(arguments, name) for name in OF_PRICES):
         raise BadArguments(NO_PRICES, remedies=(AS_IN_TABLE,))
-    if symbology_column(arguments) is None:
+    if column is None:
         kind = SYMBOLOGIES[EAN13.name if rules.symbology == AUTO else rules.symbology]
         wrong = TableOptions(settings=arguments.settings or "").wrong_setting(kind.name)
         if wrong:
@@ -382,7 +355,7 @@ def show_commands(commands: Sequence[Sequence[str]], guess: Guess, data: bytes, 
     """Writes commands, each with the first labels that it makes; and the columns of amounts that
     none of them uses, as they are beside the first label. Raises `ToolError` for a wrong command.
     """
-    ways = [table_options(understood(command)) for command in commands]
+    ways = [*map(table_options, commands)]
     asked = {column for options in ways for column in options.columns.asked}
     words = {place: column_word(guess.names, place) for place in guess.amounts}
     unused = [place for place, word in words.items() if asked.isdisjoint((word, str(place + 1)))]
@@ -420,7 +393,7 @@ def found_in(
 
 def is_given(arguments: argparse.Namespace) -> bool:
     """Returns whether it was said how the codes are read."""
-    return code_rules(arguments) != CodeRules() or symbology_column(arguments) is not None
+    return code_rules(arguments) != (None, CodeRules())
 
 
 def commands_for(
@@ -578,9 +551,8 @@ def run() -> int:
     if arguments.code is None and arguments.table not in (None, "-"):
         propose(words, arguments)
         return BAD_ARGUMENTS
-    arguments = understood(words)
+    options = table_options(words)
     output = standard_output()
-    options = table_options(arguments)
     name, data = read_input(arguments.table, TABLE)
     talk = TableTalk()
     lines = read_apart(lines_of_table, data, name, options, talk)

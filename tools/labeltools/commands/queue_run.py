@@ -2,7 +2,7 @@
 
 from dataclasses import replace
 
-from labeltools.commands.label_print import check_given, labels_in, TOOL
+from labeltools.commands.label_print import labels_in, TOOL
 from labeltools.common.messages import Problem, Remedy, ToolError, write_message
 from labeltools.common.process import CommandTalk
 from labeltools.common.signals import hold_signals
@@ -24,7 +24,6 @@ def print_on_queue(options: PrintOptions) -> int:
         options = replace(options, dpi=queue.dpi_for(is_sheet) or None)
     job = planned(options)
     forget_glabels()
-    check_given(job, is_queue=True)
     queue.options(job)  # which refuses a job before its labels are laid out
     talk = CommandTalk(TOOL)
     found = labels_in(job, talk)

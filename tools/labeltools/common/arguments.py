@@ -45,9 +45,10 @@ class Option(NamedTuple):
     """An option of a tool: its name, what its value is called, which is empty for one without a
     value, and what the help says.
 
-    `read` reads the value; `bare` is what the option is without it, None where it needs one.
-    `target` is the field that it sets, where that has another name than the option; one without a
-    value sets it to `sets`. Only one of those with the same `apart` may be given.
+    `read` reads the value, and raises `ValueError` with what is wrong; `bare` is what the option is
+    without it, None where it needs one. `target` is the field that it sets, where that has another
+    name than the option; one without a value sets it to `sets`. Only one of those with the same
+    `apart` may be given.
     """
 
     name: str
@@ -62,10 +63,12 @@ class Option(NamedTuple):
     is_repeated: bool = False
     choices: Sequence[str] | None = None
 
-    @property
-    def field(self) -> str:
-        """The field that it sets."""
-        return self.target or self.name.removeprefix("--").replace("-", "_")
+    def value_of(self, argument: str) -> Any:
+        """Reads its value; raises the error that argparse says behind its name."""
+        try:
+            return self.read(argument)
+        except ValueError as error:
+            raise argparse.ArgumentTypeError(translated(error.args[0])) from error
 
     def add_to(self, group: Any) -> None:
         """Adds it to a group of a parser."""
@@ -73,7 +76,7 @@ class Option(NamedTuple):
         if not self.value:
             group.add_argument(self.name, action="store_const", const=self.sets, **how)
             return
-        how |= {"metavar": self.value, "type": self.read, "choices": self.choices}
+        how |= {"metavar": self.value, "type": self.value_of, "choices": self.choices}
         if self.is_repeated:
             how |= {"action": "append", "default": []}
         elif self.bare is not None:
@@ -92,9 +95,12 @@ def add_options(parser: Parser, groups: Mapping[str, Sequence[Option]]) -> None:
             option.add_to(apart[option.apart])
 
 
-def wrong_argument(what: Text) -> argparse.ArgumentTypeError:
-    """Returns the error of an argument, which argparse says behind its name."""
-    return argparse.ArgumentTypeError(translated(what))
+def number_from(argument: str, least: int, digits: int, example: str) -> int:
+    """Returns a whole number of so many digits at most, from `least` on."""
+    is_number = argument.isascii() and argument.isdecimal() and len(argument) <= digits
+    if not is_number or int(argument) < least:
+        raise ValueError(Text("{!r}: write it as {}", argument, example))
+    return int(argument)
 
 
 def words_of(options: Mapping[str, Any]) -> list[str]:

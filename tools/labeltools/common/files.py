@@ -1,6 +1,7 @@
-"""Files that are whole or not there, and errors that name them."""
+"""Files that are whole or not there, errors that name them, and what happens to open ones."""
 
 import os
+import select
 import stat
 import tempfile
 from contextlib import contextmanager
@@ -63,6 +64,15 @@ def nameless(folder: Path) -> IO[bytes] | None:
         return open(os.open(folder, os.O_TMPFILE | os.O_WRONLY | os.O_CLOEXEC, 0o666), "wb")
     except OSError:
         return None
+
+
+def events_of(file: int, wanted: int, seconds: float = 0.0) -> int:
+    """Returns which of some events an open file has, or its break or end, in some seconds at most;
+    0 for none.
+    """
+    look = select.poll()  # it takes any number of open files, unlike select
+    look.register(file, wanted)
+    return sum(event for _, event in look.poll(seconds * 1000))
 
 
 def write_whole(data: bytes, output: int) -> None:

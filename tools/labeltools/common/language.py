@@ -27,8 +27,3 @@ ngettext = _translation.ngettext
 def language() -> str:
     """Returns the language of the texts, such as `de`; `C` if they are not translated."""
     return str(_translation.info().get("language", "C"))
-
-
-def one_text(text: str) -> str:
-    """Returns a text in the language of the user; gettext has its own head for the empty one."""
-    return _(text) if text else ""

@@ -11,7 +11,7 @@ from functools import reduce
 from pathlib import Path
 from typing import Iterable, NamedTuple, Self
 
-from labeltools.common.text import joined, NOTHING, shell_word, Text, translated, UNSEEN
+from labeltools.common.text import joined, NOTHING, shell_line, Text, translated, UNSEEN
 
 BAD_ARGUMENTS = 2
 UNEXPECTED = 4  # the status of a tool that ends by an exception which nobody expected
@@ -60,8 +60,7 @@ class Remedy:
         return Text("{} ({})", self.says, option) if self.says else Text("{}", option)
 
     def __str__(self) -> str:
-        sign = "=" if self.value.startswith("-") else " "
-        return f"--{self.option}{sign}{shell_word(self.value)}" if self.value else self.words[0]
+        return shell_line(self.words)
 
 
 Remedies = tuple[Remedy, ...]  # each of which helps
@@ -188,9 +187,6 @@ class Origin(NamedTuple):
     table: str  # the name of the table or file, where there may be several; else empty
     unit: str  # `row` or `line`
     number: int
-
-    def __str__(self) -> str:
-        return str(self.text)
 
     @property
     def text(self) -> Text:

@@ -6,11 +6,13 @@ import stat
 import sys
 import time
 from contextlib import suppress
+from dataclasses import dataclass, field
 from importlib import import_module
 from io import RawIOBase, TextIOWrapper
 from typing import Any, BinaryIO, Callable, NoReturn
 
 from labeltools.common.budget import check_size, Kind, LINES
+from labeltools.common.files import events_of
 from labeltools.common.messages import (
     BadArguments,
     fault_of,
@@ -35,12 +37,13 @@ QUIET, BETWEEN = 1.0, 0.3  # seconds before progress is shown, and until it is s
 DRAWING = ("python3-gi-cairo", "gir1.2-pango-1.0")  # the packages that draw labels
 
 
+@dataclass
 class CommandTalk(Talk):
     """The talk of a command: what it is told is written on standard error."""
 
-    def __init__(self, tool: str) -> None:
-        self.tool = tool
-        self.next_time = time.monotonic() + QUIET
+    tool: str
+    begun: float = field(default_factory=time.monotonic)
+    shown: float = 0.0  # when progress was
 
     def note(self, origin: Origin, cell: str, problem: Problem) -> None:
         """Writes why a row or line is left out."""
@@ -54,8 +57,9 @@ class CommandTalk(Talk):
         """Shows on a terminal how many of the labels are done, or how many rows, until another
         message takes its place.
         """
-        if done and time.monotonic() >= self.next_time and sys.stderr.isatty():
-            self.next_time = time.monotonic() + BETWEEN
+        now = time.monotonic()
+        if done and now >= max(self.begun + QUIET, self.shown + BETWEEN) and sys.stderr.isatty():
+            self.shown = now
             count = f"{done} of {total} labels" if total else f"{done} rows"
             print(f"{self.tool}: {count}", end="\r", file=sys.stderr, flush=True)
 
@@ -93,9 +97,7 @@ def read_file(path: str, kind: Kind = LINES) -> bytes:
     """
     with open(path, "rb", opener=lambda name, how: os.open(name, how | os.O_NONBLOCK)) as file:
         if stat.S_ISFIFO(os.fstat(file.fileno()).st_mode):
-            writer = select.poll()
-            writer.register(file, select.POLLIN)
-            if not writer.poll(WRITER * 1000):
+            if not events_of(file.fileno(), select.POLLIN, WRITER):
                 raise ToolError(Text("{}: no program writes to it", path))
         os.set_blocking(file.fileno(), True)
         return read_all(file, path, kind)

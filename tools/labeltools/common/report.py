@@ -5,7 +5,7 @@ from itertools import groupby, islice
 from typing import Iterable, Iterator, Sequence
 
 from labeltools.common.messages import Origin, Problem
-from labeltools.common.text import joined, Text
+from labeltools.common.text import joined, NOTHING, Text
 
 MOST_REASONS = 8  # that have a message of their own
 MOST_RANGES = 10  # of rows that a message names
@@ -45,24 +45,21 @@ def places_text(places: Iterable[Origin], has_tables: bool) -> Text:
     """Returns places in words, such as `rows 2, 5-9`."""
     texts = []
     for (table, unit), group in groupby(sorted(set(places)), key=lambda place: place[:2]):
-        text = ranges_text(ranges_of(place.number for place in group), unit)
+        text = listed((place.number for place in group), unit)
         texts.append(Text("{}, {}", table, text) if has_tables and table else text)
     return joined("; ", texts) if texts else Text("some rows")
 
 
-def listed(rows: Iterable[int]) -> Text:
-    """Returns rows in words.
+def listed(numbers: Iterable[int], unit: str = "row") -> Text:
+    """Returns rows or lines in words; where their ranges are many, the first of them and how many
+    rows all have; nothing for none.
 
-    >>> listed([3]), listed([3, 5, 6, 7])
-    ('row 3', 'rows 3, 5-7')
+    >>> listed([3]), listed([3, 5, 6, 7]), listed([])
+    ('row 3', 'rows 3, 5-7', '')
     """
-    return ranges_text(ranges_of(rows))
-
-
-def ranges_text(ranges: Ranges, unit: str = "row") -> Text:
-    """Returns ranges of rows or lines in words; where they are many, the first of them and how many
-    rows all have.
-    """
+    ranges = ranges_of(numbers)
+    if not ranges:
+        return NOTHING
     count = sum(last - first + 1 for first, last in ranges)
     named = ", ".join(islice(range_words(ranges), MOST_RANGES))
     if unit == "row":

@@ -4,19 +4,20 @@ import os
 import signal
 from collections.abc import Callable, Iterator
 from contextlib import contextmanager
+from dataclasses import dataclass
 from typing import Any
 
 ENDING = (signal.SIGHUP, signal.SIGINT, signal.SIGTERM)
 
 
+@dataclass
 class Signals:
     """The signals of this process: those that came while they are held back, None where they are
     not.
     """
 
-    def __init__(self) -> None:
-        self.came: list[int] | None = None
-        self.usual: Any = signal.SIG_DFL
+    came: list[int] | None = None
+    usual: Any = signal.SIG_DFL
 
     @contextmanager
     def hold(self) -> Iterator[list[int]]:

@@ -7,9 +7,10 @@ import re
 import shlex
 import unicodedata
 from dataclasses import dataclass
-from typing import Iterable
+from string import Formatter
+from typing import Any, Iterable
 
-from labeltools.common.language import ngettext, one_text
+from labeltools.common.language import _, ngettext
 
 # the classes of characters in Unicode that change what a terminal shows, or that cut a message
 UNSEEN = ("Cc", "Cf", "Cs", "Zl", "Zp")
@@ -107,31 +108,39 @@ def bash_escape(sign: str) -> str:
     return "".join(f"\\x{byte:02x}" for byte in sign.encode("utf-8", known))
 
 
-@dataclass(frozen=True)
-class Figure:
-    """A number as the user's language writes it."""
+class InLanguage(Formatter):
+    """Fills the places of a template: a `Text` is translated, a number has the signs of the user's
+    language, and anything else stays as it is.
+    """
 
-    value: float
-
-    def __format__(self, form: str) -> str:
+    def format_field(self, value: Any, format_spec: str) -> str:
+        """Returns what is in the place of a field."""
+        if isinstance(value, Text):
+            return translated(value)
+        shown = format(value, format_spec)
+        if not isinstance(value, (int, float)):
+            return shown
         signs = translated(SIGNS)
-        return format(self.value, form).translate({ord(","): signs[1], ord("."): signs[-2]})
+        return shown.translate({ord(","): signs[1], ord("."): signs[-2]})
+
+
+IN_LANGUAGE = InLanguage()
 
 
 def translated(text: object) -> str:
     """Returns a text in the language of the user; what is neither a `Text` nor a number stays as it
     is.
     """
-    if not isinstance(text, Text):
+    if not isinstance(text, Text) or not text.template:  # for which gettext has its own head
         return str(text)
     if not text.fields:
-        return one_text(text.template)
+        return _(text.template)
     first = text.fields[0]
     if text.many and isinstance(first, int):
         template = ngettext(text.template, text.many, first)
     else:
-        template = one_text(text.template)
-    return template.format(*map(shown_field, text.fields))
+        template = _(text.template)
+    return IN_LANGUAGE.format(template, *text.fields)
 
 
 def whole_sentence(text: Text) -> str:
@@ -159,13 +168,6 @@ def begins_with_word(text: object) -> bool:
         return False
     first = re.match(
         r"\{([0-9]*)",
-        ngettext(text.template, text.many, 2) if text.many else one_text(text.template),
+        ngettext(text.template, text.many, 2) if text.many else _(text.template),
     )
     return begins_with_word(text.fields[int(first[1] or 0)]) if first else True
-
-
-def shown_field(field: object) -> object:
-    """Returns what a text has in the place of a field."""
-    if isinstance(field, Text):
-        return translated(field)
-    return Figure(field) if isinstance(field, (int, float)) else field

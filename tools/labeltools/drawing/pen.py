@@ -451,8 +451,8 @@ def bar_boxes(bars: Box, module: int, symbology: str, room: Box, quarters: int) 
     label, from a room on that is turned to the right by some quarters.
     """
     boxes = [bars]
-    for span in SYMBOLOGIES[symbology].guards:
-        left, width = bars.left + span.left * module, (span.right - span.left) * module
+    for first, end in SYMBOLOGIES[symbology].guards:
+        left, width = bars.left + first * module, (end - first) * module
         boxes.append(Box(left, bars.bottom, width, GUARD * module))
     wide, high = (room.width, room.height)[:: -1 if quarters % 2 else 1]
     for down in (high, wide, high)[:quarters]:
@@ -550,7 +550,7 @@ def draw_rectangles(
     """
     rows = modules.rows()
     high = box.height // len(rows)
-    whole = (Span(0, modules.width),)
+    whole = ((0, modules.width),)
     for number, row in enumerate(rows):
         place = box._replace(top=box.top + number * high, height=high)
         fill_bars(canvas, row, whole, module, place)
@@ -562,8 +562,8 @@ def draw_rectangles(
 def fill_bars(canvas: Any, row: bytes, spans: Iterable[Span], module: int, box: Box) -> None:
     """Draws dark modules in spans of a row as rectangles."""
     modules = bits_of(row)
-    for span in spans:
-        for bar in DARK.finditer(modules, span.left, span.right):
+    for first, end in spans:
+        for bar in DARK.finditer(modules, first, end):
             width = (bar.end() - bar.start()) * module
             canvas.rectangle(box.left + bar.start() * module, box.top, width, box.height)
     canvas.fill()

@@ -139,10 +139,10 @@ class Record(NamedTuple):
         return self.symbology, self.data
 
     @property
-    def code_line(self) -> bytes:
+    def code_line(self) -> str:
         """Its code on one line, with its symbology, as a journal has it."""
         symbology, data = self.key
-        return symbology.encode("utf-8", "replace") + b" " + escaped(data)
+        return f"{symbology} {escaped(data).decode()}"
 
     @property
     def origin_number(self) -> int:

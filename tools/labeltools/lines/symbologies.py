@@ -10,11 +10,7 @@ from typing import NamedTuple
 from labeltools.lines.library import labels_library
 
 
-class Span(NamedTuple):
-    """Modules of a picture, from `left` on and before `right`."""
-
-    left: int
-    right: int
+Span = tuple[int, int]  # modules of a picture: from which one on, and before which one
 
 
 class Digits(NamedTuple):
@@ -54,7 +50,8 @@ class Symbology:
     @cached_property
     def guards(self) -> tuple[Span, ...]:
         """The modules whose bars are longer, as liblabels tells."""
-        return tuple(Span(*span) for span in labels_library().layout(self.name).guards)
+        found: tuple[Span, ...] = labels_library().layout(self.name).guards
+        return found
 
     @cached_property
     def places(self) -> tuple[Digits, ...]:

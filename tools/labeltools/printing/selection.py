@@ -9,7 +9,7 @@ from typing import Iterable, Iterator
 
 from labeltools.common.messages import Origin, Problem, Remedy, ToolError
 from labeltools.common.process import read_file
-from labeltools.common.report import few, is_in_ranges, LeftOut, Ranges, ranges_of, ranges_text
+from labeltools.common.report import few, is_in_ranges, LeftOut, listed, Ranges
 from labeltools.common.text import Text
 from labeltools.lines.file import Record
 
@@ -47,8 +47,7 @@ class Selection:
             rows.add(record.origin_number)
             if self.codes:
                 codes.update(names_of_code(record))
-        if lacking := ranges_of(self.lacking(rows)):
-            named = ranges_text(lacking)
+        if named := listed(self.lacking(rows)):
             text = Text("the input does not have {}", named)
             yield LeftOut(None, "", Problem(text, remedies=(Remedy("only"),)))
         if unknown := [code.decode("utf-8", "backslashreplace") for code in self.codes - codes]:
@@ -77,7 +76,7 @@ def names_of_code(record: Record) -> set[bytes]:
     """Returns how the code of a line may be named: its data, of a number without its check digit
     too, of UPC-A as EAN-13 too; and as a journal has it, with its symbology.
     """
-    whole = record.code_line
+    whole = record.code_line.encode("utf-8", "replace")
     if record.symbology not in ("ean13", "ean8", "upca"):
         return {record.data, whole}
     _, number = record.key
@@ -86,13 +85,6 @@ def names_of_code(record: Record) -> set[bytes]:
         names |= {name[1:] for name in names}
     kind = record.symbology.encode("utf-8", "replace")
     return {whole, *names, *(kind + b" " + name for name in names)}
-
-
-def selection_of(rows: Ranges, codes: Iterable[str]) -> Selection:
-    """Returns what is asked for: rows, and codes or files of them; raises `ToolError` and
-    `OSError`.
-    """
-    return Selection(rows, frozenset(code for argument in codes for code in codes_named(argument)))
 
 
 def ranges_in(rows: str) -> Ranges:
@@ -116,14 +108,20 @@ def ranges_in(rows: str) -> Ranges:
     return tuple(sorted(found))
 
 
-def codes_named(argument: str) -> set[bytes]:
-    """Returns the code that an argument is, or those of the lines of a file, as in @damaged.txt."""
-    if not argument.startswith(FILE):
-        return {argument.encode("utf-8", "surrogateescape")}
-    data = read_file(argument[len(FILE) :]).removeprefix(BOM_UTF8)
-    found = {line.strip() for line in data.splitlines()}
-    found.discard(b"")
-    if not found:
-        what = Text("{}: there is no code", argument[len(FILE) :])
-        raise ToolError(what, Text("write a code on each line"))
-    return found
+def codes_named(arguments: Iterable[str]) -> frozenset[bytes]:
+    """Returns the codes that arguments are, or those of the lines of a file, as in @damaged.txt;
+    raises `ToolError` and `OSError`.
+    """
+    found: set[bytes] = set()
+    for argument in arguments:
+        if not argument.startswith(FILE):
+            found.add(argument.encode("utf-8", "surrogateescape"))
+            continue
+        path = argument.removeprefix(FILE)
+        lines = read_file(path).removeprefix(BOM_UTF8).splitlines()
+        codes = {line.strip() for line in lines} - {b""}
+        if not codes:
+            what = Text("{}: there is no code", path)
+            raise ToolError(what, Text("write a code on each line"))
+        found |= codes
+    return frozenset(found)

@@ -9,7 +9,7 @@ from collections.abc import Callable, Mapping, Sequence
 from dataclasses import dataclass
 
 from labeltools.common.messages import Problem
-from labeltools.common.text import Text
+from labeltools.common.text import counted, Text
 from labeltools.drawing.forms import ESCPOS, ZPL
 
 
@@ -37,6 +37,16 @@ class Reply:
     def is_empty(self) -> bool:
         """Whether it says that nothing is left in it, and that nothing is wrong."""
         return self.left == 0 and not self.troubles
+
+    @property
+    def problems(self) -> Sequence[Problem]:
+        """The labels that are left in it, and what keeps it from printing."""
+        if not self.left:
+            return self.troubles
+        left = counted(
+            "{} label is left in the printer", "{} labels are left in the printer", self.left
+        )
+        return [Problem(left), *self.troubles]
 
 
 @dataclass(frozen=True)

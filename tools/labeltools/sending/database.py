@@ -63,7 +63,7 @@ HINTS = {
 
 
 class Database:
-    """An open database."""
+    """An open database; `has_others` is whether other users than its owner may read or write it."""
 
     def __init__(self, path: str) -> None:
         """Opens it, or makes it; raises `ToolError` if it is no journal, or another computer has it
@@ -83,6 +83,7 @@ class Database:
         if mode != LOG:
             what = Text("{}: this disk does not take a journal", path)
             raise ToolError(what, Text("put it on a disk of this computer"))
+        self.has_others = bool(os.fstat(self.file).st_mode & OTHERS)
 
     def check(self) -> None:
         """Makes the tables of an empty file; raises `ToolError` if it has other ones."""
@@ -132,11 +133,6 @@ class Database:
         if not (kept.exists() and kept.samefile(self.path)):
             os.link(self.path, kept)
         os.replace(new, self.path)
-
-    @property
-    def has_others(self) -> bool:
-        """Whether other users than its owner may read or write it."""
-        return bool(os.fstat(self.file).st_mode & OTHERS)
 
     def require_place(self) -> None:
         """Raises `ToolError` if another file has its name: other runs read that one."""

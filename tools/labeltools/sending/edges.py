@@ -40,7 +40,8 @@ def check_edges(printer: str, paper: PrinterPaper, found: Prepared) -> None:
         place in near and any(is_cut(box, place) for box in item.boxes()) for item, place in used
     )
     if cut:
-        edges = ",".join(f"{math.ceil(10 * side) / 10:g}" for side in paper.white)
+        # drivers name edges beyond the paper, too
+        edges = ",".join(f"{max(0, math.ceil(10 * side)) / 10:g}" for side in paper.white)
         raise cut_error(printer, cut, edges, paper.is_general)
 
 

@@ -71,11 +71,6 @@ class JobState:
     way: str = ""
 
     @property
-    def is_begun(self) -> bool:
-        """Whether a part of it may be on paper."""
-        return self.begun > 0
-
-    @property
     def patience(self) -> float:
         """How many seconds it may show nothing new: more while CUPS says that it prints. What CUPS
         says beside that is in the language of its user, and so tells nothing.
@@ -97,7 +92,7 @@ class JobState:
             return Text("the printer took all of it: look whether it comes out")
         if self.is_printed:
             return Text("CUPS reports it as printed")
-        if self.is_over and self.is_begun:
+        if self.is_over and self.begun:
             return Text("some labels may be on paper: {}", self.trouble)
         if self.is_over:
             return Text("it was not printed: {}", self.trouble)

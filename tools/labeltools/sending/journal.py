@@ -19,12 +19,11 @@ from labeltools.sending.server import SERVER, Server
 
 SENT, TAKEN, PRINTED = "sent", "taken", "printed"  # the states of a label
 BEGIN = "INSERT INTO runs (printer) VALUES (?) RETURNING number"
+# a label that none has, or that of a run whose labels are sent again
 SEND = """
-INSERT INTO labels (code, run, turn, place) VALUES (?, ?, ?, ?) ON CONFLICT DO NOTHING RETURNING 1
-"""
-SEND_AGAIN = """
-UPDATE labels SET state = 'sent', run = ?, turn = ?, place = ?, time = CURRENT_TIMESTAMP
-WHERE code = ? AND run = ? RETURNING 1
+INSERT INTO labels (code, run, turn, place) VALUES (?, ?, ?, ?) ON CONFLICT (code) DO UPDATE
+SET state = 'sent', run = excluded.run, turn = excluded.turn, place = excluded.place,
+time = CURRENT_TIMESTAMP WHERE labels.run = ? RETURNING 1
 """
 TAKE = "UPDATE labels SET state = ? WHERE code = ? AND run = ? AND state = 'sent' RETURNING 1"
 PRINT = """
@@ -67,7 +66,9 @@ class Journal:
         self.base: Server | Database = Server(path) if path.startswith(SERVER) else Database(path)
         self.path = path
         self.printer = clean(printer)
-        self.again = self.entries("printer = ?", clean(again)) if again else {}
+        # the run of each label that is sent once more
+        known = self.entries("printer = ?", clean(again)) if again else {}
+        self.again = {code: entry.run for code, entry in known.items()}
         self.turn = 0  # how many labels the run has sent
         self.run = 0  # its number, from its first label on
 
@@ -79,23 +80,14 @@ class Journal:
         self.base.require_place()
         if not self.run:
             self.begin()
-        code, place = journal_code(record), clean(str(record.origin))
         found = self.entry(record)
-        turn = self.turn + 1
-        if found is None:
-            is_ours = bool(self.base.do(SEND, code, self.run, turn, place))
-        elif self.again_run(record) != found.run or self.is_sending(found):
+        if found is not None and self.is_sending(found):
             return False
-        else:
-            values = (self.run, turn, place, code, found.run)
-            is_ours = bool(self.base.do(SEND_AGAIN, *values))
+        code, place = record.code_line, str(record.origin.text)
+        before = self.again.get(code, 0)
+        is_ours = bool(self.base.do(SEND, code, self.run, self.turn + 1, place, before))
         self.turn += is_ours
         return is_ours
-
-    def again_run(self, record: Record) -> int:
-        """Returns the run of a label that is to be sent again; 0 if it is not."""
-        entry = self.again.get(record.code_line)
-        return entry.run if entry else 0
 
     def begin(self) -> None:
         """Gives the run a number that none had, and which is held for as long as it goes on."""
@@ -108,7 +100,7 @@ class Journal:
         fails before that is on the disk, the label is in doubt as one that was sent.
         """
         state = PRINTED if is_printed else TAKEN
-        self.base.do(TAKE, state, journal_code(record), self.run, is_synced=False)
+        self.base.do(TAKE, state, record.code_line, self.run, is_synced=False)
 
     def write_printed(self, left: int = 0) -> None:
         """Writes that all labels that this run sent are on paper, but the last ones, which are
@@ -123,18 +115,18 @@ class Journal:
             self.base.release(self.run)
         self.run = self.turn = 0
 
-    def settle(self, code: bytes, entry: Entry, is_printed: bool) -> bool:
+    def settle(self, code: str, entry: Entry, is_printed: bool) -> bool:
         """Writes what a person says of a label in doubt, that it is printed, or is missing and so
         can be sent; returns whether it was in doubt.
         """
         statement = SETTLE if is_printed else FORGET
-        return bool(self.base.do(statement, code.decode(), entry.run, entry.state))
+        return bool(self.base.do(statement, code, entry.run, entry.state))
 
     def entry(self, record: Record) -> Entry | None:
         """Returns what is known of the code of a line."""
-        return self.entries("code = ?", journal_code(record)).get(record.code_line)
+        return self.entries("code = ?", record.code_line).get(record.code_line)
 
-    def doubtful(self) -> Mapping[bytes, Entry]:
+    def doubtful(self) -> Mapping[str, Entry]:
         """Returns what is not known to be printed, of runs that have ended, by its code. It is read
         again once they are known to have ended: they may have written it last of all.
         """
@@ -143,10 +135,10 @@ class Journal:
         now = self.entries(NOT_PRINTED) if ended else {}
         return {code: entry for code, entry in now.items() if entry.run in ended}
 
-    def entries(self, condition: str, *values: str) -> dict[bytes, Entry]:
+    def entries(self, condition: str, *values: str) -> dict[str, Entry]:
         """Returns what is known of the codes of which a condition holds."""
         rows = self.base.do(ENTRIES + condition, *values)
-        return {code.encode(): Entry(*rest) for code, *rest in rows}
+        return {code: Entry(*rest) for code, *rest in rows}
 
     def is_sending(self, entry: Entry) -> bool:
         """Returns whether another run is sending the label of an entry now."""
@@ -159,16 +151,6 @@ class Journal:
     def listed(self) -> Sequence[Sequence[str]]:
         """Returns the code, state, time, printer and place of each label, the oldest first."""
         return self.base.do(LISTED)
-
-    def close(self) -> None:
-        """Ends the run, and closes the journal."""
-        self.give_up()
-        self.base.close()
-
-
-def journal_code(record: Record) -> str:
-    """Returns the code of a line as a journal has it."""
-    return record.code_line.decode()
 
 
 def clean(text: str) -> str:

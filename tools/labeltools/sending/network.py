@@ -14,12 +14,13 @@ import termios
 import time
 from contextlib import suppress
 
+from labeltools.common.files import events_of
 from labeltools.common.messages import BAD_ARGUMENTS, ToolError
 from labeltools.common.text import Text
 from labeltools.sending.answers import Query, Reply
-from labeltools.sending.outlets import Broken, events_of, LOOK, Outlet, Patience, STUCK, Unreachable
+from labeltools.sending.outlets import Broken, LOOK, Outlet, Patience, STUCK, Unreachable
 
-SCHEME = "tcp://"
+SCHEME = "tcp://"  # begins the name of a printer in the network
 NAME = re.compile(r"tcp://(\[[0-9A-Fa-f:.%]+\]|[^\s/:\[\]]+)(?::([0-9]{1,5}))?/?", re.ASCII)
 PORT = 9100
 CONNECT = 10.0  # seconds
@@ -49,22 +50,18 @@ def address_of(name: str) -> tuple[str, int]:
     raise ToolError(what, status=BAD_ARGUMENTS)
 
 
-def is_in_network(printer: str) -> bool:
-    """Returns whether a printer is one in the network, which is named as tcp://HOST."""
-    return printer.startswith(SCHEME)
-
-
 class NetworkPrinter(Outlet):
     """A printer named as tcp://HOST[:PORT]; `stuck` are seconds in which it may take nothing."""
 
     is_direct = True
+    broken = Text("{}: the printer broke off", "")
+    line: socket.socket | None = None
 
     def __init__(self, name: str, stuck: float = STUCK) -> None:
         self.address = address_of(name)
         self.name = name
         self.stuck = stuck
-        self.line: socket.socket | None = None
-        self.has_sent = False  # labels, by this connection
+        self.on_way = []
 
     def open(self) -> socket.socket:
         """Returns the connection, which is made where there is none, or the printer has ended it;
@@ -80,26 +77,13 @@ class NetworkPrinter(Outlet):
                 hint = Text("is it switched on, and in the network?")
                 raise Unreachable(Text("{}: {}", self.name, reason), hint) from error
             self.line.setblocking(False)
-            self.has_sent = False
+            self.on_way = []
         return self.line
-
-    def send(self, data: bytes) -> None:
-        """Sends a whole label and waits until it is acknowledged; raises `Unreachable` and
-        `Broken`.
-        """
-        line = self.line or self.open()
-        self.has_sent = True
-        try:
-            self.push(line, data)
-        except OSError as error:
-            self.drop()
-            told = error.args[0]
-            what = told if isinstance(told, Text) else Text("{}: the printer broke off", self.name)
-            raise Broken(what) from error
 
     def push(self, line: socket.socket, data: bytes) -> None:
         """Sends bytes until all are acknowledged, however slowly they are taken. What the printer
-        says meanwhile is read: one that nobody hears may stop taking. Raises `OSError`.
+        says meanwhile is read: one that nobody hears may stop taking. Raises `OSError` and
+        `Broken`.
         """
         rest = memoryview(data)
         patience = Patience(self, self.stuck)
@@ -123,22 +107,25 @@ class NetworkPrinter(Outlet):
 
     def ask(self, question: Query) -> Reply | None:
         """Returns what the printer answers to a question; None if it gives no answer in a second,
-        or somebody stops the work. Raises `Unreachable`, and `Broken` if it breaks off.
+        or somebody stops the work. One that ends the connection gets another one, unless labels
+        were sent by this one. Raises `Unreachable`, and `Broken` if it breaks off.
         """
         line = self.line or self.open()
+        answer = None
         try:
             with suppress(BlockingIOError):
                 line.recv(HEARD)  # what it said before
-            # to a question it would break off, as if it had thrown labels away
-            if events_of(line.fileno(), select.POLLRDHUP, REGRET if self.has_sent else FIRST):
-                self.give_another()
-                return None
-            with suppress(BlockingIOError):
-                line.send(question.data)
-            return self.heard(line, question)
+            # to a question behind its end it would break off, as if it had thrown labels away
+            if not events_of(line.fileno(), select.POLLRDHUP, REGRET if self.on_way else FIRST):
+                with suppress(BlockingIOError):
+                    line.send(question.data)
+                answer = self.heard(line, question)
+            if not self.on_way and events_of(line.fileno(), select.POLLRDHUP):
+                self.drop()
         except OSError as error:
             self.drop()
-            raise Broken(Text("{}: the printer broke off", self.name)) from error
+            raise Broken(self.broken.with_fields(self.name)) from error
+        return answer
 
     def heard(self, line: socket.socket, question: Query) -> Reply | None:
         """Returns the answer to a question that was sent; raises `OSError`."""
@@ -149,19 +136,11 @@ class NetworkPrinter(Outlet):
                 continue
             data = line.recv(HEARD)
             if not data:
-                self.give_another()
                 return None
             heard += data
             if answer := question.read(heard):
                 return answer
         return None
-
-    def give_another(self) -> None:
-        """Drops a connection that the printer has ended at a question: it gets another one, unless
-        labels were sent by this one.
-        """
-        if not self.has_sent:
-            self.drop()
 
     def close(self) -> None:
         """Ends the connection after what was sent; raises `Broken` where the printer breaks it off.
@@ -186,12 +165,6 @@ class NetworkPrinter(Outlet):
             raise Broken(Text("{}: the printer broke off at the end", self.name)) from error
         finally:
             self.drop()
-
-    def drop(self) -> None:
-        """Ends the connection at once."""
-        if self.line is not None:
-            self.line.close()
-            self.line = None
 
 
 def has_ended(line: socket.socket) -> bool:

@@ -14,8 +14,6 @@ from labeltools.printing.job import Job
 from labeltools.sending.outlets import Broken, has_reader, Outlet, OUTPUT, Untaken
 
 NOTHING_OUT = Text("nothing was printed")
-# what became of the label at which a run ended, as the answer to its line says
-UNSENT, DOUBTFUL = "unsent", "doubtful"
 Advice = tuple[Text | Remedy, ...]
 
 
@@ -42,8 +40,8 @@ class Progress:
         self.has_tables = len({record.table for record in records}) > 1
         # whether a number is that of one line: several tables have rows of the same numbers
         self.is_clear = len({record.origin_number for record in records}) == len(records)
-        self.on_way: list[LaidOut] = []  # since the way out was made: they may be thrown away
-        self.done = job.options.after  # labels on paper or in the journal, and the wrong ones
+        outlet.on_way = []
+        outlet.done = job.options.after  # labels on paper or in the journal, and the wrong ones
         self.taken = 0
         self.wrong: dict[int, ToolError] = {}  # labels that would be drawn wrongly, by their lines
 
@@ -62,8 +60,9 @@ class Progress:
         would have gone out with it.
         """
         advice: Advice = (error.hint, *error.remedies)
-        is_doubtful = outcome_word(error) == DOUBTFUL
-        what = Text("{}: {}", error.what, self.so_far()) if is_of_outlet(error) else error.what
+        is_doubtful = isinstance(error, Broken)
+        is_untaken = isinstance(error, Untaken)
+        what = Text("{}: {}", error.what, self.so_far()) if is_untaken else error.what
         if not is_doubtful:
             what = Text("{}: {} and what follows it were not sent", what, place)
             if self.outlet.name == OUTPUT and not has_reader(standard_output().fileno()):
@@ -91,7 +90,7 @@ class Progress:
         hint = joined("; ", (part for part in advice if isinstance(part, Text) and part))
         ways = {part.option: part for part in advice if isinstance(part, Remedy)}
         ended = Unfinished(what, hint, error.status, (*ways.values(),))
-        ended.printer, ended.done = self.outlet.name, self.done
+        ended.printer, ended.done = self.outlet.name, self.outlet.done
         ended.is_doubtful, ended.wrong = is_doubtful, [*self.wrong]
         return ended
 
@@ -101,31 +100,20 @@ class Progress:
         """
         if self.has_journal and self.again is None:
             return Text("the same command prints the rest")
-        if not self.done:
+        done = self.outlet.done
+        if not done:
             return Text("the same command begins with it")
-        says = Text("go on with label {}", self.done + 1)
+        says = Text("go on with label {}", done + 1)
         if self.outlet.name == OUTPUT and self.outlet.is_kept:
-            says = Text("go on with label {} by the same command, with >>", self.done + 1)
-        return Remedy("after", str(self.done), says)
+            says = Text("go on with label {} by the same command, with >>", done + 1)
+        return Remedy("after", str(done), says)
 
     def may_be_missing(self) -> Advice:
         """Returns what to do about labels that a printer took, and may have thrown away when it
         broke off; nothing if it took none, or a journal has them as doubtful.
         """
-        if not self.on_way or self.has_journal:
+        if not self.outlet.on_way or self.has_journal:
             return ()
-        labels = self.labels_in_words(self.on_way)
+        labels = self.labels_in_words(self.outlet.on_way)
         look = Text("{} may be missing: look which label came out last, and go on", labels)
         return look, Remedy("after", "N")
-
-
-def is_of_outlet(error: ToolError) -> bool:
-    """Returns whether it was the way out that failed, in the middle of a label."""
-    return isinstance(error, (Untaken, Broken))
-
-
-def outcome_word(error: ToolError) -> str:
-    """Returns what became of a label that raised an error: it may be on paper if its way out broke
-    off, else nothing of it was given away.
-    """
-    return DOUBTFUL if isinstance(error, Broken) else UNSENT

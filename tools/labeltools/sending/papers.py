@@ -5,6 +5,7 @@ import math
 import re
 from collections.abc import Iterable, Sequence
 from dataclasses import dataclass
+from functools import partial
 from typing import NamedTuple
 
 from labeltools.common.messages import BAD_ARGUMENTS, Remedy, ToolError
@@ -123,22 +124,17 @@ class Papers:
             hint = Text("it has {}: give the sides in this order", size_text(other))
         if self.find(other) or self.is_too_wide(page):
             raise ToolError(what, hint, BAD_ARGUMENTS)
-        if self.is_below(page):
+        larger = (max(page[0], self.least[0]), max(page[1], self.least[1]))
+        if self.find(larger):  # such drivers send it all the same, and many printers take it
             if is_given:
                 return PrinterPaper("", page, self.white, self.is_general)
             raise self.below_least(printer)
-        near = min((paper.size for paper in self.known), key=lambda size: distance(size, page))
+        near = min((paper.size for paper in self.known), key=partial(math.dist, page))
         hint = Text(
             "the nearest that it has is {}; labels on sheets need the name of their sheet",
             size_text(near),
         )
         raise ToolError(what, hint, BAD_ARGUMENTS, OF_SHEETS)
-
-    def is_below(self, page: Size) -> bool:
-        """Returns whether a page is too small for a printer that takes others of any size. Such
-        drivers send it all the same, and many printers take it.
-        """
-        return self.find((max(page[0], self.least[0]), max(page[1], self.least[1]))) is not None
 
     def below_least(self, printer: str) -> ToolError:
         """Returns that a page is smaller than what a driver says that a printer takes. The user may
@@ -147,11 +143,6 @@ class Papers:
         what = Text("{} says that it takes no paper below {}", printer, size_text(self.least))
         hint = Text("labels on sheets need the name of their sheet")
         return ToolError(what, hint, BAD_ARGUMENTS, (*OF_SHEETS, AS_GIVEN))
-
-
-def distance(size: Size, other: Size) -> float:
-    """Returns by how much two sizes differ."""
-    return abs(size[0] - other[0]) + abs(size[1] - other[1])
 
 
 def papers_of_driver(text: str) -> Papers:
@@ -168,7 +159,7 @@ def papers_of_driver(text: str) -> Papers:
     for found in DIMENSION.finditer(text):
         width, height = in_millimetres(found.groups()[1:])
         left, bottom, right, top = printed.get(found[1], [0.0, 0.0, width, height])
-        white = at_least_none((left, height - top, width - right, bottom))
+        white = left, height - top, width - right, bottom
         is_general = has_general and are_general(white)
         known.append(PrinterPaper(found[1], (width, height), white, is_general))
     sides = {found[1]: in_millimetres(found.groups()[1:]) for found in SIDE.finditer(text)}
@@ -205,9 +196,3 @@ def in_millimetres(numbers: Iterable[str]) -> list[float]:
 def are_general(white: Edges) -> bool:
     """Returns whether edges are those that foomatic has for any printer."""
     return all(abs(side - points * POINT) < NEAR for side, points in zip(white, GENERAL))
-
-
-def at_least_none(white: Edges) -> Edges:
-    """Returns edges of which none is beyond the paper."""
-    left, top, right, bottom = (max(0.0, side) for side in white)
-    return left, top, right, bottom

@@ -14,7 +14,7 @@ from labeltools.drawing.forms import PDF
 from labeltools.printing.job import is_direct
 from labeltools.sending.cups import connection, queues
 from labeltools.sending.job import trouble_of
-from labeltools.sending.network import is_in_network, SCHEME
+from labeltools.sending.network import SCHEME
 
 QUEUE, NETWORK, USB = "queue", "network", "usb"  # the ways to a printer
 DEVICES = Path("/dev/usb")  # has the printers on USB
@@ -53,7 +53,7 @@ def known_printers(known: Known) -> Iterator[Printer]:
     with suppress(ToolError):
         yield from queues_of_cups(known)
     for key, kept in known.items():
-        if is_in_network(key):
+        if key.startswith(SCHEME):
             yield direct_printer(key, NETWORK, kept)
     for path in sorted(map(str, DEVICES.glob("lp*"))):
         yield direct_printer(path, USB, known.get(path, {}))
@@ -67,15 +67,10 @@ def queues_of_cups(known: Known) -> Iterator[Printer]:
         shown = about.get("printer-info") or name
         is_raw = RAW in about.get("printer-make-and-model", "")
         form = kept.get("to", "" if is_raw else PDF.name)
-        state, is_ready = state_of(name, about)
-        yield Printer(name, shown, QUEUE, state, is_ready, form, int(kept.get("dpi", 0)))
-
-
-def state_of(name: str, about: Mapping[str, Any]) -> tuple[Text, bool]:
-    """Returns the state of a queue in words, and whether it prints now."""
-    if trouble := trouble_of(name, about):
-        return trouble.what, False
-    return (PRINTING if about.get("printer-state") == PROCESSING else READY), True
+        trouble = trouble_of(name, about)
+        state = PRINTING if about.get("printer-state") == PROCESSING else READY
+        state = trouble.what if trouble else state
+        yield Printer(name, shown, QUEUE, state, trouble is None, form, int(kept.get("dpi", 0)))
 
 
 def direct_printer(key: str, way: str, kept: Mapping[str, str]) -> Printer:
@@ -91,7 +86,7 @@ def lost_printer(key: str) -> Printer:
     """Returns a printer that is not there any more."""
     way = QUEUE
     if is_direct(key):
-        way = NETWORK if is_in_network(key) else USB
+        way = NETWORK if key.startswith(SCHEME) else USB
     return Printer(key, key.removeprefix(SCHEME), way, LOST, False)
 
 

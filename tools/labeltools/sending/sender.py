@@ -1,22 +1,31 @@
 """Sends labels: one loop for every way out, with a journal or without one."""
 
-from contextlib import suppress
+from contextlib import contextmanager, suppress
 from functools import partial
 from pathlib import Path
-from typing import Any, Callable, Iterator, Mapping, Sequence, Sized
+from typing import Callable, Iterator, Mapping, Sequence, Sized
 
 from labeltools.common.files import save_file
 from labeltools.common.messages import fault_of, sentence, Talk, ToolError, UNEXPECTED
 from labeltools.common.report import few, MOST_RANGES, places_text, range_words, ranges_of
 from labeltools.common.text import counted, joined, NOTHING, shell_line, Text
-from labeltools.drawing.forms import Form
 from labeltools.lines.file import Record
 from labeltools.printing.job import Job
 from labeltools.printing.press import Batch, Prepared, Press, WrongLabels
+from labeltools.sending.answers import QUERIES
 from labeltools.sending.journal import Entry, Journal, PRINTED
-from labeltools.sending.network import is_in_network, NetworkPrinter
-from labeltools.sending.outcomes import is_of_outlet, NOTHING_OUT, Progress
-from labeltools.sending.outlets import Broken, Collected, Device, Outlet, OUTPUT, Unreachable
+from labeltools.sending.network import NetworkPrinter, SCHEME
+from labeltools.sending.outcomes import NOTHING_OUT, Progress
+from labeltools.sending.outlets import (
+    Broken,
+    Collected,
+    Device,
+    Outlet,
+    OUTPUT,
+    StandardOutput,
+    Unreachable,
+    Untaken,
+)
 from labeltools.sending.watch import Watch
 
 TOOL = "label-print"  # which settles what is in doubt
@@ -24,9 +33,7 @@ ASKED_AFTER = 20  # labels of a run, after which a printer is asked how many it 
 
 
 class Sender:
-    """Sends labels by an outlet; what the job asks for `again` is sent once more, though the
-    journal has it.
-    """
+    """Sends labels by an outlet, but for those that a journal has."""
 
     def __init__(
         self,
@@ -38,16 +45,14 @@ class Sender:
         """Takes all lines of the input, too."""
         self.outlet = outlet
         self.journal = journal
-        self.again = job.options.again
         self.records = records
         self.progress = Progress(job, outlet, records)
-        self.watch = Watch(outlet, job.form.name, job.plan.dpi)
+        self.watch = Watch(outlet, QUERIES.get(job.form.name), job.plan.dpi)
         # what is asked of the printer before its first label
         self.question: Callable[[], object] | None = None
-        self.way: object = None
         self.asked_after = ASKED_AFTER
         self.unasked = 0  # labels that the printer has taken since it was asked what it has left
-        self.known: set[bytes] = set()  # the codes that the journal had
+        self.known: set[str] = set()  # the codes that the journal had
         self.is_at_end = False  # whether standard output takes no more
         self.is_off = False  # whether the way out broke off, or is not there any more
 
@@ -61,35 +66,27 @@ class Sender:
         self.outlet.came = came
         self.outlet.say = talk.say
         for part in press.batches(found.prints):
+            so_far = NOTHING if self.outlet.is_direct else self.progress.so_far()
             try:
-                if came:
-                    self.do_between_labels(self.close_well)
-                    raise ToolError(Text("{}: {}", self.outlet.name, self.progress.so_far()))
-                self.send_right(press, part, talk)
-            except OSError:
-                raise
-            except Exception as error:
-                known = expected(error, ToolError)
+                with unforeseen(ToolError, so_far):
+                    self.send_right(press, part, talk)
+            except ToolError as error:
                 if not self.outlet.is_direct:
-                    raise self.error_of_whole(known, known is not error) from error
+                    raise
                 place = self.progress.labels_in_words(part.items)
-                ended = self.progress.ended(known, place)
-                self.is_off = self.is_off or isinstance(known, (Broken, Unreachable))
-                self.do_between_labels(self.close_well)
+                ended = self.progress.ended(error, place)
+                self.is_off = self.is_off or isinstance(error, (Broken, Unreachable))
+                with self.between_labels():
+                    self.close_well()
                 raise ended from error
-            self.progress.done += len(part.items)
-            talk.go_on(self.progress.done - found.job.options.after, len(found.prints))
+            self.outlet.done += len(part.items)
+            talk.go_on(self.outlet.done - found.job.options.after, len(found.prints))
         if self.progress.wrong and not self.progress.taken:
             raise ToolError(NOTHING_OUT)
-        self.do_between_labels(self.end_way_out)
-
-    def end_way_out(self) -> None:
-        """Ends the way out, once a printer that answers has printed all labels, or does not go on;
-        raises `Broken`.
-        """
-        if self.progress.taken:
-            self.watch.wait_until_printed(self.progress.taken)
-        self.close_well()
+        with self.between_labels():
+            if self.progress.taken:
+                self.watch.wait_until_printed(self.progress.taken)
+            self.close_well()
 
     def close_well(self) -> None:
         """Ends the way out, and writes that what it took is printed, but for what a printer says
@@ -105,7 +102,8 @@ class Sender:
         long as it is not there, or says that it does not suit.
         """
         if self.question is not None:
-            self.do_between_labels(self.question)
+            with self.between_labels():
+                self.question()
             self.question = None
 
     def ask_for_left(self) -> None:
@@ -119,33 +117,28 @@ class Sender:
         if self.journal is not None and left is not None:
             self.journal.write_printed(left + 1 if left else 0)
 
-    def do_between_labels(self, act: Callable[[], Any]) -> Any:
-        """Returns what is done before a label, or after the last one; raises `ToolError` in place
-        of `Broken`, since what broke off are the labels that were sent.
+    @contextmanager
+    def between_labels(self) -> Iterator[None]:
+        """For what is done before a label, or after the last one: raises `ToolError` in place of
+        `Broken`, since what broke off are the labels that were sent.
         """
         try:
-            return act()
-        except OSError:
-            raise
-        except Exception as error:
-            known = expected(error, Broken)
-            self.is_off = isinstance(known, (Broken, Unreachable))
-            if not isinstance(known, Broken):
+            with unforeseen(Broken):
+                yield
+        except ToolError as error:
+            self.is_off = isinstance(error, (Broken, Unreachable))
+            if not isinstance(error, Broken):
                 raise
-            raise self.progress.ended_between_labels(known) from error
-
-    def error_of_whole(self, error: ToolError, is_fault: bool) -> ToolError:
-        """Returns an error of what goes out as a whole, or as files; of a fault of ours with what
-        went out before it.
-        """
-        if not is_fault:
-            return error
-        return error.saying(Text("{}: {}", error.what, self.progress.so_far()))
+            raise self.progress.ended_between_labels(error) from error
 
     def send_right(self, press: Press, part: Batch, talk: Talk) -> None:
         """Sends what goes out as a whole, without labels that would be drawn wrongly, of which it
-        says so.
+        says so; raises `ToolError` if somebody has stopped the work.
         """
+        if self.outlet.came:
+            with self.between_labels():
+                self.close_well()
+            raise ToolError(Text("{}: {}", self.outlet.name, self.progress.so_far()))
         while part.items:
             try:
                 self.send_batch(press, part, not self.progress.taken)
@@ -155,7 +148,6 @@ class Sender:
                     talk.say(wrong.problem)
                 self.progress.wrong.update(error.errors)
                 part = press.without(part, error.errors)
-        self.outlet.leave_out()
 
     def send_batch(self, press: Press, part: Batch, is_first: bool, is_last: bool = False) -> int:
         """Sends what goes out as a whole, and returns how many bytes it has; 0 if the journal has
@@ -163,17 +155,15 @@ class Sender:
         """
         record = part.items[0].record
         journal = self.journal
-        if journal is not None and self.again is None and journal.entry(record) is not None:
+        if journal and record.code_line not in journal.again and journal.entry(record):
             self.known.add(record.code_line)  # so no connection is made
             return 0
         document = press.document(part, is_first)
         self.ask_before()
-        way = self.do_between_labels(self.outlet.open)
-        if way != self.way:
-            self.way = way
-            self.progress.on_way.clear()
-        if journal is not None:
-            self.do_between_labels(self.ask_for_left)
+        with self.between_labels():
+            self.outlet.open()
+            if journal is not None:
+                self.ask_for_left()
         if journal is not None and not journal.claim(record):
             self.known.add(record.code_line)
             return 0
@@ -182,9 +172,9 @@ class Sender:
         self.progress.taken += len(part.items)
         self.unasked += 1
         if not self.outlet.is_kept:
-            self.progress.on_way += part.items
+            self.outlet.on_way += part.items
         if is_last:
-            self.progress.on_way.clear()
+            self.outlet.on_way.clear()
         return len(document)
 
     def give_label(self, record: Record, document: bytes, is_last: bool) -> None:
@@ -192,23 +182,21 @@ class Sender:
         with a journal `Broken`, since the label is in doubt there, too.
         """
         try:
-            self.outlet.send(document)
-            if is_last:
-                self.outlet.close()
-            if self.journal is not None:
-                self.journal.write_taken(record, is_printed=self.outlet.is_kept)
-        except OSError:
-            raise
-        except Exception as error:
-            known = expected(error, Broken)
-            self.is_at_end = self.outlet.name == OUTPUT and is_of_outlet(known)
+            with unforeseen(Broken):
+                self.outlet.send(document)
+                if is_last:
+                    self.outlet.close()
+                if self.journal is not None:
+                    self.journal.write_taken(record, is_printed=self.outlet.is_kept)
+        except ToolError as error:
+            self.is_at_end = self.outlet.name == OUTPUT and isinstance(error, Untaken)
             if self.journal is None:
-                raise known from error
+                raise
             with suppress(ToolError):  # something else is reported
                 self.journal.give_up()
-            raise Broken.of(known.problem, known.status) from error
+            raise Broken.of(error.problem, error.status) from error
 
-    def end_run(self) -> Mapping[bytes, Entry]:
+    def end_run(self) -> Mapping[str, Entry]:
         """Ends the run, and returns what is in doubt in the journal; nothing if that cannot be
         read, which is an error of the label before.
         """
@@ -216,7 +204,7 @@ class Sender:
             if self.journal is not None:
                 self.journal.give_up()
                 doubtful = self.journal.doubtful()
-                self.journal.close()
+                self.journal.base.close()
                 return doubtful
         return {}
 
@@ -229,15 +217,14 @@ class Sender:
             return NOTHING
         code = record.code_line
         if code in self.doubtful_codes():
-            words = code.decode()
-            hint = Text("then write #printed {} or #missing {}", words, words)
+            hint = Text("then write #printed {} or #missing {}", code, code)
             return sentence(may_be_missing(entry.printer), hint)
         if not self.journal or not self.journal.is_sending(entry):
             return NOTHING  # it was taken meanwhile
         what = Text("{} is sending it", entry.printer)
         return sentence(what, Text("send the line again to see whether it was taken"))
 
-    def doubtful_codes(self) -> Mapping[bytes, Entry]:
+    def doubtful_codes(self) -> Mapping[str, Entry]:
         """Returns the codes of labels of which it is not known whether they are on paper; none if
         the journal cannot be read, which is an error of the label before.
         """
@@ -245,23 +232,23 @@ class Sender:
             return self.journal.doubtful() if self.journal else {}
         return {}
 
-    def doubts(self, doubtful: Mapping[bytes, Entry]) -> Iterator[Text]:
+    def doubts(self, doubtful: Mapping[str, Entry]) -> Iterator[Text]:
         """Yields messages that name all labels in doubt, those of a printer together, and the
         commands that settle them.
         """
-        printers: dict[str, list[bytes]] = {}
+        printers: dict[str, list[str]] = {}
         for code, entry in doubtful.items():
             printers.setdefault(entry.printer, []).append(code)
         places = {record.code_line: record.origin for record in self.records if printers}
         for printer, codes in printers.items():
             here = [places[code] for code in codes if code in places]
-            others = [code.decode() for code in codes if code not in places]
+            others = [code for code in codes if code not in places]
             named = [places_text(here, self.progress.has_tables)] if here else []
             named += [Text("{}, of another input", few(others))] if others else []
             yield Text("{}: {}", joined("; ", named), may_be_missing(printer))
             words = ["--print", printer]
             if len(codes) == 1:
-                words = ["--only-code", codes[0].decode()]
+                words = ["--only-code", codes[0]]
             ranges = ranges_of(sorted(place.number for place in here))
             if self.progress.is_clear and not others and len(ranges) <= MOST_RANGES:
                 words = ["--only", ",".join(range_words(ranges))]
@@ -271,27 +258,37 @@ class Sender:
             yield Text("if missing, to be printed again: {}", line)
 
 
-def expected(error: Exception, kind: type[ToolError]) -> ToolError:
-    """Returns the error of a tool for any exception: of a kind for one that nobody expected."""
-    if isinstance(error, ToolError):
-        return error
-    return kind(fault_of(error), status=UNEXPECTED)
-
-
-def direct_outlet(printer: str, form: Form) -> Outlet:
-    """Returns the way to a printer in the network, or to one that is a file, for labels of a
-    form.
+@contextmanager
+def unforeseen(kind: type[ToolError], so_far: Text = NOTHING) -> Iterator[None]:
+    """Raises an error of a kind, with what went out before it, in place of an exception that nobody
+    expected.
     """
-    if is_in_network(printer):
+    try:
+        yield
+    except (OSError, ToolError):
+        raise
+    except Exception as error:
+        what = joined(": ", filter(None, (fault_of(error), so_far)))
+        raise kind(what, status=UNEXPECTED) from error
+
+
+def outlet_of(job: Job, printer: str | None) -> Outlet:
+    """Returns the way for the labels of a job to a printer in the network, or to one that is a
+    file, or to standard output if none is named.
+    """
+    if not printer:
+        is_synced = job.options.journal is not None
+        return StandardOutput(job.form.is_roll, is_synced)
+    if printer.startswith(SCHEME):
         return NetworkPrinter(printer)
-    return Device(printer, form.begin)
+    return Device(printer, job.form.begin)
 
 
 def send_labels_to(found: Prepared, printer: str, talk: Talk, came: Sized = ()) -> Sender:
     """Sends labels one by one to a printer until something came, and returns the sender, which
     knows what the printer took; raises `ToolError`.
     """
-    sender = Sender(found.job, direct_outlet(printer, found.job.form))
+    sender = Sender(found.job, outlet_of(found.job, printer))
     sender.send_all(found, talk, came)
     return sender
 

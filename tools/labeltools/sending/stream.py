@@ -31,14 +31,8 @@ from threading import Thread
 from typing import BinaryIO, Iterator, Sequence
 
 from labeltools.common.budget import LINE_OF_STREAM, SINGLE_LINE, too_much
-from labeltools.common.messages import (
-    fault_of,
-    Talk,
-    ToolError,
-    UNEXPECTED,
-    visible,
-    write_message,
-)
+from labeltools.common.files import events_of
+from labeltools.common.messages import Talk, ToolError, UNEXPECTED, visible, write_message
 from labeltools.common.process import standard_output
 from labeltools.common.report import places_text
 from labeltools.common.signals import end_with, ENDING, hold_signals
@@ -50,11 +44,10 @@ from labeltools.printing.job import Job
 from labeltools.printing.press import pens_of, Prepared, prepared, Press, WrongLabels
 from labeltools.printing.remarks import SHORTENED
 from labeltools.sending.database import is_in_place
-from labeltools.sending.outcomes import outcome_word, UNSENT
 from labeltools.sending.outlets import Broken, has_reader, OUTPUT, Unreachable
-from labeltools.sending.sender import Sender
+from labeltools.sending.sender import Sender, unforeseen
 
-TAKEN, KNOWN, REFUSED = "taken", "known", "refused"  # answers, beside those of outcomes
+TAKEN, REFUSED, KNOWN, UNSENT, DOUBTFUL = "taken", "refused", "known", "unsent", "doubtful"
 SKIPPED = (b'#{"labels"', b'#{"end"')
 PRINTED = b"#printed"
 SETTLES = {PRINTED: KNOWN, b"#missing": UNSENT}  # lines that settle a doubt, and their answers
@@ -80,8 +73,6 @@ class Fifo:
         self.path = path
         self.source = os.open(path, os.O_RDONLY | os.O_NONBLOCK)  # it waits for no writer
         os.set_blocking(self.source, True)
-        self.poll = select.poll()  # it takes any number of open files, unlike select
-        self.poll.register(self.source, select.POLLIN)
         self.found: Queue[bytes | Exception] = Queue(MOST_AHEAD)
         Thread(target=self.read_ahead, daemon=True).start()
 
@@ -109,9 +100,10 @@ class Fifo:
             if not is_in_place(self.path, self.source):
                 raise ToolError(Text("{}: another program has changed it", self.path), NO_FIFO)
             writer = os.open(self.path, os.O_WRONLY)
-            has_bytes = bool(self.poll.poll(LOOK * 1000))
+            has_bytes = bool(events_of(self.source, select.POLLIN, LOOK))
             os.close(writer)
-            has_writer = has_bytes or not self.poll.poll(0)  # it is not at its end
+            is_at_end = bool(events_of(self.source, select.POLLIN))
+            has_writer = has_bytes or not is_at_end
 
     def readline(self, _: int = 0) -> bytes:
         """Returns a line, or the next part of a long one; nothing at the end of a writer. Raises
@@ -256,27 +248,23 @@ class Stream:
         self.notes = []
         text = parts[-1][1].removesuffix(b"\n").decode("utf-8", "backslashreplace")
         try:
-            said, _, code = parts[-1][1].rstrip().partition(b" ")
-            if said in SETTLES:
-                return self.settle(said, code)
-            self.require_reader()
-            try:
-                found = self.label_of_line(parts)
-            except ToolError as error:
-                return REFUSED, error.problem.line
-            size = self.print(found)
-            return (TAKEN, Text("{} {}", size, text)) if size else (KNOWN, Text("{}", text))
+            with unforeseen(ToolError):
+                said, _, code = parts[-1][1].rstrip().partition(b" ")
+                if said in SETTLES:
+                    return self.settle(said, code)
+                self.require_reader()
+                try:
+                    found = self.label_of_line(parts)
+                except ToolError as error:
+                    return REFUSED, error.problem.line
+                size = self.print(found)
+                return (TAKEN, Text("{} {}", size, text)) if size else (KNOWN, Text("{}", text))
         except WrongLabels as error:  # the next label is another one
             return REFUSED, error.problem.line
         except ToolError as error:
             if error.status == UNEXPECTED:
                 self.status = error.status
-            return outcome_word(error), error.problem.line
-        except OSError:
-            raise
-        except Exception as error:  # before anything goes out: see `Sender.give`
-            self.status = UNEXPECTED
-            return UNSENT, fault_of(error)
+            return DOUBTFUL if isinstance(error, Broken) else UNSENT, error.problem.line
         finally:
             self.sender.outlet.drop()  # it is left to others if nothing went out by it
 
@@ -286,8 +274,8 @@ class Stream:
         """
         journal = self.sender.journal
         text = code.decode("utf-8", "backslashreplace")
-        entry = journal.doubtful().get(code) if journal else None
-        if journal is None or entry is None or not journal.settle(code, entry, word == PRINTED):
+        entry = journal.doubtful().get(text) if journal else None
+        if journal is None or entry is None or not journal.settle(text, entry, word == PRINTED):
             return REFUSED, Text("{} is not in doubt", text)
         return SETTLES[word], Text("{}", text)
 

@@ -1,14 +1,13 @@
 """Asks a printer how it is, before labels are sent to it, and then until they are printed."""
 
 import time
-from collections.abc import Sequence
 from contextlib import suppress
-from dataclasses import replace
+from dataclasses import dataclass, replace
 
-from labeltools.common.messages import BAD_ARGUMENTS, Problem, Remedy, Talk, ToolError
-from labeltools.common.text import counted, joined, NOTHING, Text
+from labeltools.common.messages import BAD_ARGUMENTS, Remedy, Talk, ToolError
+from labeltools.common.text import joined, Text
 from labeltools.paper.plan import MILLIMETRES
-from labeltools.sending.answers import DOTS, QUERIES, read_status, Reply
+from labeltools.sending.answers import DOTS, Query, read_status, Reply
 from labeltools.sending.outlets import Broken, Outlet
 
 IDLE = 10.0  # seconds in which a printer with labels left may print none
@@ -20,17 +19,17 @@ LOOKS = 0.1, 0.5  # seconds between two questions, at first and later
 NOTHING_SAID = Reply()
 
 
+@dataclass
 class Watch:
-    """What a printer says of itself. One that does not answer at first is asked no more, and
-    nothing is known of it. `answer` is the last that it said.
+    """What a printer says of itself to a question, if there is one for its language. One that does
+    not answer at first is asked no more, and nothing is known of it. `answer` is the last that it
+    said.
     """
 
-    def __init__(self, outlet: Outlet, form: str, dpi: int = 0) -> None:
-        """Takes a way out, the form of what is sent, and its dots an inch."""
-        self.outlet = outlet
-        self.dpi = dpi
-        self.question = QUERIES.get(form)
-        self.answer = NOTHING_SAID
+    outlet: Outlet
+    question: Query | None
+    dpi: int = 0  # of what is sent
+    answer: Reply = NOTHING_SAID
 
     def report_before(self, talk: Talk) -> None:
         """Says what is wrong with a printer before anything is sent, and what it has of before;
@@ -43,10 +42,8 @@ class Watch:
             return
         name = self.outlet.name
         self.require_dots()
-        for trouble in self.answer.troubles:
-            talk.say(replace(trouble, what=Text("{}: {}", name, trouble.what)))
-        if self.answer.left:
-            talk.say(Problem(Text("{}: {}", name, left_text(self.answer.left))))
+        for problem in self.answer.problems:
+            talk.say(replace(problem, what=Text("{}: {}", name, problem.what)))
 
     def require_dots(self) -> None:
         """Raises `ToolError` if a printer of ZPL says that it has other dots than the labels: they
@@ -78,9 +75,7 @@ class Watch:
         before = self.answer
         while self.question is not None:
             self.answer = answer = self.ask()
-            if answer.left is None:  # nobody knows how many it has left
-                return
-            if answer.is_empty or answer.troubles:
+            if not answer.left or answer.troubles:  # it may not say how many it has left
                 return
             if answer.left != before.left:
                 before = answer
@@ -109,15 +104,5 @@ class Watch:
         name = self.outlet.name
         if self.answer.is_empty:
             return Text("{} printed by {}", labels, name)
-        return joined("; ", (Text("{} sent to {}", labels, name), *self.troubles))
-
-    @property
-    def troubles(self) -> Sequence[Text]:
-        """What the printer has left, and what keeps it from printing."""
-        left = left_text(self.answer.left) if self.answer.left else NOTHING
-        return [*filter(None, (left, *(trouble.line for trouble in self.answer.troubles)))]
-
-
-def left_text(count: int) -> Text:
-    """Returns how many labels a printer has."""
-    return counted("{} label is left in the printer", "{} labels are left in the printer", count)
+        problems = (problem.line for problem in self.answer.problems)
+        return joined("; ", (Text("{} sent to {}", labels, name), *problems))

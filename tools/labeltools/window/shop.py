@@ -188,8 +188,7 @@ class Table:
         """Guesses the columns of the table as options read it, and finds what is kept for these."""
         columns = {"code": "1", "title": "1", "price": "1"}
         words = words_of({**columns, "header-row": "" if header is None else str(header)})
-        arguments = table_command.understood([*words, *further.words])
-        options = table_command.table_options(arguments)
+        options = table_command.table_options([*words, *further.words])
         self.guess = read_apart(guess_of, self.data, self.path.name, options, talk)
         self.further = further
         self.key = "\n".join(self.guess.names) if any(self.guess.names) else ""
@@ -279,7 +278,7 @@ class Table:
         words = words_of({"new-since": since})
         words += [*table_words(choices), "--", str(self.path)]
         if words != self.words:  # other paper needs no other lines
-            to_read = table_command.table_options(table_command.understood(words))
+            to_read = table_command.table_options(words)
             self.lines = read_apart(lines_of_table, self.data, self.path.name, to_read, talk)
             self.said = tuple(talk.notes)
             self.harmful = frozenset(self.harmful_remedies(to_read))

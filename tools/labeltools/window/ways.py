@@ -184,7 +184,7 @@ class WaysOut:
         if event is not None and state.is_printed and job in self.on_sheets:
             event = replace(event, sentence=f"{event.sentence} {self.said_of_next(job)}".strip())
         if state.is_over:
-            if state.is_begun:
+            if state.begun:
                 self.on_sheets.pop(job, None)  # some of its labels may be on paper
             self.end_job(job, state.is_printed)
         else:
@@ -379,7 +379,8 @@ def direct_sent(printer: str, name: str, labels: Prepared, talk: WindowTalk) -> 
     count, wrong = sender.progress.taken, sender.progress.wrong
     if sender.watch.answer.is_empty:
         return Sent(None, printed_on(count, name), wrong, SUCCESS)
-    parts = sent_to(count, name), *map(whole_sentence, sender.watch.troubles)
+    problems = [whole_sentence(problem.line) for problem in sender.watch.answer.problems]
+    parts = sent_to(count, name), *problems
     return Sent(None, joined(" ", parts), wrong, WARNING if sender.watch.is_stuck else INFO)
 
 
@@ -395,7 +396,7 @@ def event_of(job: SentJob, count: int, state: JobState, name: str) -> Event | No
             text = joined(" ", (sent_to(count, name), whole_sentence(state.told)))
         return Event(SUCCESS, whole_sentence(text), None, job)
     why = state.trouble
-    if state.is_over and state.is_begun:
+    if state.is_over and state.begun:
         text = counted(
             "{} label may be on paper: {}", "Some of {} labels may be on paper: {}", count, why
         )
