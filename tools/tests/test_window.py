@@ -1666,7 +1666,10 @@ class WindowTest(Keeper):
         self.assertEqual((row, cell), ("4", "4006381333932"))
         self.assertIn("a digit is wrong", why)
         said = self.counted().replace("\u00a0", " ")
-        self.assertEqual(said, "6 labels from 3 rows, with prices from 0,80 € to 2,95 €.")
+        self.assertEqual(
+            said,
+            "6 labels from 3 rows: 1 EAN-13, 1 UPC-A, 1 EAN-8; prices 0,80 € to 2,95 €; copies 1 to 3.",
+        )
         self.open(NOT_YET.format("36000291452"))
         said = "36000291452 has 11 digits, EAN-8 has 8, UPC-A has 12, EAN-13 has 13."
         self.assertEqual(self.rows()[0][2], f"{said}\nAre leading zeros lost?")
@@ -1895,7 +1898,7 @@ class WindowTest(Keeper):
         self.assertEqual(self.problem(), "Which column has the price?")
         self.assertFalse(self.window.lookup_action("save").get_enabled())
         self.change(price="4")
-        self.assertIn("with the price 0,80.", self.counted())
+        self.assertIn("; price 0,80;", self.counted())
         for prices in ("0,80;1,20", "1,20;0,80"):
             self.window.has_labels = False
             self.open(f"96385074;Gum, red;{prices}\n")
@@ -2250,7 +2253,7 @@ class WindowTest(Keeper):
     def test_prices_of_a_spreadsheet_get_a_currency(self) -> None:
         """It is reported that they have none, and chosen from what the column has."""
         self.open(TABLE.replace(" €", ""))
-        self.assertIn("3 prices have no currency.", self.counted())
+        self.assertIn("3 prices without a currency", self.counted())
         shown = [row[0] for row in self.widgets.price_as.get_model()]
         self.assertEqual(shown[:3], ["as in the table  –  0,80", "0,80 €", "€0.80"])
         self.change(price_as="€0.00")
@@ -2680,7 +2683,8 @@ class WindowTest(Keeper):
         self.window.lookup_action("type").activate(None)
         self.until(lambda: self.window.has_labels)
         self.assertEqual(
-            self.counted().replace("\u00a0", " "), "3 labels from 1 row, with the price 0,80 €."
+            self.counted().replace("\u00a0", " "),
+            "3 labels from 1 row: 1 EAN-13; price 0,80 €; copies 3.",
         )
         self.assertEqual(self.records()[0].title, "Pencil; red")
 
@@ -2812,7 +2816,7 @@ class WindowTest(Keeper):
         self.open(path=later)
         self.until(lambda: self.window.has_labels)
         self.assertEqual(self.window.choices().for_table, "--where Name=Soap")
-        self.assertIn("2 labels from 1 row, ", self.counted())
+        self.assertIn("2 labels from 1 row: ", self.counted())
 
     def test_a_file_that_is_no_table_is_said(self) -> None:
         for name, data in (

@@ -6,7 +6,7 @@ from collections.abc import Callable, Sequence
 from typing import Any
 
 from labeltools.common.language import _
-from labeltools.common.text import Text, translated
+from labeltools.common.text import Text, translated, whole_sentence
 from labeltools.printing.press import Prepared
 from labeltools.window.bar import Answer
 from labeltools.window.designs import without_folder
@@ -51,7 +51,7 @@ class ShownLabels:
         self.labels = made.labels
         self.widgets.command.set_text(made.command)
         is_waiting = bool(made.asked) and not made.labels.prints  # no row is counted yet
-        self.widgets.count.set_text("" if is_waiting else translated(made.summary))
+        self.widgets.count.set_text("" if is_waiting else whole_sentence(made.summary))
         self.show_notes(made)
         self.offer(helps[:MOST_HELPS])
         if is_new:

@@ -6,7 +6,7 @@ import hashlib
 import time
 from collections.abc import Callable, Iterator, Mapping, Sequence
 from contextlib import suppress
-from dataclasses import dataclass
+from dataclasses import dataclass, replace
 from functools import reduce
 from pathlib import Path
 from typing import Any
@@ -32,7 +32,7 @@ from labeltools.tables.guess import guess_of
 from labeltools.tables.money import NotMoney, PROGRAM_DECIMALS, read_price
 from labeltools.tables.old_encoding import old_encoding
 from labeltools.tables.prices import PricePattern
-from labeltools.tables.summary import labels_from, sentences
+from labeltools.tables.summary import labels_from, NO_BREAK, summary_line
 from labeltools.tables.table import Lines, lines_of_table
 from labeltools.tables.table_options import TableOptions
 from labeltools.window import memory
@@ -115,11 +115,13 @@ class MadeLabels:
 
     @property
     def summary(self) -> Text:
-        """What the keeper is told of those that can be printed; of their prices only if all can."""
+        """What the keeper is told of those that can be printed; of their kinds and prices only if
+        all can. What is left out is listed beside it.
+        """
         count = len(self.labels.labels)
         if count == self.lines.count:
-            return sentences(self.lines.totals)
-        return Text("{}.", labels_from(len(self.labels.prints), count))
+            return summary_line(replace(self.lines.totals, left_out=0), NO_BREAK)
+        return labels_from(len(self.labels.prints), count)
 
     @property
     def asked(self) -> Sequence[LeftOut]:
