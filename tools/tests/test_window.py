@@ -234,7 +234,7 @@ def show_cut_texts(path: Path) -> None:
     shown.take_values(given_table=given, given_print="--edge 1 --paper-as-given")
     for name in questions.BELOW:
         answers = [("Preis A  –  19,57", bool)] * 2
-        shown.questions.below(name).ask(translated(questions.WHICH["copies"]), answers)
+        shown.questions.below[name].ask(translated(questions.WHICH["copies"]), answers)
     draw(shown)
     print([*cut_texts(shown.get_child())])
     long = Text(
@@ -364,7 +364,7 @@ class Keeper(unittest.TestCase):
         """What the window asks, or says that it cannot do."""
         if self.widgets.stack.get_visible_child_name() == "asking":
             return f"{self.widgets.asked.get_text()}\n{self.widgets.asked_more.get_text()}"
-        asked = [self.window.questions.below(name) for name in questions.BELOW]
+        asked = [self.window.questions.below[name] for name in questions.BELOW]
         if texts := [box.text.get_text() for box in asked if box.get_visible()]:
             return texts[0]
         event = self.window.events.event
@@ -387,7 +387,7 @@ class Keeper(unittest.TestCase):
 
     def answers(self) -> Any:
         """The buttons that help."""
-        asked = [self.window.questions.below(name) for name in questions.BELOW]
+        asked = [self.window.questions.below[name] for name in questions.BELOW]
         boxes = [box.answers for box in asked if box.get_visible()] + [*self.widgets.helps]
         if self.widgets.stack.get_visible_child_name() == "asking":
             boxes = [self.widgets.answers]
@@ -1618,7 +1618,7 @@ class WindowTest(Keeper):
                 return not answers
 
             GLib.timeout_add(10 * BEAT, press)
-            answers.append(ways.confirmed(box))
+            answers.append(gtk.confirmed(box))
             self.assertEqual(answers, [True])
 
     def test_the_printer_decides_what_it_is_sent(self) -> None:
@@ -2345,7 +2345,7 @@ class WindowTest(Keeper):
         guessed = {"currency", "title", "variants-of"}
         options = test_german.remedies(True) | guessed
         options -= {*choices.CHOSEN, "after"}
-        self.assertEqual(options - {*further.SAID}, set())
+        self.assertEqual(options - {*further.SAID, "encoding"}, set())
         self.assertGreater(len(options), 10)
 
     def test_what_is_between_cells_is_asked_for_if_it_may_be_data(self) -> None:
@@ -2395,13 +2395,13 @@ class WindowTest(Keeper):
         """The last twenty; what is good does not take the place of what went wrong with another."""
         self.open()
         for number in range(25):
-            self.window.events.show_event(bar.Event("info", str(number), about=number))
-        self.window.events.show_event(bar.Event("error", "broke off", about=1))
-        self.window.events.show_event(bar.Event("success", "printed", about=2))
+            self.window.events.report(bar.Event("info", str(number), about=number))
+        self.window.events.report(bar.Event("error", "broke off", about=1))
+        self.window.events.report(bar.Event("success", "printed", about=2))
         self.assertEqual(self.said(), "broke off")
         self.assertEqual(self.happened()[:3], ["printed", "broke off", "24"])
         self.assertEqual(len(self.happened()), 20)
-        self.window.events.show_event(bar.Event("success", "printed after all", about=1))
+        self.window.events.report(bar.Event("success", "printed after all", about=1))
         self.assertEqual(self.said(), "printed after all")
         found = gtk.widgets_within(self.widgets.bar)
         buttons = [button for button in found if isinstance(button, Gtk.Button)]
@@ -2436,7 +2436,7 @@ class WindowTest(Keeper):
         self.window.resize(800, 500)
         draw(self.window)
         answers = [("Labels", bool), ("Receipts", bool)]
-        self.window.questions.below("printer").ask("What?", answers)
+        self.window.questions.below["printer"].ask("What?", answers)
         draw(self.window)
         scroll = self.widgets.panel.get_ancestor(Gtk.ScrolledWindow).get_vadjustment()
         area = self.widgets.ask_printer.get_allocation()
@@ -2485,7 +2485,7 @@ class WindowTest(Keeper):
         code += "shown.widgets.stack.set_visible_child_name('work'); shown.present(); "
         code += "t.draw(shown); answers = [('VK – 19,57', bool)] * 2; "
         code += "text = t.translated(t.questions.WHICH['price']); "
-        code += "shown.questions.below('price').ask(text, answers); "
+        code += "shown.questions.below['price'].ask(text, answers); "
         code += "t.draw(shown); print(shown.widgets.panel.get_preferred_height()[1], end=' '); "
         code += "print(shown.widgets.panel.get_preferred_width()[1])"
         for language in ("en", "de", "fr"):
@@ -2762,7 +2762,7 @@ class WindowTest(Keeper):
         draw(self.window)
         before = self.window.choices()
         for name in ("title", "design", "first"):
-            control = self.window.control(name)
+            control = self.window.controls[name]
             event = Gdk.Event.new(Gdk.EventType.SCROLL)
             event.window = control.get_window()
             event.direction = Gdk.ScrollDirection.DOWN
@@ -2957,7 +2957,8 @@ class WindowTest(Keeper):
             str(value) for value in vars(self.window.choices()).values() if value not in ("", None)
         }
         self.assertEqual([name for name in aloud if name in ids], [])  # nobody should hear these
-        self.window.result.offer([("Prices may be any text, however long it is", bool)] * 3)
+        answers = [("Prices may be any text, however long it is", bool)] * 3
+        gtk.show_answers(self.widgets.helps, answers, self.widgets.fold)
         self.widgets.fold.set_expanded(True)
         draw(self.window)
         width, _ = self.window.get_preferred_width()

@@ -2,11 +2,11 @@
 the tools, as files that a keeper may also change.
 """
 
-from collections.abc import Iterator, Mapping
+from collections.abc import Mapping
 from contextlib import suppress
 from functools import cache
 from pathlib import Path
-from typing import Any, TYPE_CHECKING
+from typing import Any, NamedTuple, TYPE_CHECKING
 
 import cairo
 
@@ -14,7 +14,7 @@ from labeltools.common.text import Text, translated
 from labeltools.designs.svg_design import is_file
 from labeltools.layout.area import ARTICLE, SHELF
 from labeltools.paper.stock import Size
-from labeltools.window.gtk import Gdk, GdkPixbuf, GLib, Gtk, show_pictures
+from labeltools.window.gtk import Gdk, GdkPixbuf, GLib, Gtk, show_picture
 
 if TYPE_CHECKING:
     from labeltools.window.window import Window
@@ -41,6 +41,16 @@ BARS = (0, 2, 3, 6, 8, 11, 12, 15, 17, 18, 21)  # where the bars of a drawn code
 # the built-in designs as they are drawn small: the height of the digits of the price, and where the
 # price and the bars are
 DRAWN = {ARTICLE.name: (11, (34, 26), (5, 15, 18)), SHELF.name: (19, (16, 27), (5, 31, 5))}
+
+
+class Shipped(NamedTuple):
+    """A design that comes with the tools: its name in the list, the size of the label for which it
+    is drawn, in millimetres, and the file of its picture.
+    """
+
+    name: str
+    size: Size
+    picture: Path
 
 
 class Designs:
@@ -102,14 +112,18 @@ def folders() -> tuple[Path, Path]:
     return next((pair for pair in PLACES if pair[0].is_dir()), PLACES[0])
 
 
-def shipped() -> Iterator[tuple[str, str]]:
-    """Yields the files of the designs that come with the tools, with the names of the list, which
-    have the size of a label.
-    """
-    for path in sorted(folders()[0].glob("*.svg")):
+@cache
+def shipped() -> Mapping[str, Shipped]:
+    """Returns the designs that come with the tools, by their files, in whose names is the size."""
+    folder, pictures = folders()
+    found = {}
+    for path in sorted(folder.glob("*.svg")):
         name, _, size = path.stem.rpartition("-")
-        sides = " × ".join(size.split("x"))
-        yield str(path), f"{translated(NAMES[name])}, {sides} mm"
+        wide, _, high = size.partition("x")
+        shown = f"{translated(NAMES[name])}, {wide} × {high} mm"
+        picture = pictures / f"design-{name}.png"
+        found[str(path)] = Shipped(shown, (float(wide), float(high)), picture)
+    return found
 
 
 def without_folder(text: str) -> str:
@@ -117,24 +131,16 @@ def without_folder(text: str) -> str:
     return text.replace(f"{folders()[0]}/", "")
 
 
-def size_of(design: str) -> Size | None:
-    """Returns the size for which a design is drawn that comes with the tools, in millimetres."""
-    if Path(design).parent != folders()[0]:
-        return None
-    wide, _, high = Path(design).stem.rpartition("-")[2].partition("x")
-    return float(wide), float(high)
-
-
 def add_pictures(choice: Any) -> None:
     """Shows a picture of each design in a choice of them, and adds those that come with the
     tools.
     """
-    for path, name in shipped():
-        choice.insert(len(choice.get_model()) - 1, path, name)
+    for path, design in shipped().items():
+        choice.insert(len(choice.get_model()) - 1, path, design.name)
     picture = Gtk.CellRendererPixbuf(width=WIDE + 8, xalign=0)
     choice.pack_start(picture, False)
     choice.reorder(picture, 0)
-    show_pictures(choice, picture, lambda row: picture_of_design(row[1]))
+    choice.set_cell_data_func(picture, show_picture, lambda row: picture_of_design(row[1]))
 
 
 @cache
@@ -142,15 +148,9 @@ def picture_of_design(design: str) -> Any:
     """Returns a picture of a design; None where there is none."""
     if design in DRAWN:
         return drawn_label(*DRAWN[design])
-    folder, pictures = folders()
-    path = Path(design)
-    if path.parent != folder:
-        return None
-    name = path.stem.rpartition("-")[0]
-    with suppress(GLib.Error):
-        picture = GdkPixbuf.Pixbuf.new_from_file_at_scale(
-            str(pictures / f"design-{name}.png"), WIDE - 2, HIGH - 2, True
-        )
+    with suppress(GLib.Error, KeyError):
+        file = str(shipped()[design].picture)
+        picture = GdkPixbuf.Pixbuf.new_from_file_at_scale(file, WIDE - 2, HIGH - 2, True)
         return with_edge(picture)
     return None
 

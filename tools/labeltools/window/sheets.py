@@ -25,7 +25,7 @@ from labeltools.paper.stock import (
     Size,
     size_text,
 )
-from labeltools.window.gtk import Gdk, show_pictures
+from labeltools.window.gtk import Gdk
 from labeltools.window.memory import SHEETS
 
 SIDE = 40  # pixels of the longer side of a picture
@@ -53,35 +53,29 @@ class OwnSheet:
         return (A4[0] - self.columns * self.width) / 2, (A4[1] - self.rows * self.height) / 2
 
     @property
-    def margin(self) -> Size:
-        """Where the first label begins."""
-        left, top = self.middle
-        return left if self.left is None else self.left, top if self.top is None else self.top
-
-    @property
-    def gap(self) -> Size:
-        """What is between two labels, since a page has the same margin on both sides."""
-        size = self.width, self.height
-        counts = self.columns, self.rows
-        across, down = (
-            gap_of(A4[side], self.margin[side], counts[side], size[side]) for side in (0, 1)
-        )
-        return across, down
+    def grid(self) -> Grid:
+        """Its grid; a page has the same margin on both sides."""
+        cell, counts = (self.width, self.height), (self.columns, self.rows)
+        if self.left is None or self.top is None:
+            return Grid(A4, cell, *counts)
+        margin = self.left, self.top
+        across, down = map(gap_of, A4, margin, counts, cell)
+        return Grid(A4, cell, *counts, margin, (across, down))
 
     @property
     def sheet(self) -> Sheet:
         """The sheet; raises `ToolError` where its labels leave the page."""
-        size = self.width, self.height
-        return grid_sheet(Grid(A4, size, self.columns, self.rows, self.margin, self.gap))
+        return grid_sheet(self.grid)
 
     @property
     def options(self) -> dict[str, Any]:
         """The options of label-print for it."""
-        found: dict[str, Any] = {"grid": f"{self.columns}x{self.rows}"}
+        grid = self.grid
+        found: dict[str, Any] = {"grid": f"{grid.columns}x{grid.rows}"}
         found["cell"] = f"{self.width:g}x{self.height:g}"
-        if (self.left, self.top) != (None, None):
-            found["margin"] = "x".join(f"{round(side, 3):g}" for side in self.margin)
-            found["gap"] = "x".join(f"{round(side, 3):g}" for side in self.gap)
+        if grid.margin:
+            found["margin"] = "x".join(f"{round(side, 3):g}" for side in grid.margin)
+            found["gap"] = "x".join(f"{round(side, 3):g}" for side in grid.gap)
         return found
 
 
@@ -105,12 +99,6 @@ def own_sheet(name: str | None) -> OwnSheet | None:
         return OwnSheet(**kept)
     except TypeError:  # somebody has written something else there
         return None
-
-
-def complete(completion: Any, picture: Any) -> None:
-    """Lets a completion show all sheets that its list is filled with, each with its picture."""
-    completion.set_match_func(lambda *_: True)
-    show_pictures(completion, picture, lambda row: grid_of(sheet_named(row[0])))
 
 
 def fill_with_sheets(model: Any, typed: str) -> None:

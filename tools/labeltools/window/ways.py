@@ -8,7 +8,7 @@ from concurrent.futures import Future
 from dataclasses import replace
 from functools import partial
 from pathlib import Path
-from typing import Any, NamedTuple, TYPE_CHECKING
+from typing import NamedTuple, TYPE_CHECKING
 
 from labeltools.common.language import _
 from labeltools.common.messages import ToolError
@@ -58,7 +58,7 @@ class WaysOut:
         self.away: dict[SentJob, float] = {}  # since when CUPS does not answer about them
         self.sending: tuple[Prepared, bool]  # the labels that are sent, and whether they count
         self.wrong: set[int] = set()  # of these, by their lines: they would be drawn wrongly
-        self.of: tuple[Table, MadeLabels]  # what they are of
+        self.of: MadeLabels  # what they are of
         self.printing = Printing(window)
 
     def send_out(
@@ -67,18 +67,16 @@ class WaysOut:
         """Sends labels by a way, or the rest of those that were sent before, and keeps what is
         chosen for the next table like this. A trial does not count as printed.
         """
-        made = self.window.made
-        table = made.table
+        self.of = self.window.made
         chosen = self.window.choices()
-        table.keep_choices(chosen)
-        self.of = table, made
+        self.of.table.keep_choices(chosen)
         if not is_rest:
             self.sending = labels, counts
             self.wrong = set()
-        then = partial(self.on_sent, table, made, chosen.stock)
+        then = partial(self.on_sent, chosen.stock)
         self.window.work.begin_work(partial(way, labels), then, WindowTalk(is_sending=True))
 
-    def on_sent(self, table: Table, made: MadeLabels, stock: str, sent: Sent) -> None:
+    def on_sent(self, stock: str, sent: Sent) -> None:
         """Says which labels went out, on sheets of a name, and from then on what becomes of a job
         of CUPS. Keeps them, those of a job once it is printed.
         """
@@ -86,17 +84,19 @@ class WaysOut:
         labels, counts = self.sending
         self.wrong.update(wrong)
         right = labels.without(self.wrong)
+        table, records = self.of.table, self.of.records_of(right)
         if not counts:
             text = Text("{} It was a trial, so these labels do not count as printed.", text)
         elif job is None:
-            table.keep_printed(made, right)
+            table.keep_printed(records)
         else:
-            self.waiting[job] = table, table.keep_waiting(made, right, job)
+            self.waiting[job] = table, table.keep_waiting(records, len(right.prints), job)
             self.on_sheets[job] = labels, stock
             self.begin_at(stock, behind(labels))
-        self.window.events.report(kind, text, job)
+        self.window.events.report(Event(kind, whole_sentence(text), None, job))
         for error in wrong.values():
-            self.window.events.report(ERROR, error.problem.line, about=error)
+            said = whole_sentence(error.problem.line)
+            self.window.events.report(Event(ERROR, said, None, error))
         if job is not None:
             self.watch(job, len(right.prints))
 
@@ -107,9 +107,8 @@ class WaysOut:
             labels, counts = self.sending
             done = problem.done - labels.job.options.after
             if counts and done > 0:
-                table, made = self.of
-                taken = replace(labels, prints=labels.prints[:done])
-                table.keep_printed(made, taken.without(self.wrong))
+                taken = replace(labels, prints=labels.prints[:done]).without(self.wrong)
+                self.of.table.keep_printed(self.of.records_of(taken))
 
     def begin_at(self, stock: str, first: int) -> None:
         """Lets the next labels on sheets of a name begin at a label; 0 for those without a next."""
@@ -191,7 +190,7 @@ class WaysOut:
             GLib.timeout_add(WATCH, self.watch, job, count)
         if event is not None and self.told.get(job) != event.sentence:
             self.told[job] = event.sentence
-            self.window.events.show_event(event)
+            self.window.events.report(event)
 
     def show_away(self, job: SentJob, count: int, error: BaseException) -> None:
         """Shows that nobody says what became of a job, and looks again for a minute if CUPS does
@@ -210,13 +209,13 @@ class WaysOut:
             job.number,
         )
         hint = told.hint if is_given_up else Text("it is looked for again")
-        parts = sent, whole_sentence(told.what), whole_sentence(hint)
-        text = joined(" ", parts)
-        said = translated(text)
+        parts = sent, told.what, hint
+        said = " ".join(map(whole_sentence, parts))
         answer = (_("Was it printed?"), partial(self.ask_of_job, job, said))
         if self.told.get(job) != said:
             self.told[job] = said
-            self.window.events.report(WARNING, text, job, answer if is_given_up else None)
+            event = Event(WARNING, said, answer if is_given_up else None, job)
+            self.window.events.report(event)
         if not is_given_up:
             GLib.timeout_add(WATCH, self.watch, job, count)
 
@@ -244,9 +243,10 @@ class WaysOut:
             hint = Text("switch it on, or choose another printer")
             self.window.show_problem(ToolError(Text("{} is not found", printer.name), hint))
         elif printer.way == QUEUE:
-            key, talk = printer.key, WindowTalk(pressed=self.ask_and_print)
+            key = printer.key
+            self.window.pressed = self.ask_and_print
             work = self.window.work.begin_work
-            work(lambda _talk: queue_of(key), self.ask_queue, talk)
+            work(lambda _talk: queue_of(key), self.ask_queue, WindowTalk())
         else:
             self.ask_direct(printer)
 
@@ -254,7 +254,7 @@ class WaysOut:
         """Asks what is printed on a queue. If it has other dots than the labels, they are made for
         these, to be looked at.
         """
-        self.window.work.talk.pressed = None  # it is asked now
+        self.window.pressed = None  # it is asked now
         job = self.window.made.labels.job
         dpi = queue.dpi_for(not job.plan.sheet.is_single) or job.plan.dpi
         printer = self.window.of_printers.chosen
@@ -308,7 +308,7 @@ class WaysOut:
         if done - labels.job.options.after < len(labels.prints):
             self.send_rest(problem.printer, done)
         elif counts:
-            self.window.made.table.keep_printed(self.window.made, labels.without(self.wrong))
+            self.of.table.keep_printed(self.of.records_of(labels.without(self.wrong)))
 
     def send_rest(self, printer: str, done: int) -> None:
         """Sends the labels of a job to a printer that took some of them, behind these."""
@@ -324,14 +324,6 @@ class WaysOut:
         """Sends to a printer in the network or on USB what label-print sends."""
         name = self.window.of_printers.shown_name(printer)
         self.send_out(partial(direct_sent, printer, name), labels, counts, is_rest)
-
-
-def confirmed(dialog: Any) -> bool:
-    """Shows a dialog; returns whether it is confirmed, as by Enter."""
-    dialog.set_default_response(Gtk.ResponseType.OK)
-    answer = dialog.run()
-    dialog.hide()
-    return bool(answer == Gtk.ResponseType.OK)
 
 
 def behind(labels: Prepared) -> int:
