@@ -773,7 +773,7 @@ class Remedies(Keeper):
                 chosen = self.window.choices()
                 self.assertEqual(chosen.given_print or f"--edge {chosen.edge}", words)
                 self.assertIn("sent to", self.confirmed())
-                self.until(lambda: not self.window.ways.waiting)  # the next one is not told of it
+                self.until(lambda: not self.window.ways.jobs)  # the next one is not told of it
                 paper = ("--paper", f"60x{size}", "--dpi", "300")
                 edge = words.replace("--paper-as-given", "").split()  # a file has no paper
                 self.assertEqual(self.saved("a.pdf"), self.by_commands(*paper, *edge))
@@ -1378,16 +1378,16 @@ class WindowTest(Keeper):
                 self.answered("two")
                 self.rest()
                 self.assertEqual(self.window.made.labels.job.options.first, first)
-            earlier, later = self.window.ways.on_sheets
+            earlier, later = self.window.ways.jobs
             for job, first in ((earlier, 1), (later, 16)):
                 subprocess.run(["cancel", str(job.number)], check=True)
-                self.until(lambda: job not in self.window.ways.waiting)
+                self.until(lambda: job not in self.window.ways.jobs)
                 self.assertEqual(self.window.choices().first, first)
         self.answered("two")
-        (job,) = self.window.ways.on_sheets
+        (job,) = self.window.ways.jobs
         state = replace(JobState(Text("It is gone."), "", True), begun=1)
         future: Any = mock.Mock(exception=lambda: None, result=lambda: state)
-        self.window.ways.show_state(job, 6, future)
+        self.window.ways.show_state(job, future)
         self.rest()
         self.assertEqual(self.window.choices().first, 1)  # some may be on paper
 
@@ -2089,20 +2089,22 @@ class WindowTest(Keeper):
             self.until(lambda: "it is paused" in self.said())
             subprocess.run(["cancel", "-a", "paused"], check=True)
             self.until(lambda: "was cancelled" in self.said())
-        state = JobState(Text("The printer is not responding."), "", True)
-        future: Any = mock.Mock(exception=lambda: None, result=lambda: state)
-        self.window.ways.show_state(SentJob("any", 7), 6, future)
-        self.assertEqual(self.said(), "6 labels are not printed: The printer is not responding.")
-        begun = replace(state, begun=1)
-        future = mock.Mock(exception=lambda: None, result=lambda: begun)
-        self.window.ways.show_state(SentJob("any", 7), 6, future)
-        said = "Some of 6 labels may be on paper: The printer is not responding."
-        self.assertEqual(self.said(), said)
-        again = replace(state, begun=2, is_printed=True)  # CUPS was started again meanwhile
-        future = mock.Mock(exception=lambda: None, result=lambda: again)
-        self.window.ways.show_state(SentJob("any", 7), 6, future)
-        said = "any: CUPS has begun it twice: some labels may be there twice, look for them."
-        self.assertEqual(self.said(), said)
+        off = JobState(Text("The printer is not responding."), "", True)
+        begun = replace(off, begun=1)
+        again = replace(off, begun=2, is_printed=True)  # CUPS was started again meanwhile
+        twice = "CUPS has begun it twice: some labels may be there twice, look for them."
+        for before, state, said in (
+            (None, off, "6 labels are not printed: The printer is not responding."),
+            (None, begun, "Some of 6 labels may be on paper: The printer is not responding."),
+            (begun, again, f"any: {twice}"),
+        ):
+            job = SentJob("any", 7)
+            self.window.ways.jobs[job] = ways.Watched(6, state=before)
+            future: Any = mock.Mock(
+                **{"exception.return_value": None, "result.return_value": state}
+            )
+            self.window.ways.show_state(job, future)
+            self.assertEqual(self.said(), said)
 
     def test_cups_that_goes_away_is_waited_for(self) -> None:
         """For a minute; then the window says how the job is looked for, and asks of it."""
@@ -2111,13 +2113,14 @@ class WindowTest(Keeper):
         looks: list[SentJob] = []
         away: Any = mock.Mock(exception=lambda: ToolError(Text("CUPS does not answer")))
         sent = "6 labels were sent to any as job 7. CUPS does not answer any more: labels may be"
-        with mock.patch.object(self.window.ways, "watch", lambda job, _: looks.append(job)):
+        self.window.ways.jobs[job] = ways.Watched(6)
+        with mock.patch.object(self.window.ways, "watch", looks.append):
             with mock.patch.object(ways, "WATCH", BEAT):
-                self.window.ways.show_state(job, 6, away)
+                self.window.ways.show_state(job, away)
                 self.assertEqual(self.said(), f"{sent} on paper. It is looked for again.")
                 self.until(lambda: looks == [job])
                 with mock.patch.object(ways, "AWAY", 0.0):
-                    self.window.ways.show_state(job, 6, away)
+                    self.window.ways.show_state(job, away)
             shows = "Look there; once CUPS answers, lpstat -W all -o any shows the job."
             self.assertEqual(self.said(), f"{sent} on paper. {shows}")
             self.assertEqual(looks, [job])

@@ -5,7 +5,7 @@ label is compared before, as label-print does.
 import time
 from collections.abc import Callable, Mapping
 from concurrent.futures import Future
-from dataclasses import replace
+from dataclasses import dataclass, replace
 from functools import partial
 from pathlib import Path
 from typing import NamedTuple, TYPE_CHECKING
@@ -44,18 +44,29 @@ class Sent(NamedTuple):
     kind: str = INFO
 
 
+@dataclass
+class Watched:
+    """A job of CUPS that is not over: how many labels it has; if they count as printed then, the
+    table that they are of and the file of their lines; if they are of this window, the labels and
+    the name of their sheets; what was said of it last, what CUPS reported last, and since when CUPS
+    does not answer.
+    """
+
+    count: int
+    lines: tuple[Table, Path] | None = None
+    on_sheets: tuple[Prepared, str] | None = None
+    told: str = ""
+    state: JobState | None = None
+    away: float | None = None
+
+
 class WaysOut:
     """The ways out of a window."""
 
     def __init__(self, window: "Window") -> None:
         self.window = window
         self.widgets = window.widgets
-        self.waiting: dict[SentJob, tuple[Table, Path]] = {}  # jobs whose labels may be printed
-        # the labels of jobs of this window, and the names of their sheets
-        self.on_sheets: dict[SentJob, tuple[Prepared, str]] = {}
-        self.told: dict[SentJob, str] = {}  # what was said of each last
-        self.states: dict[SentJob, JobState] = {}  # what CUPS reported of each last
-        self.away: dict[SentJob, float] = {}  # since when CUPS does not answer about them
+        self.jobs: dict[SentJob, Watched] = {}
         self.sending: tuple[Prepared, bool]  # the labels that are sent, and whether they count
         self.wrong: set[int] = set()  # of these, by their lines: they would be drawn wrongly
         self.of: MadeLabels  # what they are of
@@ -85,20 +96,22 @@ class WaysOut:
         self.wrong.update(wrong)
         right = labels.without(self.wrong)
         table, records = self.of.table, self.of.records_of(right)
+        watched = Watched(len(right.prints))
         if not counts:
             text = Text("{} It was a trial, so these labels do not count as printed.", text)
         elif job is None:
             table.keep_printed(records)
         else:
-            self.waiting[job] = table, table.keep_waiting(records, len(right.prints), job)
-            self.on_sheets[job] = labels, stock
+            watched.lines = table, table.keep_waiting(records, watched.count, job)
+            watched.on_sheets = labels, stock
             self.begin_at(stock, behind(labels))
         self.window.events.report(Event(kind, whole_sentence(text), None, job))
         for error in wrong.values():
             said = whole_sentence(error.problem.line)
             self.window.events.report(Event(ERROR, said, None, error))
         if job is not None:
-            self.watch(job, len(right.prints))
+            self.jobs[job] = watched
+            self.watch(job)
 
     def keep_taken(self, problem: Exception) -> None:
         """Keeps the labels that a printer took before there was a problem, however it goes on."""
@@ -117,26 +130,20 @@ class WaysOut:
             self.window.owners.take_anew()
             self.window.keep_up()
 
-    def is_last_on_sheet(self, job: SentJob) -> bool:
-        """Returns whether no other labels on such sheets were sent behind those of a job."""
-        labels, stock = self.on_sheets[job]
-        return bool(PAPERS.get(sheet_key(stock), {}).get("first") == behind(labels))
-
-    def said_of_next(self, job: SentJob) -> str:
+    def said_of_next(self, labels: Prepared, stock: str) -> str:
         """Returns what is said of where the next labels begin, if such sheets are chosen."""
-        labels, stock = self.on_sheets[job]
         first, chosen = behind(labels), self.window.choices()
         is_chosen = chosen.sheet and sheet_key(chosen.stock) == sheet_key(stock)
-        if first < 2 or not is_chosen or not self.is_last_on_sheet(job):
+        if first < 2 or not is_chosen or not is_last_on_sheet(labels, stock):
             return ""
         return translated(Text("The next labels begin at label {} of the last sheet.", first))
 
     def look_back(self, table: Table) -> None:
         """Says what became of jobs of a table that were not over when a window was closed."""
         for job, (path, count) in table.waiting_jobs().items():
-            if job not in self.waiting:
-                self.waiting[job] = table, path
-                self.watch(job, count)
+            if job not in self.jobs:
+                self.jobs[job] = Watched(count, (table, path))
+                self.watch(job)
 
     def ask_of_job(self, job: SentJob, text: str) -> None:
         """Asks whether a job was printed."""
@@ -149,62 +156,61 @@ class WaysOut:
         """Counts the labels of a job as printed, or forgets them: then the next ones begin where
         these did.
         """
-        if job in self.waiting:
-            table, path = self.waiting.pop(job)
+        watched = self.jobs.pop(job)
+        if watched.lines:
+            table, path = watched.lines
             table.end_waiting(path, is_printed)
             if table is self.window.table:
                 self.window.offer_new(table)
-        if job in self.on_sheets:
-            is_last = self.is_last_on_sheet(job)
-            labels, stock = self.on_sheets.pop(job)
-            if is_last and not is_printed:
-                self.begin_at(stock, labels.job.options.first)
+        if watched.on_sheets and not is_printed and is_last_on_sheet(*watched.on_sheets):
+            labels, stock = watched.on_sheets
+            self.begin_at(stock, labels.job.options.first)
 
-    def watch(self, job: SentJob, count: int) -> None:
+    def watch(self, job: SentJob) -> None:
         """Looks at a job."""
         future = self.window.work.thread.submit(job.state)
-        future.add_done_callback(partial(GLib.idle_add, self.show_state, job, count))
+        future.add_done_callback(partial(GLib.idle_add, self.show_state, job))
 
-    def show_state(self, job: SentJob, count: int, future: "Future[JobState]") -> None:
-        """Shows what CUPS reports of a job of some labels if that is new, and looks again until it
-        is over.
-        """
+    def show_state(self, job: SentJob, future: "Future[JobState]") -> None:
+        """Shows what CUPS reports of a job if that is new, and looks again until it is over."""
         if not self.window.get_visible():
             return
-        name = self.window.of_printers.shown_name(job.queue)
-        error = future.exception()
+        watched, error = self.jobs[job], future.exception()
         if error is not None:
-            self.show_away(job, count, error)
+            self.show_away(job, error)
             return
-        self.away.pop(job, None)
+        watched.away = None
         state = future.result()
-        state = self.states[job] = state.after(self.states.get(job, state))
-        event = event_of(job, count, state, name)
-        if event is not None and state.is_printed and job in self.on_sheets:
-            event = replace(event, sentence=f"{event.sentence} {self.said_of_next(job)}".strip())
+        state = watched.state = state.after(watched.state or state)
+        name = self.window.of_printers.shown_name(job.queue)
+        event = event_of(job, watched.count, state, name)
+        if event is not None and state.is_printed and watched.on_sheets:
+            said = self.said_of_next(*watched.on_sheets)
+            event = replace(event, sentence=f"{event.sentence} {said}".strip())
         if state.is_over:
             if state.is_begun:
-                self.on_sheets.pop(job, None)  # some of its labels may be on paper
+                watched.on_sheets = None  # some of its labels may be on paper
             self.end_job(job, state.is_printed)
         else:
-            GLib.timeout_add(WATCH, self.watch, job, count)
-        if event is not None and self.told.get(job) != event.sentence:
-            self.told[job] = event.sentence
+            GLib.timeout_add(WATCH, self.watch, job)
+        if event is not None and watched.told != event.sentence:
+            watched.told = event.sentence
             self.window.events.report(event)
 
-    def show_away(self, job: SentJob, count: int, error: BaseException) -> None:
+    def show_away(self, job: SentJob, error: BaseException) -> None:
         """Shows that nobody says what became of a job, and looks again for a minute if CUPS does
         not answer; then how to see it, and asks whether it was printed.
         """
-        since = self.away.setdefault(job, time.monotonic())
+        watched = self.jobs[job]
+        watched.away = watched.away or time.monotonic()
         is_gone = isinstance(error, UnknownJob)
-        is_given_up = is_gone or time.monotonic() - since > AWAY
+        is_given_up = is_gone or time.monotonic() - watched.away > AWAY
         told = error if isinstance(error, UnknownJob) else job.unseen()
         name = self.window.of_printers.shown_name(job.queue)
         sent = counted(
             "{} label was sent to {} as job {}.",
             "{} labels were sent to {} as job {}.",
-            count,
+            watched.count,
             name,
             job.number,
         )
@@ -212,12 +218,12 @@ class WaysOut:
         parts = sent, told.what, hint
         said = " ".join(map(whole_sentence, parts))
         answer = (_("Was it printed?"), partial(self.ask_of_job, job, said))
-        if self.told.get(job) != said:
-            self.told[job] = said
+        if watched.told != said:
+            watched.told = said
             event = Event(WARNING, said, answer if is_given_up else None, job)
             self.window.events.report(event)
         if not is_given_up:
-            GLib.timeout_add(WATCH, self.watch, job, count)
+            GLib.timeout_add(WATCH, self.watch, job)
 
     def ask_file(self) -> None:
         """Asks for a file, and writes it."""
@@ -331,6 +337,11 @@ def behind(labels: Prepared) -> int:
     job = labels.job
     cells = len(job.plan.places)
     return (job.options.first - 1 + len(labels.prints)) % cells + 1 if cells > 1 else 0
+
+
+def is_last_on_sheet(labels: Prepared, stock: str) -> bool:
+    """Returns whether no labels on sheets of a name were sent behind others."""
+    return bool(PAPERS.get(sheet_key(stock), {}).get("first") == behind(labels))
 
 
 def sent_to(count: int, printer: str) -> Text:
