@@ -1661,7 +1661,7 @@ class WindowTest(Keeper):
 
     def test_says_what_is_left_out_and_what_there_is(self) -> None:
         self.open()
-        self.assertEqual(self.widgets.left_out.get_text(), "1 row is skipped: see why")
+        self.assertEqual(self.widgets.left_out.get_text(), "1 row skipped: see why")
         row, cell, why = self.rows()[0]
         self.assertEqual((row, cell), ("4", "4006381333932"))
         self.assertIn("a digit is wrong", why)

@@ -75,8 +75,13 @@ def summary_line(totals: Totals, space: str = " ") -> Text:
         is_same = least == most
         parts.append(Text("copies {}", least) if is_same else Text("copies {} to {}", least, most))
     if totals.left_out:
-        parts.append(counted("{} row skipped", "{} rows skipped", totals.left_out))
+        parts.append(skipped(totals.left_out))
     return joined("; ", parts)
+
+
+def skipped(count: int) -> Text:
+    """Returns how many rows are left out."""
+    return counted("{} row skipped", "{} rows skipped", count)
 
 
 def labels_from(labels: int, rows: int) -> Text:

@@ -26,6 +26,7 @@ PLACES = (
     (TOOLS / "designs", TOOLS / "designs"),
     (TOOLS.parent / "designs", TOOLS.parent / "docs/pictures"),
 )
+FOLDER, PICTURES = next((pair for pair in PLACES if pair[0].is_dir()), PLACES[0])
 NAMES = {
     "address": Text("for an address"),
     "jar": Text("for a jar"),
@@ -65,8 +66,8 @@ class Designs:
             ARTICLE.name: self.widgets.till,
             SHELF.name: self.widgets.shelf,
         }
-        for folder in filter(Path.is_dir, folders()[:1]):
-            self.widgets.design_opener.add_shortcut_folder(str(folder))
+        if FOLDER.is_dir():
+            self.widgets.design_opener.add_shortcut_folder(str(FOLDER))
         add_pictures(self.widgets.design)
         self.widgets.design.connect("changed", self.on_design)
         for name, button in self.looks.items():
@@ -107,28 +108,22 @@ class Designs:
         self.window.make()  # the file may have another drawing now
 
 
-def folders() -> tuple[Path, Path]:
-    """Returns the folders of the designs and of their pictures."""
-    return next((pair for pair in PLACES if pair[0].is_dir()), PLACES[0])
-
-
 @cache
 def shipped() -> Mapping[str, Shipped]:
     """Returns the designs that come with the tools, by their files, in whose names is the size."""
-    folder, pictures = folders()
     found = {}
-    for path in sorted(folder.glob("*.svg")):
+    for path in sorted(FOLDER.glob("*.svg")):
         name, _, size = path.stem.rpartition("-")
         wide, _, high = size.partition("x")
         shown = f"{translated(NAMES[name])}, {wide} × {high} mm"
-        picture = pictures / f"design-{name}.png"
+        picture = PICTURES / f"design-{name}.png"
         found[str(path)] = Shipped(shown, (float(wide), float(high)), picture)
     return found
 
 
 def without_folder(text: str) -> str:
     """Returns a text in which the designs that come with the tools are named without a folder."""
-    return text.replace(f"{folders()[0]}/", "")
+    return text.replace(f"{FOLDER}/", "")
 
 
 def add_pictures(choice: Any) -> None:

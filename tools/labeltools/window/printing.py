@@ -16,10 +16,10 @@ from labeltools.printing.press import Prepared
 from labeltools.printing.selection import ranges_in
 from labeltools.sending.printers import Printer
 from labeltools.sending.queue import MEDIA, TRAY
+from labeltools.tables.summary import skipped
 from labeltools.window.gtk import confirmed, do_soon, Gio, GLib, Gtk
 from labeltools.window.memory import PRINTERS
 from labeltools.window.rows import labels_of_rows, parts_in, Rows
-from labeltools.window.shop import skipped
 
 if TYPE_CHECKING:
     from labeltools.window.window import Window

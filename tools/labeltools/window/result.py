@@ -7,11 +7,12 @@ from typing import Any
 from labeltools.common.language import _
 from labeltools.common.text import Text, translated, whole_sentence
 from labeltools.printing.press import Prepared
+from labeltools.tables.summary import skipped
 from labeltools.window.designs import without_folder
 from labeltools.window.gtk import Answers, Gio, GLib, Gtk, show_answers
 from labeltools.window.preview import Preview
 from labeltools.window.questions import in_sentences
-from labeltools.window.shop import MadeLabels, skipped
+from labeltools.window.shop import MadeLabels
 
 MOST_NOTES = 2000
 MOST_HELPS = 3  # buttons above the notes

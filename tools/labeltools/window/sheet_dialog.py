@@ -6,7 +6,7 @@ from typing import Any, TYPE_CHECKING
 from labeltools.common.language import _
 from labeltools.common.messages import ToolError
 from labeltools.common.text import Text, translated
-from labeltools.paper.stock import Size
+from labeltools.paper.stock import grid_sheet, Size
 from labeltools.window.gtk import Answers, confirmed, Gtk
 from labeltools.window.memory import SHEETS
 from labeltools.window.questions import in_sentences
@@ -93,12 +93,12 @@ class SheetDialog:
 
     def show_sheet(self, _entry: Any = None) -> None:
         """Shows the sheet, and says how far its labels are apart, or why there is no such sheet."""
-        found = self.described()
+        grid = self.described().grid
         is_good = bool(self.widgets.sheet_name.get_text().strip())
         try:
-            sheet, gap = found.sheet, found.grid.gap
+            sheet = grid_sheet(grid)
             self.widgets.sheet_drawing.set_from_pixbuf(grid_of(sheet, HIGH))
-            text = Text("{} labels, {:.4g} and {:.4g} mm apart.", len(sheet.places), *gap)
+            text = Text("{} labels, {:.4g} and {:.4g} mm apart.", len(sheet.places), *grid.gap)
             said = translated(text)
         except ToolError as error:
             self.widgets.sheet_drawing.clear()

@@ -63,11 +63,6 @@ class OwnSheet:
         return Grid(A4, cell, *counts, margin, (across, down))
 
     @property
-    def sheet(self) -> Sheet:
-        """The sheet; raises `ToolError` where its labels leave the page."""
-        return grid_sheet(self.grid)
-
-    @property
     def options(self) -> dict[str, Any]:
         """The options of label-print for it."""
         grid = self.grid
@@ -128,7 +123,7 @@ def sheet_named(name: str) -> Sheet:
     none.
     """
     own = own_sheet(name)
-    return own.sheet if own else glabels_sheet(keys()[name])
+    return grid_sheet(own.grid) if own else glabels_sheet(keys()[name])
 
 
 def is_sheet(name: str) -> bool:

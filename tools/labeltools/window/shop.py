@@ -18,7 +18,7 @@ from labeltools.common.budget import TABLE
 from labeltools.common.messages import Cancelled, Origin, Problem, Remedy, Talk, ToolError
 from labeltools.common.process import read_input
 from labeltools.common.report import LeftOut
-from labeltools.common.text import counted, shell_line, Text
+from labeltools.common.text import shell_line, Text
 from labeltools.lines.file import first_remark, last_remark, read_lines, Record, record_lines
 from labeltools.lines.symbologies import CODE128
 from labeltools.printing.job import planned
@@ -361,11 +361,6 @@ def further_of(kept: Kept) -> Further:
     """Returns the further options by which a table was read."""
     found = values_kept(kept, READ_BY)
     return Further(found.get("for_table", ""), found.get("given_table", ""))
-
-
-def skipped(count: int) -> Text:
-    """Returns how many rows are skipped."""
-    return counted("{} row is skipped", "{} rows are skipped", count)
 
 
 def row_of_note(note: LeftOut) -> int:

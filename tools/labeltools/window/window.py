@@ -177,17 +177,16 @@ class Window(ApplicationWindow):
         sheets.fill_with_sheets(self.widgets.sheets, entry.get_text().lower())
         GLib.timeout_add(LISTED, show_first)
 
-    def show_problem(self, problem: ToolError, answers: Answers = ()) -> None:
+    def show_problem(self, problem: ToolError) -> None:
         """Says why something cannot be done, and what helps: one thing by a button beside it,
         several as a question, below the control that they are about, or in place of the page if
         the table is not read.
         """
-        remedies = [
-            remedy for remedy in problem.remedies if remedy.says and remedy.option != "after"
-        ]
-        found = [*self.remedies(problem.remedies), *self.ways_on(problem), *answers]
-        found += [*self.size_of_design(), *self.own_sheets.answers_to(problem)]
-        places = [ASKED_AT[remedy.option] for remedy in remedies if remedy.option in ASKED_AT]
+        remedies = self.remedies(problem.remedies)
+        found = [*remedies, *self.ways_on(problem), *self.size_of_design()]
+        found += self.own_sheets.answers_to(problem)
+        places = [ASKED_AT.get(remedy.option) for remedy in problem.remedies if remedy.says]
+        place = next(filter(None, places), None)
         if self.table is None and not remedies and self.before:
             self.go_back(self.before, problem)
             return
@@ -196,8 +195,8 @@ class Window(ApplicationWindow):
         if self.table is None and remedies:
             what, hint = map(whole_sentence, (problem.what, problem.hint))
             self.questions.ask_of_file(what, hint, found)
-        elif len(found) > 1 and places:
-            self.questions.below[places[0]].ask(in_sentences(problem.problem), found)
+        elif len(found) > 1 and place:
+            self.questions.below[place].ask(in_sentences(problem.problem), found)
         else:
             text = in_sentences(problem.problem)
             self.events.report(Event(ERROR, text, found[0] if found else None))
