@@ -72,18 +72,15 @@ class WaysOut:
         self.of: MadeLabels  # what they are of
         self.printing = Printing(window)
 
-    def send_out(
-        self, way: Way, labels: Prepared, counts: bool = True, is_rest: bool = False
-    ) -> None:
-        """Sends labels by a way, or the rest of those that were sent before, and keeps what is
-        chosen for the next table like this. A trial does not count as printed.
+    def send_out(self, way: Way, labels: Prepared, counts: bool = True) -> None:
+        """Sends labels by a way, and keeps what is chosen for the next table like this. A trial
+        does not count as printed.
         """
         self.of = self.window.made
         chosen = self.window.choices()
         self.of.table.keep_choices(chosen)
-        if not is_rest:
-            self.sending = labels, counts
-            self.wrong = set()
+        self.sending = labels, counts
+        self.wrong = set()
         then = partial(self.on_sent, chosen.stock)
         self.window.work.begin_work(partial(way, labels), then, WindowTalk(is_sending=True))
 
@@ -117,11 +114,14 @@ class WaysOut:
         """Keeps the labels that a printer took before there was a problem, however it goes on."""
         if isinstance(problem, Unfinished):
             self.wrong.update(problem.wrong)
-            labels, counts = self.sending
-            done = problem.done - labels.job.options.after
-            if counts and done > 0:
-                taken = replace(labels, prints=labels.prints[:done]).without(self.wrong)
-                self.of.table.keep_printed(self.of.records_of(taken))
+            self.keep_first(problem.done - self.sending[0].job.options.after)
+
+    def keep_first(self, count: int) -> None:
+        """Keeps the first ones of the labels that are sent: a printer has them."""
+        labels, counts = self.sending
+        if counts and count > 0:
+            taken = replace(labels, prints=labels.prints[:count]).without(self.wrong)
+            self.of.table.keep_printed(self.of.records_of(taken))
 
     def begin_at(self, stock: str, first: int) -> None:
         """Lets the next labels on sheets of a name begin at a label; 0 for those without a next."""
@@ -300,36 +300,28 @@ class WaysOut:
         """Sends the rest of the labels to a printer that took some of them. Whether the next one is
         on paper is asked where that is in doubt.
         """
-        done = problem.done
         labels, counts = self.sending
+        options = labels.job.options
+        done = problem.done - options.after
         if problem.is_doubtful:
-            label = labels.prints[done - labels.job.options.after].record
+            label = labels.prints[done].record
             text = _("Is label {number} on paper: {title} {price}?")
-            text = text.format(number=done + 1, title=label.title, price=label.price)
-            yes = _("Yes, go on with {number}").format(number=done + 2)
+            text = text.format(number=problem.done + 1, title=label.title, price=label.price)
+            yes = _("Yes, go on with {number}").format(number=problem.done + 2)
             is_there = self.window.asked_in_dialog(text, {True: yes, False: _("No, print it")})
             if is_there is None:
                 return
             done += is_there
-        if done - labels.job.options.after < len(labels.prints):
-            self.send_rest(problem.printer, done)
-        elif counts:
-            self.of.table.keep_printed(self.of.records_of(labels.without(self.wrong)))
+            self.keep_first(done)
+        if done < len(labels.prints):
+            job = replace(labels.job, options=replace(options, after=options.after + done))
+            rest = replace(labels, job=job, prints=labels.prints[done:])
+            self.send_to(problem.printer, rest, counts)
 
-    def send_rest(self, printer: str, done: int) -> None:
-        """Sends the labels of a job to a printer that took some of them, behind these."""
-        labels, counts = self.sending
-        job = labels.job
-        after = replace(job, options=replace(job.options, after=done))
-        prints = labels.prints[done - job.options.after :]
-        self.send_to(printer, replace(labels, job=after, prints=prints), counts, True)
-
-    def send_to(
-        self, printer: str, labels: Prepared, counts: bool = True, is_rest: bool = False
-    ) -> None:
+    def send_to(self, printer: str, labels: Prepared, counts: bool = True) -> None:
         """Sends to a printer in the network or on USB what label-print sends."""
         name = self.window.of_printers.shown_name(printer)
-        self.send_out(partial(direct_sent, printer, name), labels, counts, is_rest)
+        self.send_out(partial(direct_sent, printer, name), labels, counts)
 
 
 def behind(labels: Prepared) -> int:
