@@ -2128,7 +2128,7 @@ class WindowTest(Keeper):
     def test_the_window_speaks_the_language(self) -> None:
         """Its controls, and what it tells."""
         code = "import test_window; test_window.load(); shown = test_window.window.Window(); "
-        code += "test_window.work.Work.stop(shown.work); shown.on_stop(None); "
+        code += "shown.on_stop(None); "
         code += "(name,) = shown.widgets.price_as.list_mnemonic_labels(); "
         code += "print(shown.widgets.print_button.get_label(), name.get_text(), "
         code += "shown.widgets.bar_text.get_text()); "

@@ -14,7 +14,7 @@ from labeltools.common.text import Text, translated
 from labeltools.designs.svg_design import is_file
 from labeltools.layout.area import ARTICLE, SHELF
 from labeltools.paper.stock import Size
-from labeltools.window.gtk import Gdk, GdkPixbuf, GLib, Gtk, show_picture
+from labeltools.window.gtk import Gdk, GdkPixbuf, GLib, Gtk
 
 if TYPE_CHECKING:
     from labeltools.window.window import Window
@@ -130,12 +130,15 @@ def add_pictures(choice: Any) -> None:
     """Shows a picture of each design in a choice of them, and adds those that come with the
     tools.
     """
+    rows = choice.get_model()
     for path, design in shipped().items():
-        choice.insert(len(choice.get_model()) - 1, path, design.name)
+        choice.insert(len(rows) - 1, path, design.name)
+    for row in rows:
+        row[2] = picture_of_design(row[1])
     picture = Gtk.CellRendererPixbuf(width=WIDE + 8, xalign=0)
     choice.pack_start(picture, False)
     choice.reorder(picture, 0)
-    choice.set_cell_data_func(picture, show_picture, lambda row: picture_of_design(row[1]))
+    choice.add_attribute(picture, "pixbuf", 2)
 
 
 @cache

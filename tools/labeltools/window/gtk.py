@@ -58,7 +58,6 @@ __all__ = [
     "do_soon",
     "leave_wheel",
     "show_answers",
-    "show_picture",
     "show_rows",
     "widen",
     "widgets_within",
@@ -176,13 +175,6 @@ def widen(choice: Any, *columns: int) -> None:
         widths = (max((layout.get_pixel_size()[0] for layout in part), default=0) for part in drawn)
         beside = BESIDE + sum(max(0, cell.get_fixed_size()[0]) for cell in choice.get_cells())
         shown.set_size_request(min(sum(widths) + beside, WIDEST), -1)
-
-
-def show_picture(
-    _layout: Any, cell: Any, model: Any, row: Any, picture_of: Callable[[Any], Any]
-) -> None:
-    """Shows the picture of a row that is seen; None is none."""
-    cell.set_property("pixbuf", picture_of(model[row]))
 
 
 def show_rows(model: Any, rows: Sequence[tuple[str, ...]]) -> None:

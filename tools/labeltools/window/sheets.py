@@ -108,7 +108,8 @@ def fill_with_sheets(model: Any, typed: str) -> None:
         names += [line.partition(": ")[0] for line in list_stock(typed)]
     for name in sorted(dict.fromkeys(names), key=lambda name: not name.lower().startswith(typed)):
         with suppress(ToolError, KeyError):
-            model.append([name, described(name, sheet_named(name))])
+            sheet = sheet_named(name)
+            model.append([name, described(name, sheet), grid_of(sheet)])
 
 
 def described(name: str, sheet: Sheet) -> str:

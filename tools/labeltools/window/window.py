@@ -37,7 +37,6 @@ from labeltools.window.gtk import (
     GLib,
     GObject,
     Gtk,
-    show_picture,
     show_rows,
     widen,
     widgets_within,
@@ -149,11 +148,6 @@ class Window(ApplicationWindow):
                 self.names_width.add_widget(part)
         self.connect_after("key-press-event", self.on_key)
         self.widgets.completion.set_match_func(lambda *_: True)  # the list has what fits
-        self.widgets.completion.set_cell_data_func(
-            self.widgets.sheet_picture,
-            show_picture,
-            lambda row: sheets.grid_of(sheets.sheet_named(row[0])),
-        )
         self.drag_dest_set(Gtk.DestDefaults.ALL, [], Gdk.DragAction.COPY)
         self.drag_dest_add_uri_targets()
 
@@ -259,8 +253,13 @@ class Window(ApplicationWindow):
         self.of_printers.thread.shutdown(wait=False)
 
     def on_stop(self, _button: Any) -> None:
-        """Ends work; where a table was being read, another one can be opened."""
-        if self.work.stop():
+        """Ends work at the next label; of labels that are sent it is said later what came of them.
+        Where a table was being read, another one can be opened.
+        """
+        self.work.talk.stop()
+        if not self.work.talk.is_sending:
+            self.work.leave()
+            self.let_out()
             if self.table is None:
                 self.path = None
                 self.widgets.head.set_subtitle("")
@@ -318,11 +317,9 @@ class Window(ApplicationWindow):
         for number, (name, example) in enumerate(zip(guess.names, guess.examples), 1):
             name = name or _("column {number}").format(number=number)
             self.widgets.columns.append([with_example(name, example), str(number)])
-        columns = {field_of(kind): str(place + 1) for kind, place in table.guess.columns.items()}
+        columns = {field_of(kind): str(place + 1) for kind, place in guess.columns.items()}
         self.take_values(**{**dict.fromkeys(COLUMNS, ""), "code": "1", **columns})
-        self.take_values(
-            **dict.fromkeys(map(field_of, table.guess.doubts))
-        )  # only the keeper knows
+        self.take_values(**dict.fromkeys(map(field_of, guess.doubts)))  # only the keeper knows
         again = self.again.chosen if self.again and guess.names == self.again.guess.names else None
         if again:  # it keeps what is chosen
             own = values_kept(kept_of(again), OF_TABLE)

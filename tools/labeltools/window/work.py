@@ -86,16 +86,6 @@ class Work:
         self.window.pressed = None
         self.widgets.working.hide()
 
-    def stop(self) -> bool:
-        """Ends work at the next label; returns whether that is its end, which is not so of labels
-        that are sent.
-        """
-        self.talk.stop()
-        if not self.talk.is_sending:
-            self.leave()
-            self.window.let_out()
-        return not self.talk.is_sending
-
     def show_progress(self, talk: WindowTalk) -> bool:
         """Shows how far work is; returns whether it goes on."""
         if talk is not self.talk:
