@@ -234,7 +234,7 @@ def show_cut_texts(path: Path) -> None:
     shown.take_values(given_table=given, given_print="--edge 1 --paper-as-given")
     for name in questions.BELOW:
         answers = [("Preis A  –  19,57", bool)] * 2
-        shown.questions.below(name).ask(translated(questions.WHICH["copies"]), answers)
+        shown.questions.below[name].ask(translated(questions.WHICH["copies"]), answers)
     draw(shown)
     print([*cut_texts(shown.get_child())])
     long = Text(
@@ -364,7 +364,7 @@ class Keeper(unittest.TestCase):
         """What the window asks, or says that it cannot do."""
         if self.widgets.stack.get_visible_child_name() == "asking":
             return f"{self.widgets.asked.get_text()}\n{self.widgets.asked_more.get_text()}"
-        asked = [self.window.questions.below(name) for name in questions.BELOW]
+        asked = [self.window.questions.below[name] for name in questions.BELOW]
         if texts := [box.text.get_text() for box in asked if box.get_visible()]:
             return texts[0]
         event = self.window.events.event
@@ -387,7 +387,7 @@ class Keeper(unittest.TestCase):
 
     def answers(self) -> Any:
         """The buttons that help."""
-        asked = [self.window.questions.below(name) for name in questions.BELOW]
+        asked = [self.window.questions.below[name] for name in questions.BELOW]
         boxes = [box.answers for box in asked if box.get_visible()] + [*self.widgets.helps]
         if self.widgets.stack.get_visible_child_name() == "asking":
             boxes = [self.widgets.answers]
@@ -773,7 +773,7 @@ class Remedies(Keeper):
                 chosen = self.window.choices()
                 self.assertEqual(chosen.given_print or f"--edge {chosen.edge}", words)
                 self.assertIn("sent to", self.confirmed())
-                self.until(lambda: not self.window.ways.waiting)  # the next one is not told of it
+                self.until(lambda: not self.window.ways.jobs)  # the next one is not told of it
                 paper = ("--paper", f"60x{size}", "--dpi", "300")
                 edge = words.replace("--paper-as-given", "").split()  # a file has no paper
                 self.assertEqual(self.saved("a.pdf"), self.by_commands(*paper, *edge))
@@ -1378,16 +1378,16 @@ class WindowTest(Keeper):
                 self.answered("two")
                 self.rest()
                 self.assertEqual(self.window.made.labels.job.options.first, first)
-            earlier, later = self.window.ways.on_sheets
+            earlier, later = self.window.ways.jobs
             for job, first in ((earlier, 1), (later, 16)):
                 subprocess.run(["cancel", str(job.number)], check=True)
-                self.until(lambda: job not in self.window.ways.waiting)
+                self.until(lambda: job not in self.window.ways.jobs)
                 self.assertEqual(self.window.choices().first, first)
         self.answered("two")
-        (job,) = self.window.ways.on_sheets
+        (job,) = self.window.ways.jobs
         state = replace(JobState(Text("It is gone."), "", True), begun=1)
         future: Any = mock.Mock(exception=lambda: None, result=lambda: state)
-        self.window.ways.show_state(job, 6, future)
+        self.window.ways.show_state(job, future)
         self.rest()
         self.assertEqual(self.window.choices().first, 1)  # some may be on paper
 
@@ -1618,7 +1618,7 @@ class WindowTest(Keeper):
                 return not answers
 
             GLib.timeout_add(10 * BEAT, press)
-            answers.append(ways.confirmed(box))
+            answers.append(gtk.confirmed(box))
             self.assertEqual(answers, [True])
 
     def test_the_printer_decides_what_it_is_sent(self) -> None:
@@ -1661,12 +1661,15 @@ class WindowTest(Keeper):
 
     def test_says_what_is_left_out_and_what_there_is(self) -> None:
         self.open()
-        self.assertEqual(self.widgets.left_out.get_text(), "1 row is skipped: see why")
+        self.assertEqual(self.widgets.left_out.get_text(), "1 row skipped: see why")
         row, cell, why = self.rows()[0]
         self.assertEqual((row, cell), ("4", "4006381333932"))
         self.assertIn("a digit is wrong", why)
         said = self.counted().replace("\u00a0", " ")
-        self.assertEqual(said, "6 labels from 3 rows, with prices from 0,80 € to 2,95 €.")
+        self.assertEqual(
+            said,
+            "6 labels from 3 rows: 1 EAN-13, 1 UPC-A, 1 EAN-8; prices 0,80 € to 2,95 €; copies 1 to 3.",
+        )
         self.open(NOT_YET.format("36000291452"))
         said = "36000291452 has 11 digits, EAN-8 has 8, UPC-A has 12, EAN-13 has 13."
         self.assertEqual(self.rows()[0][2], f"{said}\nAre leading zeros lost?")
@@ -1895,7 +1898,7 @@ class WindowTest(Keeper):
         self.assertEqual(self.problem(), "Which column has the price?")
         self.assertFalse(self.window.lookup_action("save").get_enabled())
         self.change(price="4")
-        self.assertIn("with the price 0,80.", self.counted())
+        self.assertIn("; price 0,80;", self.counted())
         for prices in ("0,80;1,20", "1,20;0,80"):
             self.window.has_labels = False
             self.open(f"96385074;Gum, red;{prices}\n")
@@ -2086,20 +2089,22 @@ class WindowTest(Keeper):
             self.until(lambda: "it is paused" in self.said())
             subprocess.run(["cancel", "-a", "paused"], check=True)
             self.until(lambda: "was cancelled" in self.said())
-        state = JobState(Text("The printer is not responding."), "", True)
-        future: Any = mock.Mock(exception=lambda: None, result=lambda: state)
-        self.window.ways.show_state(SentJob("any", 7), 6, future)
-        self.assertEqual(self.said(), "6 labels are not printed: The printer is not responding.")
-        begun = replace(state, begun=1)
-        future = mock.Mock(exception=lambda: None, result=lambda: begun)
-        self.window.ways.show_state(SentJob("any", 7), 6, future)
-        said = "Some of 6 labels may be on paper: The printer is not responding."
-        self.assertEqual(self.said(), said)
-        again = replace(state, begun=2, is_printed=True)  # CUPS was started again meanwhile
-        future = mock.Mock(exception=lambda: None, result=lambda: again)
-        self.window.ways.show_state(SentJob("any", 7), 6, future)
-        said = "any: CUPS has begun it twice: some labels may be there twice, look for them."
-        self.assertEqual(self.said(), said)
+        off = JobState(Text("The printer is not responding."), "", True)
+        begun = replace(off, begun=1)
+        again = replace(off, begun=2, is_printed=True)  # CUPS was started again meanwhile
+        twice = "CUPS has begun it twice: some labels may be there twice, look for them."
+        for before, state, said in (
+            (None, off, "6 labels are not printed: The printer is not responding."),
+            (None, begun, "Some of 6 labels may be on paper: The printer is not responding."),
+            (begun, again, f"any: {twice}"),
+        ):
+            job = SentJob("any", 7)
+            self.window.ways.jobs[job] = ways.Watched(6, state=before)
+            future: Any = mock.Mock(
+                **{"exception.return_value": None, "result.return_value": state}
+            )
+            self.window.ways.show_state(job, future)
+            self.assertEqual(self.said(), said)
 
     def test_cups_that_goes_away_is_waited_for(self) -> None:
         """For a minute; then the window says how the job is looked for, and asks of it."""
@@ -2108,13 +2113,14 @@ class WindowTest(Keeper):
         looks: list[SentJob] = []
         away: Any = mock.Mock(exception=lambda: ToolError(Text("CUPS does not answer")))
         sent = "6 labels were sent to any as job 7. CUPS does not answer any more: labels may be"
-        with mock.patch.object(self.window.ways, "watch", lambda job, _: looks.append(job)):
+        self.window.ways.jobs[job] = ways.Watched(6)
+        with mock.patch.object(self.window.ways, "watch", looks.append):
             with mock.patch.object(ways, "WATCH", BEAT):
-                self.window.ways.show_state(job, 6, away)
+                self.window.ways.show_state(job, away)
                 self.assertEqual(self.said(), f"{sent} on paper. It is looked for again.")
                 self.until(lambda: looks == [job])
                 with mock.patch.object(ways, "AWAY", 0.0):
-                    self.window.ways.show_state(job, 6, away)
+                    self.window.ways.show_state(job, away)
             shows = "Look there; once CUPS answers, lpstat -W all -o any shows the job."
             self.assertEqual(self.said(), f"{sent} on paper. {shows}")
             self.assertEqual(looks, [job])
@@ -2122,7 +2128,7 @@ class WindowTest(Keeper):
     def test_the_window_speaks_the_language(self) -> None:
         """Its controls, and what it tells."""
         code = "import test_window; test_window.load(); shown = test_window.window.Window(); "
-        code += "test_window.work.Work.stop(shown.work); shown.on_stop(None); "
+        code += "shown.on_stop(None); "
         code += "(name,) = shown.widgets.price_as.list_mnemonic_labels(); "
         code += "print(shown.widgets.print_button.get_label(), name.get_text(), "
         code += "shown.widgets.bar_text.get_text()); "
@@ -2250,7 +2256,7 @@ class WindowTest(Keeper):
     def test_prices_of_a_spreadsheet_get_a_currency(self) -> None:
         """It is reported that they have none, and chosen from what the column has."""
         self.open(TABLE.replace(" €", ""))
-        self.assertIn("3 prices have no currency.", self.counted())
+        self.assertIn("3 prices without a currency", self.counted())
         shown = [row[0] for row in self.widgets.price_as.get_model()]
         self.assertEqual(shown[:3], ["as in the table  –  0,80", "0,80 €", "€0.80"])
         self.change(price_as="€0.00")
@@ -2342,7 +2348,7 @@ class WindowTest(Keeper):
         guessed = {"currency", "title", "variants-of"}
         options = test_german.remedies(True) | guessed
         options -= {*choices.CHOSEN, "after"}
-        self.assertEqual(options - {*further.SAID}, set())
+        self.assertEqual(options - {*further.SAID, "encoding"}, set())
         self.assertGreater(len(options), 10)
 
     def test_what_is_between_cells_is_asked_for_if_it_may_be_data(self) -> None:
@@ -2392,13 +2398,13 @@ class WindowTest(Keeper):
         """The last twenty; what is good does not take the place of what went wrong with another."""
         self.open()
         for number in range(25):
-            self.window.events.show_event(bar.Event("info", str(number), about=number))
-        self.window.events.show_event(bar.Event("error", "broke off", about=1))
-        self.window.events.show_event(bar.Event("success", "printed", about=2))
+            self.window.events.report(bar.Event("info", str(number), about=number))
+        self.window.events.report(bar.Event("error", "broke off", about=1))
+        self.window.events.report(bar.Event("success", "printed", about=2))
         self.assertEqual(self.said(), "broke off")
         self.assertEqual(self.happened()[:3], ["printed", "broke off", "24"])
         self.assertEqual(len(self.happened()), 20)
-        self.window.events.show_event(bar.Event("success", "printed after all", about=1))
+        self.window.events.report(bar.Event("success", "printed after all", about=1))
         self.assertEqual(self.said(), "printed after all")
         found = gtk.widgets_within(self.widgets.bar)
         buttons = [button for button in found if isinstance(button, Gtk.Button)]
@@ -2433,7 +2439,7 @@ class WindowTest(Keeper):
         self.window.resize(800, 500)
         draw(self.window)
         answers = [("Labels", bool), ("Receipts", bool)]
-        self.window.questions.below("printer").ask("What?", answers)
+        self.window.questions.below["printer"].ask("What?", answers)
         draw(self.window)
         scroll = self.widgets.panel.get_ancestor(Gtk.ScrolledWindow).get_vadjustment()
         area = self.widgets.ask_printer.get_allocation()
@@ -2482,7 +2488,7 @@ class WindowTest(Keeper):
         code += "shown.widgets.stack.set_visible_child_name('work'); shown.present(); "
         code += "t.draw(shown); answers = [('VK – 19,57', bool)] * 2; "
         code += "text = t.translated(t.questions.WHICH['price']); "
-        code += "shown.questions.below('price').ask(text, answers); "
+        code += "shown.questions.below['price'].ask(text, answers); "
         code += "t.draw(shown); print(shown.widgets.panel.get_preferred_height()[1], end=' '); "
         code += "print(shown.widgets.panel.get_preferred_width()[1])"
         for language in ("en", "de", "fr"):
@@ -2680,7 +2686,8 @@ class WindowTest(Keeper):
         self.window.lookup_action("type").activate(None)
         self.until(lambda: self.window.has_labels)
         self.assertEqual(
-            self.counted().replace("\u00a0", " "), "3 labels from 1 row, with the price 0,80 €."
+            self.counted().replace("\u00a0", " "),
+            "3 labels from 1 row: 1 EAN-13; price 0,80 €; copies 3.",
         )
         self.assertEqual(self.records()[0].title, "Pencil; red")
 
@@ -2758,7 +2765,7 @@ class WindowTest(Keeper):
         draw(self.window)
         before = self.window.choices()
         for name in ("title", "design", "first"):
-            control = self.window.control(name)
+            control = self.window.controls[name]
             event = Gdk.Event.new(Gdk.EventType.SCROLL)
             event.window = control.get_window()
             event.direction = Gdk.ScrollDirection.DOWN
@@ -2812,7 +2819,7 @@ class WindowTest(Keeper):
         self.open(path=later)
         self.until(lambda: self.window.has_labels)
         self.assertEqual(self.window.choices().for_table, "--where Name=Soap")
-        self.assertIn("2 labels from 1 row, ", self.counted())
+        self.assertIn("2 labels from 1 row: ", self.counted())
 
     def test_a_file_that_is_no_table_is_said(self) -> None:
         for name, data in (
@@ -2953,7 +2960,8 @@ class WindowTest(Keeper):
             str(value) for value in vars(self.window.choices()).values() if value not in ("", None)
         }
         self.assertEqual([name for name in aloud if name in ids], [])  # nobody should hear these
-        self.window.result.offer([("Prices may be any text, however long it is", bool)] * 3)
+        answers = [("Prices may be any text, however long it is", bool)] * 3
+        gtk.show_answers(self.widgets.helps, answers, self.widgets.fold)
         self.widgets.fold.set_expanded(True)
         draw(self.window)
         width, _ = self.window.get_preferred_width()

@@ -260,7 +260,7 @@ def show_questions(camera: Camera) -> None:
     window.widgets.fold.set_expanded(True)
     camera.shot("many-errors")
     camera.open(shop_table())
-    window.table.keep_printed(window.made, window.made.labels)
+    window.table.keep_printed(window.made.records_of(window.made.labels))
     camera.open(shop_table().replace("Soap", "Soap, blue"))
     window.widgets.new_only.set_active(True)
     camera.until(lambda: window.has_labels)
@@ -321,7 +321,7 @@ def show_events(camera: Camera) -> None:
         ("given-up", JobState(Text("the printer gave up job {}", 12), "", True)),
     ):
         window.events.hide()
-        window.events.show_event(event_of(job, 49, state, "HP LaserJet 400"))
+        window.events.report(event_of(job, 49, state, "HP LaserJet 400"))
         camera.shot(name)
     zebra = camera.zebra
     window.of_printers.choose(zebra.name)

@@ -47,8 +47,9 @@ class Totals:
             self.highest = (value, text)
 
 
-def summary_line(totals: Totals) -> Text:
-    """Returns the summary, on one line.
+def summary_line(totals: Totals, space: str = " ") -> Text:
+    """Returns the summary, on one line; prices have this space, so that a window, which wraps the
+    line, cuts none of them.
 
     >>> totals = Totals(left_out=1)
     >>> totals.count_row("ean13", 1)
@@ -63,34 +64,24 @@ def summary_line(totals: Totals) -> Text:
     counts = ", ".join(f"{count} {SYMBOLOGIES[name].title}" for name, count in found)
     parts: list[Text] = [Text("{}: {}", labels_from(totals.labels, rows), counts or Text("none"))]
     if totals.lowest and totals.highest:
-        parts.append(said_of_prices(totals.lowest[1], totals.highest[1], totals.prices, rows))
+        ends = totals.lowest[1], totals.highest[1]
+        lowest, highest = (price.replace(" ", space) for price in ends)
+        parts.append(said_of_prices(lowest, highest, totals.prices, rows))
     if totals.bare:
         bare = counted("{} price without a currency", "{} prices without a currency", totals.bare)
         parts.append(bare)
     if totals.copies - {1}:
-        parts.append(Text("copies {} to {}", min(totals.copies), max(totals.copies)))
+        least, most = min(totals.copies), max(totals.copies)
+        is_same = least == most
+        parts.append(Text("copies {}", least) if is_same else Text("copies {} to {}", least, most))
     if totals.left_out:
-        parts.append(counted("{} row skipped", "{} rows skipped", totals.left_out))
+        parts.append(skipped(totals.left_out))
     return joined("; ", parts)
 
 
-def sentences(totals: Totals) -> Text:
-    """Returns what a window says in place of the summary: it lists beside it what is left out.
-
-    >>> totals = Totals(bare=2, lowest=(Decimal("0.8"), "0,80"), highest=(Decimal(12), "12,00"))
-    >>> totals.count_row("ean13", 4)
-    >>> sentences(totals)
-    '4 labels from 1 row, with prices from 0,80 to 12,00. 2 prices have no currency.'
-    """
-    text = labels_from(totals.labels, totals.rows)
-    if totals.lowest and totals.highest:
-        ends = totals.lowest[1], totals.highest[1]
-        lowest, highest = (price.replace(" ", NO_BREAK) for price in ends)
-        is_one = lowest == highest
-        prices = Text("{}, with prices from {} to {}", text, lowest, highest)
-        text = Text("{}, with the price {}", text, lowest) if is_one else prices
-    bare = counted("{} price has no currency.", "{} prices have no currency.", totals.bare)
-    return joined(" ", [Text("{}.", text), bare] if totals.bare else [Text("{}.", text)])
+def skipped(count: int) -> Text:
+    """Returns how many rows are left out."""
+    return counted("{} row skipped", "{} rows skipped", count)
 
 
 def labels_from(labels: int, rows: int) -> Text:

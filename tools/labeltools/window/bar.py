@@ -1,14 +1,12 @@
 """What happened: one bar with the newest event, and a list of those before it behind a clock."""
 
 import time
-from collections.abc import Callable
 from dataclasses import dataclass, replace
 from typing import TYPE_CHECKING
 
 from labeltools.common.language import _
-from labeltools.common.text import Text, whole_sentence
 from labeltools.window.designs import without_folder
-from labeltools.window.gtk import do_soon, Gtk, widgets_within
+from labeltools.window.gtk import Answer, do_soon, Gtk, widgets_within
 
 if TYPE_CHECKING:
     from labeltools.window.window import Window
@@ -23,7 +21,6 @@ KINDS = {
     INFO: (Gtk.MessageType.INFO, "dialog-information-symbolic"),
 }
 BAD = (ERROR, WARNING)
-Answer = tuple[str, Callable[[], object]]  # what a button shows, and does
 
 
 @dataclass(frozen=True)
@@ -51,14 +48,8 @@ class Bar:
                 part.get_accessible().set_name(_("Close"))
         window.widgets.bar_act.connect("clicked", lambda _button: self.act())
 
-    def report(
-        self, kind: str, text: Text, about: object = None, answer: Answer | None = None
-    ) -> None:
-        """Says what happened."""
-        self.show_event(Event(kind, whole_sentence(text), answer, about))
-
-    def show_event(self, event: Event) -> None:
-        """Shows an event. One that is bad stays until it is closed or work begins: what is good
+    def report(self, event: Event) -> None:
+        """Says what happened. What is bad stays until it is closed or work begins: what is good
         about something else is only listed.
         """
         named = self.window.of_printers.with_printer_names(without_folder(event.sentence))

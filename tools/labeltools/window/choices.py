@@ -3,14 +3,14 @@ that are shown, and as it is kept for the next time.
 """
 
 from collections.abc import Iterable, Mapping
-from dataclasses import dataclass, fields
+from dataclasses import dataclass, fields, replace
 from typing import Any
 
 from labeltools.commands import label_table as table_command
 from labeltools.common.arguments import words_of
 from labeltools.common.messages import Remedy
 from labeltools.tables.codes import AUTO
-from labeltools.window.further import Further, typed_with, typed_without
+from labeltools.window.further import Further, typed_with
 from labeltools.window.sheets import own_sheet
 
 COLUMNS = ("code", "title", "text", "text_2", "price", "unit_price", "old_price", "copies")
@@ -131,7 +131,8 @@ def values_with(choices: Choices, remedy: Remedy) -> dict[str, Any]:
     option, value = remedy.option, remedy.value
     typed = "for_table" if is_of_table(remedy) else "for_print"
     given = FURTHER[typed]
-    without = {name: typed_without(getattr(choices, name), remedy) for name in (typed, given)}
+    less = replace(remedy, is_less=True)
+    without = {name: typed_with(getattr(choices, name), less) for name in (typed, given)}
     if option not in CHOSEN:
         return {**without, given: typed_with(without[given], remedy)}
     value = UNCHOSEN.get(option, "") if remedy.is_less else value

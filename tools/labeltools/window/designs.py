@@ -2,11 +2,11 @@
 the tools, as files that a keeper may also change.
 """
 
-from collections.abc import Iterator, Mapping
+from collections.abc import Mapping
 from contextlib import suppress
 from functools import cache
 from pathlib import Path
-from typing import Any, TYPE_CHECKING
+from typing import Any, NamedTuple, TYPE_CHECKING
 
 import cairo
 
@@ -14,7 +14,7 @@ from labeltools.common.text import Text, translated
 from labeltools.designs.svg_design import is_file
 from labeltools.layout.area import ARTICLE, SHELF
 from labeltools.paper.stock import Size
-from labeltools.window.gtk import Gdk, GdkPixbuf, GLib, Gtk, show_pictures
+from labeltools.window.gtk import Gdk, GdkPixbuf, GLib, Gtk
 
 if TYPE_CHECKING:
     from labeltools.window.window import Window
@@ -26,6 +26,7 @@ PLACES = (
     (TOOLS / "designs", TOOLS / "designs"),
     (TOOLS.parent / "designs", TOOLS.parent / "docs/pictures"),
 )
+FOLDER, PICTURES = next((pair for pair in PLACES if pair[0].is_dir()), PLACES[0])
 NAMES = {
     "address": Text("for an address"),
     "jar": Text("for a jar"),
@@ -43,6 +44,16 @@ BARS = (0, 2, 3, 6, 8, 11, 12, 15, 17, 18, 21)  # where the bars of a drawn code
 DRAWN = {ARTICLE.name: (11, (34, 26), (5, 15, 18)), SHELF.name: (19, (16, 27), (5, 31, 5))}
 
 
+class Shipped(NamedTuple):
+    """A design that comes with the tools: its name in the list, the size of the label for which it
+    is drawn, in millimetres, and the file of its picture.
+    """
+
+    name: str
+    size: Size
+    picture: Path
+
+
 class Designs:
     """The designs of a window: a list, and two of them in sight."""
 
@@ -55,8 +66,8 @@ class Designs:
             ARTICLE.name: self.widgets.till,
             SHELF.name: self.widgets.shelf,
         }
-        for folder in filter(Path.is_dir, folders()[:1]):
-            self.widgets.design_opener.add_shortcut_folder(str(folder))
+        if FOLDER.is_dir():
+            self.widgets.design_opener.add_shortcut_folder(str(FOLDER))
         add_pictures(self.widgets.design)
         self.widgets.design.connect("changed", self.on_design)
         for name, button in self.looks.items():
@@ -97,44 +108,37 @@ class Designs:
         self.window.make()  # the file may have another drawing now
 
 
-def folders() -> tuple[Path, Path]:
-    """Returns the folders of the designs and of their pictures."""
-    return next((pair for pair in PLACES if pair[0].is_dir()), PLACES[0])
-
-
-def shipped() -> Iterator[tuple[str, str]]:
-    """Yields the files of the designs that come with the tools, with the names of the list, which
-    have the size of a label.
-    """
-    for path in sorted(folders()[0].glob("*.svg")):
+@cache
+def shipped() -> Mapping[str, Shipped]:
+    """Returns the designs that come with the tools, by their files, in whose names is the size."""
+    found = {}
+    for path in sorted(FOLDER.glob("*.svg")):
         name, _, size = path.stem.rpartition("-")
-        sides = " × ".join(size.split("x"))
-        yield str(path), f"{translated(NAMES[name])}, {sides} mm"
+        wide, _, high = size.partition("x")
+        shown = f"{translated(NAMES[name])}, {wide} × {high} mm"
+        picture = PICTURES / f"design-{name}.png"
+        found[str(path)] = Shipped(shown, (float(wide), float(high)), picture)
+    return found
 
 
 def without_folder(text: str) -> str:
     """Returns a text in which the designs that come with the tools are named without a folder."""
-    return text.replace(f"{folders()[0]}/", "")
-
-
-def size_of(design: str) -> Size | None:
-    """Returns the size for which a design is drawn that comes with the tools, in millimetres."""
-    if Path(design).parent != folders()[0]:
-        return None
-    wide, _, high = Path(design).stem.rpartition("-")[2].partition("x")
-    return float(wide), float(high)
+    return text.replace(f"{FOLDER}/", "")
 
 
 def add_pictures(choice: Any) -> None:
     """Shows a picture of each design in a choice of them, and adds those that come with the
     tools.
     """
-    for path, name in shipped():
-        choice.insert(len(choice.get_model()) - 1, path, name)
+    rows = choice.get_model()
+    for path, design in shipped().items():
+        choice.insert(len(rows) - 1, path, design.name)
+    for row in rows:
+        row[2] = picture_of_design(row[1])
     picture = Gtk.CellRendererPixbuf(width=WIDE + 8, xalign=0)
     choice.pack_start(picture, False)
     choice.reorder(picture, 0)
-    show_pictures(choice, picture, lambda row: picture_of_design(row[1]))
+    choice.add_attribute(picture, "pixbuf", 2)
 
 
 @cache
@@ -142,15 +146,9 @@ def picture_of_design(design: str) -> Any:
     """Returns a picture of a design; None where there is none."""
     if design in DRAWN:
         return drawn_label(*DRAWN[design])
-    folder, pictures = folders()
-    path = Path(design)
-    if path.parent != folder:
-        return None
-    name = path.stem.rpartition("-")[0]
-    with suppress(GLib.Error):
-        picture = GdkPixbuf.Pixbuf.new_from_file_at_scale(
-            str(pictures / f"design-{name}.png"), WIDE - 2, HIGH - 2, True
-        )
+    with suppress(GLib.Error, KeyError):
+        file = str(shipped()[design].picture)
+        picture = GdkPixbuf.Pixbuf.new_from_file_at_scale(file, WIDE - 2, HIGH - 2, True)
         return with_edge(picture)
     return None
 

@@ -4,7 +4,6 @@ button chose or the window guessed, which it says in words.
 
 import shlex
 from collections.abc import Callable, Collection, Iterator, Mapping
-from dataclasses import replace
 from typing import NamedTuple
 
 from labeltools.common.messages import named_character, Remedy, ToolError
@@ -71,11 +70,6 @@ def typed_with(typed: str, remedy: Remedy) -> str:
     return shlex.join([*rest, *([] if remedy.is_less else remedy.words)])
 
 
-def typed_without(typed: str, remedy: Remedy) -> str:
-    """Returns options as they are typed, without the option of a remedy."""
-    return typed_with(typed, replace(remedy, is_less=True))
-
-
 def with_part(text: str, other: str, names: Collection[str]) -> str:
     """Returns options as they are typed, but those of some names as in another text.
 
@@ -111,7 +105,7 @@ def between_cells(mark: str) -> Text:
     return Text("{} is between cells", named_character("\t" if mark == "tab" else mark))
 
 
-# what is said of each option that a button or a guess gives, by its value
+# what is said of each option that a button or a guess gives, by its value; but of an encoding
 SAID: Mapping[str, Callable[[str], Text]] = {
     "allow-zeros": lambda _value: Text("codes may end with zeros"),
     "currency": lambda column: Text("the currency is in {}", column),
@@ -121,7 +115,6 @@ SAID: Mapping[str, Callable[[str], Text]] = {
     "delimiter": between_cells,
     "digits": lambda which: DIGITS[which],
     "edge": lambda _edges: Text("labels keep away from the edge"),
-    "encoding": lambda codec: Text("the letters are {}", letters_by(codec)),
     "hidden": lambda _value: Text("hidden rows are printed too"),
     "links": lambda _value: Text("the code is the address behind a cell"),
     "paper-as-given": lambda _value: Text("the paper need not be one of the driver's"),
@@ -131,13 +124,15 @@ SAID: Mapping[str, Callable[[str], Text]] = {
 }
 
 
-def said_of(option: Remedy, word: str = "") -> Text:
+def said_of(option: Remedy, word_by: Callable[[str], str]) -> Text:
     """Returns what is said of an option that a button or a guess gives; of an encoding with a word
     that it reads.
 
-    >>> said_of(Remedy("encoding", "cp1252"), "Füller"), said_of(Remedy("decimal", "point"))
-    ('the letters are Western European (Füller)', 'the point is before the cents')
+    >>> said_of(Remedy("encoding", "cp1252"), lambda _codec: "Füller")
+    'the letters are Western European (Füller)'
+    >>> said_of(Remedy("decimal", "point"), str)
+    'the point is before the cents'
     """
     if option.option == "encoding":
-        return Text("the letters are {}", letters_by(option.value, word))
+        return Text("the letters are {}", letters_by(option.value, word_by(option.value)))
     return SAID[option.option](option.value)

@@ -3,6 +3,7 @@ is not there.
 """
 
 from collections.abc import Callable, Iterator, Mapping, Sequence
+from dataclasses import replace
 from functools import partial
 from typing import Any, TYPE_CHECKING
 
@@ -11,7 +12,7 @@ import gi
 from labeltools.common.language import _
 from labeltools.common.messages import Remedy
 from labeltools.common.text import whole_sentence
-from labeltools.window.further import options_in, said_of, typed_without
+from labeltools.window.further import options_in, said_of, typed_with
 
 try:
     gi.require_version("Gdk", "3.0")
@@ -49,15 +50,20 @@ __all__ = [
     "GObject",
     "Gtk",
     "Pango",
+    "Answer",
+    "Answers",
     "add_actions",
     "add_style",
+    "confirmed",
     "do_soon",
     "leave_wheel",
-    "show_pictures",
+    "show_answers",
     "show_rows",
     "widen",
     "widgets_within",
 ]
+Answer = tuple[str, Callable[[], object]]  # what a button shows, and does
+Answers = Sequence[Answer]
 LETTERS = 14  # that a choice shows at least
 LINE = 30  # letters of a line of the panel, of words that are wrapped
 BESIDE = 60  # pixels of an icon beside the texts of a list, and of what is between them
@@ -105,6 +111,32 @@ def do_soon(act: Callable[..., object], *values: Any) -> None:
     GLib.idle_add(lambda: act(*values) and False)
 
 
+def confirmed(dialog: Any) -> bool:
+    """Shows a dialog; returns whether it is confirmed, as by Enter."""
+    dialog.set_default_response(Gtk.ResponseType.OK)
+    answer = dialog.run()
+    dialog.hide()
+    return bool(answer == Gtk.ResponseType.OK)
+
+
+def show_answers(box: Any, answers: Answers, beside: Any) -> None:
+    """Shows a button for each answer in a box. Once one is pressed, the focus is on what is beside
+    the box, since the button goes.
+    """
+    box.foreach(Gtk.Widget.destroy)
+    for shown, act in answers:
+        button = Gtk.Button(label=shown, visible=True)
+        button.connect("clicked", lambda _button, act=act: answer(act, beside))
+        box.add(button)
+    box.set_visible(answers)
+
+
+def answer(act: Callable[[], object], beside: Any) -> None:
+    """Does what was answered; the focus is on what is beside the answer, which goes."""
+    beside.grab_focus()
+    do_soon(act)
+
+
 def add_style() -> None:
     """Adds the colours to those of the desktop."""
     provider = Gtk.CssProvider()
@@ -143,15 +175,6 @@ def widen(choice: Any, *columns: int) -> None:
         widths = (max((layout.get_pixel_size()[0] for layout in part), default=0) for part in drawn)
         beside = BESIDE + sum(max(0, cell.get_fixed_size()[0]) for cell in choice.get_cells())
         shown.set_size_request(min(sum(widths) + beside, WIDEST), -1)
-
-
-def show_pictures(layout: Any, cell: Any, picture_of: Callable[[Any], Any]) -> None:
-    """Shows a picture in each row of a list that is seen; None is none."""
-
-    def show(_layout: Any, cell: Any, model: Any, row: Any, _data: Any) -> None:
-        cell.set_property("pixbuf", picture_of(model[row]))
-
-    layout.set_cell_data_func(cell, show, None)
 
 
 def show_rows(model: Any, rows: Sequence[tuple[str, ...]]) -> None:
@@ -196,31 +219,24 @@ class Question(Gtk.Box):
             box.add(part)
             part.show()
 
-    def ask(self, text: str, answers: Sequence[tuple[str, Callable[[], object]]]) -> None:
+    def ask(self, text: str, answers: Answers) -> None:
         """Asks, with a button for each answer."""
         self.text.set_text(text)
-        self.answers.foreach(Gtk.Widget.destroy)
+        show_answers(self.answers, answers, self.control)
         widest = 0
-        for shown, act in answers:
-            label = Gtk.Label(label=shown, wrap=True, lines=2, max_width_chars=30)
+        for button in self.answers:
+            label = button.get_child()
+            label.set_properties(wrap=True, lines=2, max_width_chars=30)
             label.set_properties(
                 ellipsize=Pango.EllipsizeMode.END, justify=Gtk.Justification.CENTER
             )
-            widest = max(widest, self.create_pango_layout(shown).get_pixel_size()[0])
-            button = Gtk.Button(child=label)
-            button.connect("clicked", lambda _button, act=act: self.end(act))
-            self.answers.add(button)
-            button.show_all()
+            button.get_style_context().remove_class("text-button")  # which has wide sides
+            widest = max(widest, self.create_pango_layout(label.get_text()).get_pixel_size()[0])
+            button.connect("clicked", lambda _button: self.hide())
         is_short = widest <= SIDE and len(answers) < 3
         kind = Gtk.Orientation.HORIZONTAL if is_short else Gtk.Orientation.VERTICAL
         self.answers.set_orientation(kind)
         self.show()
-
-    def end(self, act: Callable[[], object]) -> None:
-        """Does what was answered; the focus stays beside the answer, which goes."""
-        self.control.grab_focus()
-        self.hide()
-        do_soon(act)
 
 
 class Given(Gtk.Box):
@@ -242,17 +258,13 @@ class Given(Gtk.Box):
     def show_options(self) -> None:
         """Shows each option in words."""
         options = [*options_in(self.words)]
-        shown = [whole_sentence(said_of(option, self.encoding_word(option))) for option in options]
+        shown = [whole_sentence(said_of(option, self.word_by)) for option in options]
         if shown != self.shown:  # else a button that has the focus would lose it
             self.shown = shown
             self.foreach(Gtk.Widget.destroy)
             for place, (option, said) in enumerate(zip(options, shown)):
                 self.add(self.option_line(said, partial(self.take_back, place, option)))
         self.set_visible(self.words)
-
-    def encoding_word(self, option: Remedy) -> str:
-        """Returns the word by which an encoding is known; nothing for another option."""
-        return self.word_by(option.value) if option.option == "encoding" else ""
 
     def option_line(self, said: str, take_back: Callable[[Any], None]) -> Any:
         """Returns a line with what is said of an option, and a button that takes it back."""
@@ -272,7 +284,7 @@ class Given(Gtk.Box):
     def take_back(self, place: int, option: Remedy, _button: Any) -> None:
         """Takes an option back; the focus goes to the next one, or else to what is below."""
         self.get_toplevel().child_focus(Gtk.DirectionType.TAB_FORWARD)
-        self.words = typed_without(self.words, option)
+        self.words = typed_with(self.words, replace(option, is_less=True))
         if lines := self.get_children():
             lines[min(place, len(lines) - 1)].get_children()[-1].grab_focus()
 

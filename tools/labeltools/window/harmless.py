@@ -43,18 +43,18 @@ def keeps_prices(remedy: Remedy, good: Sequence[Record], options: TableOptions) 
     """
     if remedy.value == ANY_TEXT.value:
         return options.prices.pattern is None and options.columns.currency is None
-    pattern = PricePattern.from_text(remedy.value)
     return all(
-        worth_of_price(price) == worth_of_price(price_by(pattern, price))
+        worth_of_price(price) == worth_of_price(price_by(remedy.value, price))
         for label in good
         for price in filter(None, (label.price, label.unit, label.was))
     )
 
 
-def price_by(pattern: PricePattern, price: str) -> str:
-    """Returns a price as a pattern writes it; nothing if it is none."""
+def price_by(pattern: str, price: str, currency: str = "") -> str:
+    """Returns a price as a pattern writes it, with its currency; nothing if it is none."""
     try:
-        return pattern.write(read_price(price, most_decimals=PROGRAM_DECIMALS), "")
+        money = read_price(price, most_decimals=PROGRAM_DECIMALS)
+        return PricePattern.from_text(pattern).write(money, currency)
     except RowError:
         return ""
 

@@ -3,6 +3,7 @@
 import json
 import os
 from contextlib import suppress
+from dataclasses import dataclass
 from pathlib import Path
 from typing import Any
 
@@ -12,14 +13,14 @@ MOST = 200  # values in a file
 OWN = 0o600  # who may read it
 
 
+@dataclass(frozen=True)
 class Memory:
     """Values by their names, the newest at the end, in a file; the oldest goes if there are too
     many. What somebody has written into the file and is of another type does not count.
     """
 
-    def __init__(self, file: str, kind: type) -> None:
-        self.file = file
-        self.kind = kind
+    file: str
+    kind: type
 
     def all(self) -> dict[str, Any]:
         """Returns what is kept; nothing if the file cannot be read."""

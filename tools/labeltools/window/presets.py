@@ -6,10 +6,9 @@ from typing import Any, TYPE_CHECKING
 
 from labeltools.common.language import _
 from labeltools.window.choices import kept_of, values_kept
-from labeltools.window.gtk import add_actions, Gio, GLib
+from labeltools.window.gtk import add_actions, confirmed, Gio, GLib
 from labeltools.window.memory import PRESETS
 from labeltools.window.owners import PRINT, ROLL
-from labeltools.window.ways import confirmed
 
 if TYPE_CHECKING:
     from labeltools.window.window import Window

@@ -31,6 +31,7 @@ class Preview:
         self.sheet = job.plan.sheet
         self.size = self.sheet.page
         self.corner = (0.0, 0.0)
+        self.is_single = is_single
         if is_single:
             job = replace(
                 job,

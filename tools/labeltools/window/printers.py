@@ -49,7 +49,7 @@ class Printers:
         self.widgets = window.widgets
         self.all: dict[str, Printer] = {}
         self.wanted = ""  # the key of the one that is chosen, or was when labels went out
-        # what queues say of themselves, or why they do not, once they do
+        # what queues with a driver say of themselves, or why they do not, once they do
         self.answers: dict[str, Future[Queue | ToolError]] = {}
         self.thread = ThreadPoolExecutor(1)
         window.widgets.printer.set_row_separator_func(lambda model, row: model[row][3] == NONE)
@@ -97,8 +97,9 @@ class Printers:
         widen(self.widgets.printer, 0, 2)
         self.widgets.printer.set_active_id(self.wanted or None)
         printer = self.chosen
-        if printer and self.says_itself(printer) and printer.key not in self.answers:
-            self.answers[printer.key] = self.thread.submit(queue_or_problem, printer.key)
+        is_asked = printer and printer.way == QUEUE and printer.form == PDF and not printer.is_lost
+        if is_asked and self.wanted not in self.answers:
+            self.answers[self.wanted] = self.thread.submit(queue_or_problem, self.wanted)
 
     @property
     def chosen(self) -> Printer | None:
@@ -115,20 +116,16 @@ class Printers:
         return queue is not None and bool(queue.papers.known) and not queue.papers.is_office
 
     @property
-    def answer(self) -> "Future[Queue | ToolError] | None":
-        """What the queue that is chosen says of itself, once it does; None for another printer."""
-        return self.answers.get(self.wanted)
-
-    @property
-    def is_silent(self) -> bool:
-        """Whether the queue that is chosen has not said yet what it has."""
-        return self.answer is not None and not self.answer.done()
+    def awaited(self) -> "Future[Queue | ToolError] | None":
+        """What the queue that is chosen says of itself, as long as it has not said it."""
+        answer = self.answers.get(self.wanted)
+        return None if answer is None or answer.done() else answer
 
     @property
     def queue(self) -> Queue | None:
         """The queue that is chosen, if it has said what it has."""
-        answer = self.answer
-        if answer is None or self.is_silent or answer.exception():
+        answer = self.answers.get(self.wanted)
+        if answer is None or not answer.done() or answer.exception():
             return None
         found = answer.result()
         return found if isinstance(found, Queue) else None
@@ -148,10 +145,6 @@ class Printers:
         self.wanted = key
         self.fill_list([printer for printer in self.all.values() if not printer.is_lost])
 
-    def says_itself(self, printer: Printer) -> bool:
-        """Returns whether the queue of a printer says what it has, by its driver."""
-        return printer.way == QUEUE and printer.form == PDF and not printer.is_lost
-
     def key_of_language(self, chosen: Choices) -> str:
         """Returns the key by which is kept what a printer is sent, or files of sheets or of rolls;
         nothing as long as it is not known.
@@ -159,7 +152,7 @@ class Printers:
         printer = self.chosen
         if printer is None:
             return f"{FILE} of {'a roll' if chosen.roll else 'sheets'}"
-        is_known = printer.form and (self.queue or not self.says_itself(printer))
+        is_known = printer.form and (self.queue or self.wanted not in self.answers)
         return printer.key if is_known else ""
 
     def usual_language(self, _chosen: Choices) -> Kept:
@@ -195,7 +188,7 @@ class Printers:
         """
         self.answers.pop(key, None)
         self.settle(key)
-        if self.answer:
+        if key in self.answers:
             self.window.take_values(sheet=True)
         self.window.owners.take_anew()
         self.window.make()
@@ -218,7 +211,7 @@ class Printers:
             (text, partial(self.know, printer.key, {"to": language}))
             for text, language in zip(shown, LANGUAGES)
         ]
-        self.window.questions.below("printer").ask(_("What does this printer print?"), answers)
+        self.window.questions.below["printer"].ask(_("What does this printer print?"), answers)
         self.window.let_out()
 
     def on_language(self) -> None:

@@ -16,10 +16,10 @@ from labeltools.printing.press import Prepared
 from labeltools.printing.selection import ranges_in
 from labeltools.sending.printers import Printer
 from labeltools.sending.queue import MEDIA, TRAY
-from labeltools.window.gtk import do_soon, Gio, GLib, Gtk
+from labeltools.tables.summary import skipped
+from labeltools.window.gtk import confirmed, do_soon, Gio, GLib, Gtk
 from labeltools.window.memory import PRINTERS
 from labeltools.window.rows import labels_of_rows, parts_in, Rows
-from labeltools.window.shop import skipped
 
 if TYPE_CHECKING:
     from labeltools.window.window import Window
@@ -49,18 +49,20 @@ class Printing:
     def __init__(self, window: "Window") -> None:
         self.window = window
         self.widgets = window.widgets
-        window.widgets.print_rows.connect("changed", self.on_typed)
+        self.printer = ""
         for button in (
             window.widgets.print_all,
             window.widgets.print_some,
             window.widgets.print_trial,
         ):
             button.connect("toggled", self.show_what)
-        window.widgets.print_what.connect("changed", self.show_what)
-        window.widgets.print_settings.connect("activate-link", self.on_settings)
+        for control in (window.widgets.print_rows, window.widgets.print_what):
+            control.connect("changed", self.show_what)
+        window.widgets.print_settings.connect(
+            "activate-link", lambda _link: open_settings(self.printer)
+        )
         window.widgets.print_choose.connect("clicked", lambda _button: do_soon(self.choose_rows))
         self.rows = Rows(window)
-        self.printer = ""
 
     def ask_what_is_printed(
         self, printer: Printer, labels: Prepared, options: Options
@@ -81,9 +83,7 @@ class Printing:
         self.fill_options(options)
         self.show_what()
         window.widgets.print_yes.grab_focus()  # Enter prints
-        answer = window.widgets.printing.run()
-        window.widgets.printing.hide()
-        return self.wanted() if answer == Gtk.ResponseType.OK else None
+        return self.wanted() if confirmed(window.widgets.printing) else None
 
     def fill_options(self, options: Options) -> None:
         """Fills the choices of a driver, with those of the last time."""
@@ -105,12 +105,6 @@ class Printing:
         if chosen is not None:
             self.widgets.print_what.set_active_id("rows")
             self.widgets.print_rows.set_text(chosen)
-
-    def on_typed(self, entry: Any) -> None:
-        """Prints only some, once they are typed."""
-        if entry.get_text():
-            self.widgets.print_some.set_active(True)
-        self.show_what()
 
     def show_what(self, _control: Any = None) -> None:
         """Shows how many sheets are needed, and whether there is something to print."""
@@ -150,19 +144,17 @@ class Printing:
         prints = labels_of_rows(self.labels.prints, parts_in(typed))
         return Printout(replace(self.labels, prints=prints), options)
 
-    def on_settings(self, _link: Any) -> bool:
-        """Opens the settings of printers of the desktop, or else the page of CUPS."""
-        open_settings(self.printer)
-        return True
 
-
-def open_settings(queue: str) -> None:
-    """Opens the settings of printers of the desktop, or else the page of a queue of CUPS."""
+def open_settings(queue: str) -> bool:
+    """Opens the settings of printers of the desktop, or else the page of a queue of CUPS; returns
+    that nothing else is to be opened.
+    """
     for words in SETTINGS:
         if GLib.find_program_in_path(words[0]):
             Gio.Subprocess.new(list(words), Gio.SubprocessFlags.NONE)
-            return
+            return True
     webbrowser.open(PAGE + quote(queue))
+    return True
 
 
 def all_text(labels: Prepared, is_roll: bool) -> str:

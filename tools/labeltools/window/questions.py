@@ -3,17 +3,12 @@ in place of the page where the file cannot be read without it. Nothing is printe
 """
 
 from collections.abc import Sequence
-from typing import Any, TYPE_CHECKING
+from typing import Any
 
 from labeltools.common.messages import Problem
 from labeltools.common.text import Text, whole_sentence
-from labeltools.window.bar import Answer
-from labeltools.window.gtk import Gtk
+from labeltools.window.gtk import Answers, show_answers
 
-if TYPE_CHECKING:
-    from labeltools.window.window import Window
-
-Answers = Sequence[Answer]
 # the controls below which the remedies of a problem are asked for
 ASKED_AT = {
     **dict.fromkeys(("symbology", "digits", "allow-zeros"), "code"),
@@ -31,44 +26,36 @@ BELOW = ("code", "title", "price", "copies", "printer")
 
 
 class Questions:
-    """The questions of a window."""
+    """The questions of a window: those below its controls by the names of these, and those of a
+    file.
+    """
 
-    def __init__(self, window: "Window") -> None:
-        self.window = window
-        self.widgets = window.widgets
+    def __init__(self, widgets: Any) -> None:
+        self.widgets = widgets
+        self.below = {name: getattr(widgets, f"ask_{name}") for name in BELOW}
 
     @property
-    def is_open(self) -> bool:
-        """Whether one is asked below a control."""
-        return any(self.below(name).get_visible() for name in BELOW)
-
-    def below(self, name: str) -> Any:
-        """Returns the question below a control."""
-        return getattr(self.window.widgets, f"ask_{name}")
+    def open(self) -> Sequence[Any]:
+        """Those that are asked below a control."""
+        return [question for question in self.below.values() if question.get_visible()]
 
     def clear(self) -> None:
         """Asks nothing any more."""
-        for name in BELOW:
-            self.below(name).hide()
+        for question in self.below.values():
+            question.hide()
 
     def ask_of_file(self, text: str, more: str, answers: Answers) -> None:
         """Asks in place of the page."""
         self.widgets.asked.set_text(text)
         self.widgets.asked_more.set_text(more)
         self.widgets.asked_more.set_visible(more)
-        box = self.widgets.answers
-        box.foreach(Gtk.Widget.destroy)
-        for shown, act in answers:
-            button = Gtk.Button(label=shown, visible=True, width_request=260)
-            button.connect("clicked", lambda _button, act=act: act())
-            box.add(button)
+        show_answers(self.widgets.answers, answers, self.widgets.stack)
         self.widgets.stack.set_visible_child_name("asking")
-        box.get_children()[0].grab_focus()
+        self.widgets.answers.get_children()[0].grab_focus()
 
     def focus(self) -> None:
         """Puts the focus on the first answer, or on Print where nothing is asked."""
-        first = next((self.below(name) for name in BELOW if self.below(name).get_visible()), None)
-        answers = first.answers.get_children() if first else []
+        answers = [button for question in self.open for button in question.answers]
         (answers[0] if answers else self.widgets.print_button).grab_focus()
 
 

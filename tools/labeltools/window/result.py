@@ -2,18 +2,17 @@
 to say about them, with buttons that help.
 """
 
-from collections.abc import Callable, Sequence
 from typing import Any
 
 from labeltools.common.language import _
-from labeltools.common.text import Text, translated
+from labeltools.common.text import Text, translated, whole_sentence
 from labeltools.printing.press import Prepared
-from labeltools.window.bar import Answer
+from labeltools.tables.summary import skipped
 from labeltools.window.designs import without_folder
-from labeltools.window.gtk import Gio, GLib, Gtk
+from labeltools.window.gtk import Answers, Gio, GLib, Gtk, show_answers
 from labeltools.window.preview import Preview
 from labeltools.window.questions import in_sentences
-from labeltools.window.shop import MadeLabels, skipped
+from labeltools.window.shop import MadeLabels
 
 MOST_NOTES = 2000
 MOST_HELPS = 3  # buttons above the notes
@@ -44,16 +43,18 @@ class ShownLabels:
         widgets.left_out_list.connect("size-allocate", self.on_list_size)
         widgets.left_out_list.get_selection().connect("changed", self.on_note)
 
-    def show(self, made: MadeLabels, helps: Sequence[Answer], is_new: bool) -> None:
+    def show(self, made: MadeLabels, helps: Answers, is_new: bool) -> None:
         """Shows labels, and what helps with those that are skipped. Of a table that is new the list
         of these is open where there is room for it; later the keeper may have closed it.
         """
         self.labels = made.labels
         self.widgets.command.set_text(made.command)
         is_waiting = bool(made.asked) and not made.labels.prints  # no row is counted yet
-        self.widgets.count.set_text("" if is_waiting else translated(made.summary))
+        self.widgets.count.set_text("" if is_waiting else whole_sentence(made.summary))
         self.show_notes(made)
-        self.offer(helps[:MOST_HELPS])
+        show_answers(self.widgets.helps, helps[:MOST_HELPS], self.widgets.fold)
+        for part in self.widgets.helps:
+            part.set_can_focus(False)  # but the button in it has the focus
         if is_new:
             self.widgets.fold.set_expanded(self.widgets.fold.get_toplevel().get_size()[1] > LOW)
         self.show_pages()
@@ -74,22 +75,6 @@ class ShownLabels:
         self.widgets.fold.get_accessible().set_name(translated(text))
         self.widgets.fold.set_visible(made.told)
 
-    def offer(self, answers: Sequence[Answer]) -> None:
-        """Offers what helps, a button for each."""
-        box = self.widgets.helps
-        box.foreach(Gtk.Widget.destroy)
-        for shown, act in answers:
-            button = Gtk.Button(label=shown, visible=True)
-            button.connect("clicked", lambda _button, act=act: self.help_by(act))
-            box.add(button)
-            button.get_parent().set_can_focus(False)  # but the button has the focus
-        box.set_visible(answers)
-
-    def help_by(self, act: Callable[[], object]) -> None:
-        """Does what helps; the focus stays beside the button for it, which goes."""
-        self.widgets.fold.grab_focus()
-        act()
-
     def on_list_size(self, _list: Any, area: Any) -> None:
         """Wraps the reasons at the right edge of the list."""
         width = max(LEAST_WRAP, area.width - self.widgets.why.get_x_offset() - WRAP_MARGIN)
@@ -104,28 +89,18 @@ class ShownLabels:
         if page:
             self.widgets.number.set_value(page)
 
-    @property
-    def is_single(self) -> bool:
-        """Whether each label is shown alone."""
-        return bool(self.large.get_state().unpack())
-
     def show_pages(self) -> None:
         """Shows pages, or each label, and how many there are, once labels are made."""
         if self.labels is None:
             return
-        self.shown = Preview(self.labels, self.is_single)
+        self.shown = Preview(self.labels, self.large.get_state().unpack())
         self.widgets.number.set_range(1, self.shown.count)
         self.widgets.of.set_text(_("of {all}").format(all=self.shown.count))
         width, height = self.shown.size
         self.widgets.desk.set_property("ratio", width / height)
-        has_cells = not self.labels.job.plan.sheet.is_single
-        self.widgets.click_here.set_visible(has_cells and self.begins_by_click)
+        has_cells = not (self.labels.job.plan.sheet.is_single or self.shown.is_single)
+        self.widgets.click_here.set_visible(has_cells and self.widgets.sheet.get_active())
         self.widgets.paper.queue_draw()
-
-    @property
-    def begins_by_click(self) -> bool:
-        """Whether a click on a page says where its labels begin."""
-        return bool(self.widgets.sheet.get_active() and not self.is_single)
 
     def on_draw(self, paper: Any, canvas: Any) -> None:
         """Draws a page, or a label."""
@@ -135,7 +110,7 @@ class ShownLabels:
         canvas.save()
         self.shown.draw(canvas, number)
         canvas.restore()
-        if self.pointed and not self.is_single:
+        if self.pointed and not self.shown.is_single:
             self.shown.draw_large(canvas, number, self.pointed)
 
     def cell_below(self, event: Any) -> int:
@@ -154,7 +129,9 @@ class ShownLabels:
             self.widgets.paper.queue_draw()
 
     def on_click(self, _paper: Any, event: Any) -> None:
-        """Begins at the cell of the first page that was clicked: those before it are used."""
-        cell = self.cell_below(event)
-        if cell and self.begins_by_click and self.widgets.number.get_value_as_int() == 1:
+        """Begins at the cell of the first page that was clicked, where it is said that a click does
+        that: those before it are used.
+        """
+        cell, number = self.cell_below(event), self.widgets.number.get_value_as_int()
+        if cell and number == 1 and self.widgets.click_here.get_visible():
             self.widgets.first.set_value(cell)

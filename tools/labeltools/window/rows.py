@@ -14,7 +14,7 @@ from labeltools.layout.layout import LaidOut
 from labeltools.lines.file import Record
 from labeltools.printing.press import Prepared
 from labeltools.printing.selection import ranges_in
-from labeltools.window.gtk import Gtk
+from labeltools.window.gtk import confirmed, Gtk
 
 if TYPE_CHECKING:
     from labeltools.window.window import Window
@@ -70,9 +70,7 @@ class Rows:
         window.widgets.rows_new.set_visible(printed)
         window.widgets.rows_search.set_text("")
         self.show_count()
-        answer = window.widgets.choosing.run()
-        window.widgets.choosing.hide()
-        return self.typed(labels.prints) if answer == Gtk.ResponseType.OK else None
+        return self.typed(labels.prints) if confirmed(window.widgets.choosing) else None
 
     def typed(self, prints: Sequence[LaidOut]) -> str:
         """Returns the rows that are marked as they are typed."""
@@ -109,10 +107,6 @@ class Rows:
         texts = (str(model[row][column]) for column in (CODE, TITLE, PRICE))
         return not wanted or any(wanted in text.casefold() for text in texts)
 
-    def row_of_all(self, row: Any) -> Any:
-        """Returns a row of the whole list that is shown."""
-        return self.widgets.rows[self.found.convert_iter_to_child_iter(row.iter)]
-
     def on_enter(self, search: Any) -> None:
         """Ticks what is found, and looks for more; Enter in an empty search is that of the
         dialog.
@@ -125,14 +119,14 @@ class Rows:
 
     def on_mark(self, path: Any) -> None:
         """Marks a row, or takes its mark away."""
-        row = self.row_of_all(self.found[path])
+        row = self.found[path]
         row[MARK] = not row[MARK]
         self.show_count()
 
     def on_many(self, _cell: Any, path: str, text: str) -> None:
         """Takes how many labels of a row are printed, and marks it, unless that is none."""
         if text.strip().isdecimal():
-            row = self.row_of_all(self.found[path])
+            row = self.found[path]
             row[MANY] = min(int(text), MOST)
             row[MARK] = row[MANY] > 0
             self.show_count()
@@ -140,8 +134,7 @@ class Rows:
     def mark_shown(self, _button: Any, rule: Any) -> None:
         """Marks the rows that are shown by a rule."""
         for row in self.found:
-            inner = self.row_of_all(row)
-            inner[MARK] = rule(inner)
+            row[MARK] = rule(row)
         self.show_count()
 
     def show_count(self) -> None:

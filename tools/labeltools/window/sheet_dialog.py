@@ -6,12 +6,11 @@ from typing import Any, TYPE_CHECKING
 from labeltools.common.language import _
 from labeltools.common.messages import ToolError
 from labeltools.common.text import Text, translated
-from labeltools.paper.stock import Size
-from labeltools.window.gtk import Gdk, Gtk
+from labeltools.paper.stock import grid_sheet, Size
+from labeltools.window.gtk import Answers, confirmed, Gtk
 from labeltools.window.memory import SHEETS
-from labeltools.window.questions import Answers, in_sentences
+from labeltools.window.questions import in_sentences
 from labeltools.window.sheets import grid_of, is_sheet, own_sheet, OwnSheet
-from labeltools.window.ways import confirmed
 
 if TYPE_CHECKING:
     from labeltools.window.window import Window
@@ -20,6 +19,7 @@ FIRST = OwnSheet(3, 8, 70.0, 36.0)  # that is shown at first
 COUNTS = {"columns": (1, 50), "rows": (1, 100)}
 SIZES = {"width": (5, 210), "height": (5, 297)}
 MARGINS = {"left": (0, 105), "top": (0, 149)}
+HIGH = 212  # pixels of the drawing
 HELPED = ("list-stock", "cell")  # options of problems that such a sheet helps
 
 
@@ -30,15 +30,12 @@ class SheetDialog:
         self.window = window
         self.widgets = window.widgets
         self.has_margin = False  # that was typed
-        for name, (lowest, highest) in {**COUNTS, **SIZES, **MARGINS}.items():
-            self.field(name).set_range(lowest, highest)
-            self.field(name).connect("value-changed", self.on_changed, name)
+        ranges = {**COUNTS, **SIZES, **MARGINS}
+        self.fields = {name: getattr(self.widgets, f"sheet_{name}") for name in ranges}
+        for name, field in self.fields.items():
+            field.set_range(*ranges[name])
+            field.connect("value-changed", self.on_changed, name)
         window.widgets.sheet_name.connect("changed", self.show_sheet)
-        window.widgets.sheet_drawing.connect("draw", self.on_draw)
-
-    def field(self, name: str) -> Any:
-        """Returns the field of a measure."""
-        return getattr(self.window.widgets, f"sheet_{name}")
 
     def answers_to(self, problem: ToolError) -> Answers:
         """Returns the answer that a sheet has another name, if that helps with a problem."""
@@ -66,53 +63,45 @@ class SheetDialog:
         """Fills the fields."""
         self.has_margin = sheet.left is not None
         self.widgets.sheet_name.set_text(name)
-        for field in (*COUNTS, *SIZES):
-            self.field(field).set_value(getattr(sheet, field))
-        self.fill_margin(sheet.margin)
+        for name in (*COUNTS, *SIZES):
+            self.fields[name].set_value(getattr(sheet, name))
+        self.fill_margin(sheet.grid.margin or sheet.middle)
         self.show_sheet()
 
     def fill_margin(self, margin: Size) -> None:
         """Fills the fields of the margin."""
-        for field, side in zip(MARGINS, margin):
-            self.field(field).set_value(side)
+        for name, side in zip(MARGINS, margin):
+            self.fields[name].set_value(side)
 
     def described(self) -> OwnSheet:
         """Returns the sheet that the fields describe."""
-        counts = (self.field(name).get_value_as_int() for name in COUNTS)
-        sizes = (self.field(name).get_value() for name in SIZES)
+        counts = (self.fields[name].get_value_as_int() for name in COUNTS)
+        sizes = (self.fields[name].get_value() for name in SIZES)
         sheet = OwnSheet(*counts, *sizes)
-        left, top = (self.field(name).get_value() for name in MARGINS)
+        left, top = (self.fields[name].get_value() for name in MARGINS)
         return replace(sheet, left=left, top=top) if self.has_margin else sheet
 
     def on_changed(self, _field: Any, name: str) -> None:
         """Shows another sheet; its labels are in the middle until a margin is typed."""
         middle = self.described().middle
         if name in MARGINS:
-            typed = (self.field(margin).get_value() for margin in MARGINS)
+            typed = (self.fields[margin].get_value() for margin in MARGINS)
             self.has_margin = [*typed] != [max(0.0, round(side, 2)) for side in middle]
         elif not self.has_margin:
             self.fill_margin(middle)
         self.show_sheet()
 
     def show_sheet(self, _entry: Any = None) -> None:
-        """Draws the sheet, and says how far its labels are apart, or why there is no such sheet."""
-        sheet = self.described()
+        """Shows the sheet, and says how far its labels are apart, or why there is no such sheet."""
+        grid = self.described().grid
         is_good = bool(self.widgets.sheet_name.get_text().strip())
         try:
-            number = len(sheet.sheet.places)
-            text = translated(Text("{} labels, {:.4g} and {:.4g} mm apart.", number, *sheet.gap))
+            sheet = grid_sheet(grid)
+            self.widgets.sheet_drawing.set_from_pixbuf(grid_of(sheet, HIGH))
+            text = Text("{} labels, {:.4g} and {:.4g} mm apart.", len(sheet.places), *grid.gap)
+            said = translated(text)
         except ToolError as error:
-            text, is_good = in_sentences(error.problem), False
-        self.widgets.sheet_said.set_text(text)
+            self.widgets.sheet_drawing.clear()
+            said, is_good = in_sentences(error.problem), False
+        self.widgets.sheet_said.set_text(said)
         self.widgets.describing.set_response_sensitive(Gtk.ResponseType.OK, is_good)
-        self.widgets.sheet_drawing.queue_draw()
-
-    def on_draw(self, area: Any, canvas: Any) -> None:
-        """Draws the sheet."""
-        try:
-            picture = grid_of(self.described().sheet, area.get_allocated_height())
-        except ToolError:
-            return
-        left = (area.get_allocated_width() - picture.get_width()) / 2
-        Gdk.cairo_set_source_pixbuf(canvas, picture, left, 0)
-        canvas.paint()

@@ -25,7 +25,7 @@ from labeltools.paper.stock import (
     Size,
     size_text,
 )
-from labeltools.window.gtk import Gdk, show_pictures
+from labeltools.window.gtk import Gdk
 from labeltools.window.memory import SHEETS
 
 SIDE = 40  # pixels of the longer side of a picture
@@ -53,35 +53,24 @@ class OwnSheet:
         return (A4[0] - self.columns * self.width) / 2, (A4[1] - self.rows * self.height) / 2
 
     @property
-    def margin(self) -> Size:
-        """Where the first label begins."""
-        left, top = self.middle
-        return left if self.left is None else self.left, top if self.top is None else self.top
-
-    @property
-    def gap(self) -> Size:
-        """What is between two labels, since a page has the same margin on both sides."""
-        size = self.width, self.height
-        counts = self.columns, self.rows
-        across, down = (
-            gap_of(A4[side], self.margin[side], counts[side], size[side]) for side in (0, 1)
-        )
-        return across, down
-
-    @property
-    def sheet(self) -> Sheet:
-        """The sheet; raises `ToolError` where its labels leave the page."""
-        size = self.width, self.height
-        return grid_sheet(Grid(A4, size, self.columns, self.rows, self.margin, self.gap))
+    def grid(self) -> Grid:
+        """Its grid; a page has the same margin on both sides."""
+        cell, counts = (self.width, self.height), (self.columns, self.rows)
+        if self.left is None or self.top is None:
+            return Grid(A4, cell, *counts)
+        margin = self.left, self.top
+        across, down = map(gap_of, A4, margin, counts, cell)
+        return Grid(A4, cell, *counts, margin, (across, down))
 
     @property
     def options(self) -> dict[str, Any]:
         """The options of label-print for it."""
-        found: dict[str, Any] = {"grid": f"{self.columns}x{self.rows}"}
+        grid = self.grid
+        found: dict[str, Any] = {"grid": f"{grid.columns}x{grid.rows}"}
         found["cell"] = f"{self.width:g}x{self.height:g}"
-        if (self.left, self.top) != (None, None):
-            found["margin"] = "x".join(f"{round(side, 3):g}" for side in self.margin)
-            found["gap"] = "x".join(f"{round(side, 3):g}" for side in self.gap)
+        if grid.margin:
+            found["margin"] = "x".join(f"{round(side, 3):g}" for side in grid.margin)
+            found["gap"] = "x".join(f"{round(side, 3):g}" for side in grid.gap)
         return found
 
 
@@ -107,12 +96,6 @@ def own_sheet(name: str | None) -> OwnSheet | None:
         return None
 
 
-def complete(completion: Any, picture: Any) -> None:
-    """Lets a completion show all sheets that its list is filled with, each with its picture."""
-    completion.set_match_func(lambda *_: True)
-    show_pictures(completion, picture, lambda row: grid_of(sheet_named(row[0])))
-
-
 def fill_with_sheets(model: Any, typed: str) -> None:
     """Fills a model with the sheets of the keeper's own and those that label-print lists for what
     is typed, first those that begin so.
@@ -125,7 +108,8 @@ def fill_with_sheets(model: Any, typed: str) -> None:
         names += [line.partition(": ")[0] for line in list_stock(typed)]
     for name in sorted(dict.fromkeys(names), key=lambda name: not name.lower().startswith(typed)):
         with suppress(ToolError, KeyError):
-            model.append([name, described(name, sheet_named(name))])
+            sheet = sheet_named(name)
+            model.append([name, described(name, sheet), grid_of(sheet)])
 
 
 def described(name: str, sheet: Sheet) -> str:
@@ -140,7 +124,7 @@ def sheet_named(name: str) -> Sheet:
     none.
     """
     own = own_sheet(name)
-    return own.sheet if own else glabels_sheet(keys()[name])
+    return grid_sheet(own.grid) if own else glabels_sheet(keys()[name])
 
 
 def is_sheet(name: str) -> bool:

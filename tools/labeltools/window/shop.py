@@ -4,9 +4,9 @@ was chosen the last time.
 
 import hashlib
 import time
-from collections.abc import Callable, Iterator, Mapping, Sequence
+from collections.abc import Iterator, Sequence
 from contextlib import suppress
-from dataclasses import dataclass
+from dataclasses import dataclass, field, replace
 from functools import reduce
 from pathlib import Path
 from typing import Any
@@ -18,7 +18,7 @@ from labeltools.common.budget import TABLE
 from labeltools.common.messages import Cancelled, Origin, Problem, Remedy, Talk, ToolError
 from labeltools.common.process import read_input
 from labeltools.common.report import LeftOut
-from labeltools.common.text import counted, shell_line, Text
+from labeltools.common.text import shell_line, Text
 from labeltools.lines.file import first_remark, last_remark, read_lines, Record, record_lines
 from labeltools.lines.symbologies import CODE128
 from labeltools.printing.job import planned
@@ -29,10 +29,8 @@ from labeltools.tables.codes import AUTO, FILL_ZEROS, kind_remedy, ZEROS_ARE_LOS
 from labeltools.tables.columns import column_word
 from labeltools.tables.first_labels import said_of_unused
 from labeltools.tables.guess import guess_of
-from labeltools.tables.money import NotMoney, PROGRAM_DECIMALS, read_price
 from labeltools.tables.old_encoding import old_encoding
-from labeltools.tables.prices import PricePattern
-from labeltools.tables.summary import labels_from, sentences
+from labeltools.tables.summary import labels_from, NO_BREAK, summary_line
 from labeltools.tables.table import Lines, lines_of_table
 from labeltools.tables.table_options import TableOptions
 from labeltools.window import memory
@@ -47,36 +45,28 @@ from labeltools.window.choices import (
     values_kept,
 )
 from labeltools.window.further import Further, typed_with
-from labeltools.window.harmless import keeps_good_rows
+from labeltools.window.harmless import keeps_good_rows, price_by
 from labeltools.window.memory import FILES, TABLES
 from labeltools.window.owners import KEPT_OF_TABLE, OF_TABLE, READ_BY, SUGGESTED
 
-Pressed = Callable[[], object]  # what a button does with labels, such as Print
 WAITING = ".waiting"  # what a file of lines ends with whose job is not over
 PATTERNS = ("0,00 €", "€0.00", "£0.00", "$0.00", "CHF 0.00", "0,00 kr", "0,00 zł")  # of prices
 
 
+@dataclass
 class WindowTalk(Talk):
     """The talk of work beside the window: what it is told is kept. Work that is stopped ends the
     next time that it talks; a printer that takes labels one by one gets no more of them.
     """
 
-    def __init__(
-        self,
-        doing: str = "",
-        is_sending: bool = False,
-        is_making: bool = False,
-        pressed: Pressed | None = None,
-    ) -> None:
-        self.doing = doing  # what is shown while it is not known how much there is to do
-        self.is_sending = is_sending  # labels, whose end is always shown
-        self.is_making = is_making  # labels
-        self.pressed = pressed  # while it goes on; what is made in place of it is for this, too
-        self.printer = ""  # that takes them one by one, until `stops` has one
-        self.notes: list[LeftOut] = []
-        self.done = 0  # of the work
-        self.total = 0  # of it, where that is known
-        self.stops: list[None] = []  # has one once somebody stopped it
+    doing: str = ""  # what is shown while it is not known how much there is to do
+    is_sending: bool = False  # labels, whose end is always shown
+    is_making: bool = False  # labels
+    printer: str = ""  # that takes them one by one, until `stops` has one
+    notes: list[LeftOut] = field(default_factory=list)
+    done: int = 0  # of the work
+    total: int = 0  # of it, where that is known
+    stops: list[None] = field(default_factory=list)  # has one once somebody stopped it
 
     def stop(self) -> None:
         """Stops the work."""
@@ -115,11 +105,19 @@ class MadeLabels:
 
     @property
     def summary(self) -> Text:
-        """What the keeper is told of those that can be printed; of their prices only if all can."""
+        """What the keeper is told of those that can be printed; of their kinds and prices only if
+        all can. What is left out is listed beside it.
+        """
         count = len(self.labels.labels)
         if count == self.lines.count:
-            return sentences(self.lines.totals)
-        return Text("{}.", labels_from(len(self.labels.prints), count))
+            return summary_line(replace(self.lines.totals, left_out=0), NO_BREAK)
+        return labels_from(len(self.labels.prints), count)
+
+    def records_of(self, sent: Prepared) -> tuple[Record, ...]:
+        """Returns the lines of labels that were sent."""
+        rows = {item.record.row for item in sent.prints}
+        records = read_lines(self.lines.output, self.table.path.name).records
+        return tuple(record for record in records if record.row in rows)
 
     @property
     def asked(self) -> Sequence[LeftOut]:
@@ -138,7 +136,7 @@ class MadeLabels:
     @property
     def helps(self) -> Sequence[Remedy]:
         """What helps with notes that are no question, but for what does harm."""
-        found = (note.problem.remedies for note in self.told if note not in self.asked)
+        found = (note.problem.remedies for note in self.notes if note not in self.asked)
         return [remedy for part in found for remedy in part if remedy not in self.harmful]
 
 
@@ -189,7 +187,11 @@ class Table:
         columns = {"code": "1", "title": "1", "price": "1"}
         words = words_of({**columns, "header-row": "" if header is None else str(header)})
         options = table_command.table_options([*words, *further.words])
-        self.guess = read_apart(guess_of, self.data, self.path.name, options, talk)
+        guess = read_apart(guess_of, self.data, self.path.name, options, talk)
+        # a doubt about one column is none
+        only = {kind: places[0] for kind, places in guess.doubts.items() if len(places) == 1}
+        doubts = {kind: places for kind, places in guess.doubts.items() if kind not in only}
+        self.guess = replace(guess, columns={**guess.columns, **only}, doubts=doubts)
         self.further = further
         self.key = "\n".join(self.guess.names) if any(self.guess.names) else ""
         self.kept = TABLES.all().get(self.key, {}) if self.key else {}
@@ -208,18 +210,6 @@ class Table:
             second = column_word(self.guess.names, self.guess.beside["title"])
             found.append(Remedy("title", second))
         return self.further._replace(given=reduce(typed_with, found, self.further.given))
-
-    @property
-    def columns(self) -> Mapping[str, int]:
-        """The columns by their kinds, with those that are the only ones which may be meant."""
-        doubts = self.guess.doubts
-        only = {kind: places[0] for kind, places in doubts.items() if len(places) == 1}
-        return {**self.guess.columns, **only}
-
-    @property
-    def doubts(self) -> Mapping[str, Sequence[int]]:
-        """The columns of which only the keeper knows the right one."""
-        return {kind: places for kind, places in self.guess.doubts.items() if len(places) > 1}
 
     def unprinted(self, choices: Choices) -> Iterator[LeftOut]:
         """Yields that there are columns of amounts, though no price is on the labels."""
@@ -252,23 +242,17 @@ class Table:
 
     def usual_form(self, chosen: Choices) -> Kept:
         """Returns how the prices of the column are to be printed if that is guessed."""
-        return {"price-as": self.guessed_pattern(chosen.price)}
-
-    def guessed_pattern(self, price: str | None) -> str:
-        """Returns how the prices of a column are to be printed if that is guessed; else nothing."""
-        return self.guess.formats.get(int(price or 0) - 1, "")
+        return {"price-as": self.guess.formats.get(int(chosen.price or 0) - 1, "")}
 
     def price_patterns(self, price: str) -> Iterator[tuple[str, str]]:
         """Yields how the prices of a column may be printed: the first one as it would be, and the
         pattern; the one that is guessed in front.
         """
-        example = self.guess.examples[int(price) - 1]
-        place = self.guess.beside.get("currency")
+        column, place = int(price) - 1, self.guess.beside.get("currency")
         currency = "" if place is None else self.guess.examples[place]
-        for pattern in filter(None, (self.guessed_pattern(price), *PATTERNS)):
-            with suppress(NotMoney):
-                money = read_price(example, most_decimals=PROGRAM_DECIMALS)
-                yield PricePattern.from_text(pattern).write(money, currency), pattern
+        for pattern in filter(None, (self.guess.formats.get(column), *PATTERNS)):
+            if text := price_by(pattern, self.guess.examples[column], currency):
+                yield text, pattern
 
     def made(self, choices: Choices, talk: WindowTalk) -> MadeLabels:
         """Returns what is made by choices; raises `ToolError` and `OSError`."""
@@ -316,19 +300,9 @@ class Table:
             return time.strftime("%x", time.localtime(self.last_printed.stat().st_mtime))
         return ""
 
-    def keep_printed(self, made: MadeLabels, sent: Prepared) -> None:
-        """Keeps the lines of the labels that went out, for the next `--new-since`."""
-        self.keep_records(self.records_of(made, sent))
-
-    def records_of(self, made: MadeLabels, sent: Prepared) -> tuple[Record, ...]:
-        """Returns the lines of the labels that were sent."""
-        rows = {item.record.row for item in sent.prints}
-        records = read_lines(made.lines.output, self.path.name).records
-        return tuple(record for record in records if record.row in rows)
-
-    def keep_records(self, new: Sequence[Record]) -> None:
-        """Keeps lines of labels that went out, and those that went out before, but for the same
-        codes.
+    def keep_printed(self, new: Sequence[Record]) -> None:
+        """Keeps the lines of labels that went out, for the next `--new-since`, and those that went
+        out before, but for the same codes.
         """
         if not self.key:
             return
@@ -338,15 +312,13 @@ class Table:
         with suppress(OSError):
             memory.write_own(self.last_printed, file_of([*old, *new]))
 
-    def keep_waiting(self, made: MadeLabels, sent: Prepared, job: SentJob) -> Path:
-        """Keeps the lines of the labels of a job until it is known whether they were printed, for a
-        later window too; returns their file.
+    def keep_waiting(self, records: Sequence[Record], count: int, job: SentJob) -> Path:
+        """Keeps the lines of the labels of a job, and how many these are, until it is known whether
+        they were printed, for a later window too; returns the file.
         """
-        name = f".{len(sent.prints)}.{job.name_of_file}{WAITING}"
-        path = self.last_printed.with_suffix(name)
+        path = self.last_printed.with_suffix(f".{count}.{job.name_of_file}{WAITING}")
         with suppress(OSError):
-            data = file_of(self.records_of(made, sent)) if self.key else b""
-            memory.write_own(path, data)
+            memory.write_own(path, file_of(records) if self.key else b"")
         return path
 
     def end_waiting(self, path: Path, is_printed: bool) -> None:
@@ -354,7 +326,7 @@ class Table:
         with suppress(OSError, ToolError):
             data = path.read_bytes()
             if is_printed and data:
-                self.keep_records(read_lines(data, path.name).records)
+                self.keep_printed(read_lines(data, path.name).records)
         path.unlink(missing_ok=True)
 
     def waiting_jobs(self) -> dict[SentJob, tuple[Path, int]]:
@@ -388,11 +360,6 @@ def further_of(kept: Kept) -> Further:
     """Returns the further options by which a table was read."""
     found = values_kept(kept, READ_BY)
     return Further(found.get("for_table", ""), found.get("given_table", ""))
-
-
-def skipped(count: int) -> Text:
-    """Returns how many rows are skipped."""
-    return counted("{} row is skipped", "{} rows are skipped", count)
 
 
 def row_of_note(note: LeftOut) -> int:

@@ -6,7 +6,7 @@ from typing import TYPE_CHECKING
 
 from labeltools.common.language import _
 from labeltools.window import memory
-from labeltools.window.ways import confirmed
+from labeltools.window.gtk import confirmed
 
 if TYPE_CHECKING:
     from labeltools.window.window import Window

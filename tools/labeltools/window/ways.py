@@ -5,10 +5,10 @@ label is compared before, as label-print does.
 import time
 from collections.abc import Callable, Mapping
 from concurrent.futures import Future
-from dataclasses import replace
+from dataclasses import dataclass, replace
 from functools import partial
 from pathlib import Path
-from typing import Any, NamedTuple, TYPE_CHECKING
+from typing import NamedTuple, TYPE_CHECKING
 
 from labeltools.common.language import _
 from labeltools.common.messages import ToolError
@@ -44,41 +44,47 @@ class Sent(NamedTuple):
     kind: str = INFO
 
 
+@dataclass
+class Watched:
+    """A job of CUPS that is not over: how many labels it has; if they count as printed then, the
+    table that they are of and the file of their lines; if they are of this window, the labels and
+    the name of their sheets; what was said of it last, what CUPS reported last, and since when CUPS
+    does not answer.
+    """
+
+    count: int
+    lines: tuple[Table, Path] | None = None
+    on_sheets: tuple[Prepared, str] | None = None
+    told: str = ""
+    state: JobState | None = None
+    away: float | None = None
+
+
 class WaysOut:
     """The ways out of a window."""
 
     def __init__(self, window: "Window") -> None:
         self.window = window
         self.widgets = window.widgets
-        self.waiting: dict[SentJob, tuple[Table, Path]] = {}  # jobs whose labels may be printed
-        # the labels of jobs of this window, and the names of their sheets
-        self.on_sheets: dict[SentJob, tuple[Prepared, str]] = {}
-        self.told: dict[SentJob, str] = {}  # what was said of each last
-        self.states: dict[SentJob, JobState] = {}  # what CUPS reported of each last
-        self.away: dict[SentJob, float] = {}  # since when CUPS does not answer about them
+        self.jobs: dict[SentJob, Watched] = {}
         self.sending: tuple[Prepared, bool]  # the labels that are sent, and whether they count
         self.wrong: set[int] = set()  # of these, by their lines: they would be drawn wrongly
-        self.of: tuple[Table, MadeLabels]  # what they are of
+        self.of: MadeLabels  # what they are of
         self.printing = Printing(window)
 
-    def send_out(
-        self, way: Way, labels: Prepared, counts: bool = True, is_rest: bool = False
-    ) -> None:
-        """Sends labels by a way, or the rest of those that were sent before, and keeps what is
-        chosen for the next table like this. A trial does not count as printed.
+    def send_out(self, way: Way, labels: Prepared, counts: bool = True) -> None:
+        """Sends labels by a way, and keeps what is chosen for the next table like this. A trial
+        does not count as printed.
         """
-        made = self.window.made
-        table = made.table
+        self.of = self.window.made
         chosen = self.window.choices()
-        table.keep_choices(chosen)
-        self.of = table, made
-        if not is_rest:
-            self.sending = labels, counts
-            self.wrong = set()
-        then = partial(self.on_sent, table, made, chosen.stock)
+        self.of.table.keep_choices(chosen)
+        self.sending = labels, counts
+        self.wrong = set()
+        then = partial(self.on_sent, chosen.stock)
         self.window.work.begin_work(partial(way, labels), then, WindowTalk(is_sending=True))
 
-    def on_sent(self, table: Table, made: MadeLabels, stock: str, sent: Sent) -> None:
+    def on_sent(self, stock: str, sent: Sent) -> None:
         """Says which labels went out, on sheets of a name, and from then on what becomes of a job
         of CUPS. Keeps them, those of a job once it is printed.
         """
@@ -86,30 +92,36 @@ class WaysOut:
         labels, counts = self.sending
         self.wrong.update(wrong)
         right = labels.without(self.wrong)
+        table, records = self.of.table, self.of.records_of(right)
+        watched = Watched(len(right.prints))
         if not counts:
             text = Text("{} It was a trial, so these labels do not count as printed.", text)
         elif job is None:
-            table.keep_printed(made, right)
+            table.keep_printed(records)
         else:
-            self.waiting[job] = table, table.keep_waiting(made, right, job)
-            self.on_sheets[job] = labels, stock
+            watched.lines = table, table.keep_waiting(records, watched.count, job)
+            watched.on_sheets = labels, stock
             self.begin_at(stock, behind(labels))
-        self.window.events.report(kind, text, job)
+        self.window.events.report(Event(kind, whole_sentence(text), None, job))
         for error in wrong.values():
-            self.window.events.report(ERROR, error.problem.line, about=error)
+            said = whole_sentence(error.problem.line)
+            self.window.events.report(Event(ERROR, said, None, error))
         if job is not None:
-            self.watch(job, len(right.prints))
+            self.jobs[job] = watched
+            self.watch(job)
 
     def keep_taken(self, problem: Exception) -> None:
         """Keeps the labels that a printer took before there was a problem, however it goes on."""
         if isinstance(problem, Unfinished):
             self.wrong.update(problem.wrong)
-            labels, counts = self.sending
-            done = problem.done - labels.job.options.after
-            if counts and done > 0:
-                table, made = self.of
-                taken = replace(labels, prints=labels.prints[:done])
-                table.keep_printed(made, taken.without(self.wrong))
+            self.keep_first(problem.done - self.sending[0].job.options.after)
+
+    def keep_first(self, count: int) -> None:
+        """Keeps the first ones of the labels that are sent: a printer has them."""
+        labels, counts = self.sending
+        if counts and count > 0:
+            taken = replace(labels, prints=labels.prints[:count]).without(self.wrong)
+            self.of.table.keep_printed(self.of.records_of(taken))
 
     def begin_at(self, stock: str, first: int) -> None:
         """Lets the next labels on sheets of a name begin at a label; 0 for those without a next."""
@@ -118,26 +130,20 @@ class WaysOut:
             self.window.owners.take_anew()
             self.window.keep_up()
 
-    def is_last_on_sheet(self, job: SentJob) -> bool:
-        """Returns whether no other labels on such sheets were sent behind those of a job."""
-        labels, stock = self.on_sheets[job]
-        return bool(PAPERS.get(sheet_key(stock), {}).get("first") == behind(labels))
-
-    def said_of_next(self, job: SentJob) -> str:
+    def said_of_next(self, labels: Prepared, stock: str) -> str:
         """Returns what is said of where the next labels begin, if such sheets are chosen."""
-        labels, stock = self.on_sheets[job]
         first, chosen = behind(labels), self.window.choices()
         is_chosen = chosen.sheet and sheet_key(chosen.stock) == sheet_key(stock)
-        if first < 2 or not is_chosen or not self.is_last_on_sheet(job):
+        if first < 2 or not is_chosen or not is_last_on_sheet(labels, stock):
             return ""
         return translated(Text("The next labels begin at label {} of the last sheet.", first))
 
     def look_back(self, table: Table) -> None:
         """Says what became of jobs of a table that were not over when a window was closed."""
         for job, (path, count) in table.waiting_jobs().items():
-            if job not in self.waiting:
-                self.waiting[job] = table, path
-                self.watch(job, count)
+            if job not in self.jobs:
+                self.jobs[job] = Watched(count, (table, path))
+                self.watch(job)
 
     def ask_of_job(self, job: SentJob, text: str) -> None:
         """Asks whether a job was printed."""
@@ -150,75 +156,74 @@ class WaysOut:
         """Counts the labels of a job as printed, or forgets them: then the next ones begin where
         these did.
         """
-        if job in self.waiting:
-            table, path = self.waiting.pop(job)
+        watched = self.jobs.pop(job)
+        if watched.lines:
+            table, path = watched.lines
             table.end_waiting(path, is_printed)
             if table is self.window.table:
                 self.window.offer_new(table)
-        if job in self.on_sheets:
-            is_last = self.is_last_on_sheet(job)
-            labels, stock = self.on_sheets.pop(job)
-            if is_last and not is_printed:
-                self.begin_at(stock, labels.job.options.first)
+        if watched.on_sheets and not is_printed and is_last_on_sheet(*watched.on_sheets):
+            labels, stock = watched.on_sheets
+            self.begin_at(stock, labels.job.options.first)
 
-    def watch(self, job: SentJob, count: int) -> None:
+    def watch(self, job: SentJob) -> None:
         """Looks at a job."""
         future = self.window.work.thread.submit(job.state)
-        future.add_done_callback(partial(GLib.idle_add, self.show_state, job, count))
+        future.add_done_callback(partial(GLib.idle_add, self.show_state, job))
 
-    def show_state(self, job: SentJob, count: int, future: "Future[JobState]") -> None:
-        """Shows what CUPS reports of a job of some labels if that is new, and looks again until it
-        is over.
-        """
+    def show_state(self, job: SentJob, future: "Future[JobState]") -> None:
+        """Shows what CUPS reports of a job if that is new, and looks again until it is over."""
         if not self.window.get_visible():
             return
-        name = self.window.of_printers.shown_name(job.queue)
-        error = future.exception()
+        watched, error = self.jobs[job], future.exception()
         if error is not None:
-            self.show_away(job, count, error)
+            self.show_away(job, error)
             return
-        self.away.pop(job, None)
+        watched.away = None
         state = future.result()
-        state = self.states[job] = state.after(self.states.get(job, state))
-        event = event_of(job, count, state, name)
-        if event is not None and state.is_printed and job in self.on_sheets:
-            event = replace(event, sentence=f"{event.sentence} {self.said_of_next(job)}".strip())
+        state = watched.state = state.after(watched.state or state)
+        name = self.window.of_printers.shown_name(job.queue)
+        event = event_of(job, watched.count, state, name)
+        if event is not None and state.is_printed and watched.on_sheets:
+            said = self.said_of_next(*watched.on_sheets)
+            event = replace(event, sentence=f"{event.sentence} {said}".strip())
         if state.is_over:
             if state.begun:
-                self.on_sheets.pop(job, None)  # some of its labels may be on paper
+                watched.on_sheets = None  # some of its labels may be on paper
             self.end_job(job, state.is_printed)
         else:
-            GLib.timeout_add(WATCH, self.watch, job, count)
-        if event is not None and self.told.get(job) != event.sentence:
-            self.told[job] = event.sentence
-            self.window.events.show_event(event)
+            GLib.timeout_add(WATCH, self.watch, job)
+        if event is not None and watched.told != event.sentence:
+            watched.told = event.sentence
+            self.window.events.report(event)
 
-    def show_away(self, job: SentJob, count: int, error: BaseException) -> None:
+    def show_away(self, job: SentJob, error: BaseException) -> None:
         """Shows that nobody says what became of a job, and looks again for a minute if CUPS does
         not answer; then how to see it, and asks whether it was printed.
         """
-        since = self.away.setdefault(job, time.monotonic())
+        watched = self.jobs[job]
+        watched.away = watched.away or time.monotonic()
         is_gone = isinstance(error, UnknownJob)
-        is_given_up = is_gone or time.monotonic() - since > AWAY
+        is_given_up = is_gone or time.monotonic() - watched.away > AWAY
         told = error if isinstance(error, UnknownJob) else job.unseen()
         name = self.window.of_printers.shown_name(job.queue)
         sent = counted(
             "{} label was sent to {} as job {}.",
             "{} labels were sent to {} as job {}.",
-            count,
+            watched.count,
             name,
             job.number,
         )
         hint = told.hint if is_given_up else Text("it is looked for again")
-        parts = sent, whole_sentence(told.what), whole_sentence(hint)
-        text = joined(" ", parts)
-        said = translated(text)
+        parts = sent, told.what, hint
+        said = " ".join(map(whole_sentence, parts))
         answer = (_("Was it printed?"), partial(self.ask_of_job, job, said))
-        if self.told.get(job) != said:
-            self.told[job] = said
-            self.window.events.report(WARNING, text, job, answer if is_given_up else None)
+        if watched.told != said:
+            watched.told = said
+            event = Event(WARNING, said, answer if is_given_up else None, job)
+            self.window.events.report(event)
         if not is_given_up:
-            GLib.timeout_add(WATCH, self.watch, job, count)
+            GLib.timeout_add(WATCH, self.watch, job)
 
     def ask_file(self) -> None:
         """Asks for a file, and writes it."""
@@ -244,9 +249,10 @@ class WaysOut:
             hint = Text("switch it on, or choose another printer")
             self.window.show_problem(ToolError(Text("{} is not found", printer.name), hint))
         elif printer.way == QUEUE:
-            key, talk = printer.key, WindowTalk(pressed=self.ask_and_print)
+            key = printer.key
+            self.window.pressed = self.ask_and_print
             work = self.window.work.begin_work
-            work(lambda _talk: queue_of(key), self.ask_queue, talk)
+            work(lambda _talk: queue_of(key), self.ask_queue, WindowTalk())
         else:
             self.ask_direct(printer)
 
@@ -254,7 +260,7 @@ class WaysOut:
         """Asks what is printed on a queue. If it has other dots than the labels, they are made for
         these, to be looked at.
         """
-        self.window.work.talk.pressed = None  # it is asked now
+        self.window.pressed = None  # it is asked now
         job = self.window.made.labels.job
         dpi = queue.dpi_for(not job.plan.sheet.is_single) or job.plan.dpi
         printer = self.window.of_printers.chosen
@@ -294,44 +300,28 @@ class WaysOut:
         """Sends the rest of the labels to a printer that took some of them. Whether the next one is
         on paper is asked where that is in doubt.
         """
-        done = problem.done
         labels, counts = self.sending
+        options = labels.job.options
+        done = problem.done - options.after
         if problem.is_doubtful:
-            label = labels.prints[done - labels.job.options.after].record
+            label = labels.prints[done].record
             text = _("Is label {number} on paper: {title} {price}?")
-            text = text.format(number=done + 1, title=label.title, price=label.price)
-            yes = _("Yes, go on with {number}").format(number=done + 2)
+            text = text.format(number=problem.done + 1, title=label.title, price=label.price)
+            yes = _("Yes, go on with {number}").format(number=problem.done + 2)
             is_there = self.window.asked_in_dialog(text, {True: yes, False: _("No, print it")})
             if is_there is None:
                 return
             done += is_there
-        if done - labels.job.options.after < len(labels.prints):
-            self.send_rest(problem.printer, done)
-        elif counts:
-            self.window.made.table.keep_printed(self.window.made, labels.without(self.wrong))
+            self.keep_first(done)
+        if done < len(labels.prints):
+            job = replace(labels.job, options=replace(options, after=options.after + done))
+            rest = replace(labels, job=job, prints=labels.prints[done:])
+            self.send_to(problem.printer, rest, counts)
 
-    def send_rest(self, printer: str, done: int) -> None:
-        """Sends the labels of a job to a printer that took some of them, behind these."""
-        labels, counts = self.sending
-        job = labels.job
-        after = replace(job, options=replace(job.options, after=done))
-        prints = labels.prints[done - job.options.after :]
-        self.send_to(printer, replace(labels, job=after, prints=prints), counts, True)
-
-    def send_to(
-        self, printer: str, labels: Prepared, counts: bool = True, is_rest: bool = False
-    ) -> None:
+    def send_to(self, printer: str, labels: Prepared, counts: bool = True) -> None:
         """Sends to a printer in the network or on USB what label-print sends."""
         name = self.window.of_printers.shown_name(printer)
-        self.send_out(partial(direct_sent, printer, name), labels, counts, is_rest)
-
-
-def confirmed(dialog: Any) -> bool:
-    """Shows a dialog; returns whether it is confirmed, as by Enter."""
-    dialog.set_default_response(Gtk.ResponseType.OK)
-    answer = dialog.run()
-    dialog.hide()
-    return bool(answer == Gtk.ResponseType.OK)
+        self.send_out(partial(direct_sent, printer, name), labels, counts)
 
 
 def behind(labels: Prepared) -> int:
@@ -339,6 +329,11 @@ def behind(labels: Prepared) -> int:
     job = labels.job
     cells = len(job.plan.places)
     return (job.options.first - 1 + len(labels.prints)) % cells + 1 if cells > 1 else 0
+
+
+def is_last_on_sheet(labels: Prepared, stock: str) -> bool:
+    """Returns whether no labels on sheets of a name were sent behind others."""
+    return bool(PAPERS.get(sheet_key(stock), {}).get("first") == behind(labels))
 
 
 def sent_to(count: int, printer: str) -> Text:

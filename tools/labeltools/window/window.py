@@ -6,7 +6,6 @@ import re
 from collections.abc import Callable, Iterable, Mapping, Sequence
 from contextlib import suppress
 from functools import partial
-from itertools import chain
 from pathlib import Path
 from types import SimpleNamespace
 from typing import Any
@@ -25,10 +24,11 @@ from labeltools.tables.money import ANY_TEXT
 from labeltools.window import sheets
 from labeltools.window.bar import Bar, ERROR, Event, INFO
 from labeltools.window.choices import Choices, COLUMNS, kept_of, values_kept, values_with
-from labeltools.window.designs import A_FILE, Designs, size_of
+from labeltools.window.designs import A_FILE, Designs, shipped
 from labeltools.window.further import Further
 from labeltools.window.gtk import (
     add_actions,
+    Answers,
     ApplicationWindow,
     Caption,
     do_soon,
@@ -44,10 +44,10 @@ from labeltools.window.gtk import (
 from labeltools.window.owners import OF_TABLE, Owners, READ_BY
 from labeltools.window.presets import add_presets
 from labeltools.window.printers import Printers
-from labeltools.window.questions import Answers, ASKED_AT, in_sentences, Questions, WHICH
+from labeltools.window.questions import ASKED_AT, in_sentences, Questions, WHICH
 from labeltools.window.result import ShownLabels
 from labeltools.window.sheet_dialog import SheetDialog
-from labeltools.window.shop import MadeLabels, Pressed, Table, WindowTalk
+from labeltools.window.shop import MadeLabels, Table, WindowTalk
 from labeltools.window.typed_label import ask_for_label
 from labeltools.window.ways import WaysOut
 from labeltools.window.work import STOPPED, Work
@@ -70,6 +70,7 @@ OTHERS: Mapping[str, Callable[[str], str]] = {
     "design": lambda path: Path(path).name if is_file(path) else "",
     "dpi": lambda dots: f"{dots} dpi" if dots.isdecimal() else "",
 }
+Pressed = Callable[[], object]  # what a button does with labels, such as Print
 SYNC = GObject.BindingFlags.SYNC_CREATE
 LISTED = 400  # milliseconds after a letter in which GTK shows the list of what fits
 
@@ -78,25 +79,27 @@ class Window(ApplicationWindow):
     """A window for one table. What `on_` and the like name in window.ui is a method."""
 
     __gtype_name__ = "LabelsWindow"
+    path: Path | None = None
+    table: Table | None = None  # once it is read
+    further = Further()  # options by which the table is read
+    header = 0  # the row of its names
     made: MadeLabels  # what was made last
+    has_labels = False  # that are chosen
+    is_new = False  # a table, whose labels were not shown yet
+    before: Table | None = None  # the one that was open when another one was opened
+    again: Table | None = None  # the one that is read again, by other words
+    pressed: Pressed | None = None  # what is done with labels once they are made
 
     def __init__(self, **properties: Any) -> None:
         super().__init__(**properties)
-        self.path: Path | None = None
-        self.table: Table | None = None  # once it is read
-        self.further = Further()  # options by which the table is read
-        self.header = 0  # the row of its names
-        self.has_labels = False  # that are chosen
-        self.is_new = False  # a table, whose labels were not shown yet
-        self.before: Table | None = None  # the one that was open when another one was opened
-        self.again: Table | None = None  # the one that is read again, by other words
         self.builder = Gtk.Builder()
         text = FILE.read_bytes()
         self.builder.extend_with_template(self, self.__gtype__, text.decode(), len(text))
         ids = re.findall(r' id="(\w+)"', text.decode())
         self.widgets: Any = SimpleNamespace(**{name: self.builder.get_object(name) for name in ids})
+        self.controls = {name: getattr(self.widgets, name) for name in CONTROLS}
         self.events = Bar(self)
-        self.questions = Questions(self)
+        self.questions = Questions(self.widgets)
         self.work = Work(self)
         self.ways = WaysOut(self)
         self.of_printers = Printers(self)
@@ -124,37 +127,27 @@ class Window(ApplicationWindow):
     def set_up(self) -> None:
         """Sets up what window.ui does not say."""
         for name, (lowest, highest) in RANGES.items():
-            self.control(name).set_range(lowest, highest)
+            self.controls[name].set_range(lowest, highest)
         for name, shown_of in OTHERS.items():
-            self.control(name).shown_of = shown_of
-        names = "printing", "adding", "choosing", "describing", "typing"
-        dialogs = map(self.control, names)
-        inner = ((dialog.get_header_bar(), dialog.get_content_area()) for dialog in dialogs)
-        for part in (self.widgets.head, self.get_child(), *chain(*inner)):
-            part.show_all()
-        for part in (
-            self.widgets.bar,
-            self.widgets.notes_box,
-            self.widgets.result,
-            self.widgets.working,
-        ):
+            self.controls[name].shown_of = shown_of
+        widgets = self.widgets
+        dialogs = widgets.printing, widgets.adding, widgets.choosing, widgets.describing
+        for dialog in (*dialogs, widgets.typing):
+            dialog.get_header_bar().show_all()
+            dialog.get_content_area().show_all()
+        widgets.head.show_all()
+        self.get_child().show_all()
+        for part in (widgets.bar, widgets.notes_box, widgets.result, widgets.working):
             part.foreach(Gtk.Widget.show_all)  # but not the part itself
         # GTK leaves what is in a closed fold in the order of the Tab key, unless it is hidden
         for fold in (self.widgets.more_of_table, self.widgets.more_of_paper, self.widgets.fold):
             fold.bind_property("expanded", fold.get_child(), "visible", SYNC)
-        first = self.widgets.first
         self.names_width = Gtk.SizeGroup(mode=Gtk.SizeGroupMode.HORIZONTAL)
         for part in (*self.widgets.of_label.get_children(), *self.widgets.of_paper.get_children()):
             if isinstance(part, Caption):
                 self.names_width.add_widget(part)
-        for choice, parts in {
-            self.widgets.roll: (self.widgets.size, self.widgets.size_caption),
-            self.widgets.sheet: (self.widgets.stock, first, *first.list_mnemonic_labels()),
-        }.items():
-            for part in parts:
-                choice.bind_property("active", part, "visible", SYNC)
         self.connect_after("key-press-event", self.on_key)
-        sheets.complete(self.widgets.completion, self.widgets.sheet_picture)
+        self.widgets.completion.set_match_func(lambda *_: True)  # the list has what fits
         self.drag_dest_set(Gtk.DestDefaults.ALL, [], Gdk.DragAction.COPY)
         self.drag_dest_add_uri_targets()
 
@@ -162,7 +155,7 @@ class Window(ApplicationWindow):
         """Lets labels go out, those that are still made too; but not while something is asked, or
         while others go out: then nothing else is chosen.
         """
-        is_asked = self.questions.is_open
+        is_asked = bool(self.questions.open)
         hint = _("First answer the question at the left") if is_asked else None
         self.widgets.print_button.set_tooltip_text(hint)
         is_idle = not self.work.talk.is_sending
@@ -173,26 +166,21 @@ class Window(ApplicationWindow):
         for name in ("save", "print", "command"):
             self.lookup_action(name).set_enabled(is_ready)
 
-    def control(self, name: str) -> Any:
-        """Returns the control of a field of choices."""
-        return getattr(self.widgets, name)
-
     def offer_sheets(self, entry: Any) -> None:
         """Offers the sheets that label-print lists for what is typed, first those that begin so."""
         sheets.fill_with_sheets(self.widgets.sheets, entry.get_text().lower())
         GLib.timeout_add(LISTED, show_first)
 
-    def show_problem(self, problem: ToolError, answers: Answers = ()) -> None:
+    def show_problem(self, problem: ToolError) -> None:
         """Says why something cannot be done, and what helps: one thing by a button beside it,
         several as a question, below the control that they are about, or in place of the page if
         the table is not read.
         """
-        remedies = [
-            remedy for remedy in problem.remedies if remedy.says and remedy.option != "after"
-        ]
-        found = [*self.remedies(problem.remedies), *self.ways_on(problem), *answers]
-        found += [*self.size_of_design(), *self.own_sheets.answers_to(problem)]
-        places = [ASKED_AT[remedy.option] for remedy in remedies if remedy.option in ASKED_AT]
+        remedies = self.remedies(problem.remedies)
+        found = [*remedies, *self.ways_on(problem), *self.size_of_design()]
+        found += self.own_sheets.answers_to(problem)
+        places = [ASKED_AT.get(remedy.option) for remedy in problem.remedies if remedy.says]
+        place = next(filter(None, places), None)
         if self.table is None and not remedies and self.before:
             self.go_back(self.before, problem)
             return
@@ -201,11 +189,11 @@ class Window(ApplicationWindow):
         if self.table is None and remedies:
             what, hint = map(whole_sentence, (problem.what, problem.hint))
             self.questions.ask_of_file(what, hint, found)
-        elif len(found) > 1 and places:
-            self.questions.below(places[0]).ask(in_sentences(problem.problem), found)
+        elif len(found) > 1 and place:
+            self.questions.below[place].ask(in_sentences(problem.problem), found)
         else:
             text = in_sentences(problem.problem)
-            self.events.show_event(Event(ERROR, text, found[0] if found else None))
+            self.events.report(Event(ERROR, text, found[0] if found else None))
 
     def remedies(self, found: Iterable[Remedy]) -> Answers:
         """Returns remedies as answers, each once."""
@@ -233,15 +221,14 @@ class Window(ApplicationWindow):
 
     def size_of_design(self) -> Answers:
         """Returns the answer that labels on a roll have the size that their design is drawn for."""
-        size = size_of(self.choices().design or "")
-        if not self.widgets.roll.get_active() or size is None:
+        chosen = self.choices()
+        design = shipped().get(chosen.design or "")
+        if design is None or not chosen.roll:
             return []
-        if sorted(size) == sorted(
-            (self.widgets.width.get_value(), self.widgets.height.get_value())
-        ):
+        if sorted(design.size) == sorted((chosen.width, chosen.height)):
             return []
-        sides = dict(zip(("width", "height"), size))
-        text = translated(Text("Labels of {}", size_text(size)))
+        sides = dict(zip(("width", "height"), design.size))
+        text = translated(Text("Labels of {}", size_text(design.size)))
         return [(text, partial(self.take_values, **sides))]
 
     def asked_in_dialog(self, text: str, answers: Mapping[bool, str]) -> bool | None:
@@ -266,19 +253,25 @@ class Window(ApplicationWindow):
         self.of_printers.thread.shutdown(wait=False)
 
     def on_stop(self, _button: Any) -> None:
-        """Ends work; where a table was being read, another one can be opened."""
-        if self.work.stop():
+        """Ends work at the next label; of labels that are sent it is said later what came of them.
+        Where a table was being read, another one can be opened.
+        """
+        self.work.talk.stop()
+        if not self.work.talk.is_sending:
+            self.work.leave()
+            self.let_out()
             if self.table is None:
                 self.path = None
                 self.widgets.head.set_subtitle("")
                 self.widgets.stack.set_visible_child_name("empty")
-            self.events.report(INFO, STOPPED)
+            self.events.report(Event(INFO, whole_sentence(STOPPED)))
 
     def open_table(self, path: Path, header: int | None = None, is_again: bool = False) -> None:
         """Reads a table, guesses its columns or takes those of the last time, and makes labels."""
         if not is_again:
             if self.work.talk.is_sending:
                 return
+            self.pressed = None
             self.before = self.table or self.before
         if self.table is not None or not is_again:
             self.again = self.table if is_again else None
@@ -297,8 +290,9 @@ class Window(ApplicationWindow):
         self.widgets.head.set_subtitle(path.name)
         self.widgets.stack.set_visible_child_name("work")
         doing = _("reading {file}…").format(file=path.name)
-        talk = WindowTalk(doing, pressed=self.work.talk.pressed if is_again else None)
-        self.work.begin_work(partial(Table, path, further, header), self.take_table, talk)
+        self.work.begin_work(
+            partial(Table, path, further, header), self.take_table, WindowTalk(doing)
+        )
 
     def go_back(self, table: Table, problem: ToolError) -> None:
         """Shows the table again that was open before a file that is no table, and says what that
@@ -323,9 +317,9 @@ class Window(ApplicationWindow):
         for number, (name, example) in enumerate(zip(guess.names, guess.examples), 1):
             name = name or _("column {number}").format(number=number)
             self.widgets.columns.append([with_example(name, example), str(number)])
-        columns = {field_of(kind): str(place + 1) for kind, place in table.columns.items()}
+        columns = {field_of(kind): str(place + 1) for kind, place in guess.columns.items()}
         self.take_values(**{**dict.fromkeys(COLUMNS, ""), "code": "1", **columns})
-        self.take_values(**dict.fromkeys(map(field_of, table.doubts)))  # only the keeper knows
+        self.take_values(**dict.fromkeys(map(field_of, guess.doubts)))  # only the keeper knows
         again = self.again.chosen if self.again and guess.names == self.again.guess.names else None
         if again:  # it keeps what is chosen
             own = values_kept(kept_of(again), OF_TABLE)
@@ -335,7 +329,7 @@ class Window(ApplicationWindow):
         self.owners.take_anew()
         self.widgets.given_table.word_by = partial(first_word, table.data)
         for name in COLUMNS:
-            widen(self.control(name), 0)
+            widen(self.controls[name], 0)
         self.further, self.header = table.further, guess.header
         values: dict[str, Any] = {**own, **dict(zip(READ_BY, self.further))}
         self.take_values(**{**values, "header_row": self.header})
@@ -357,12 +351,12 @@ class Window(ApplicationWindow):
             self.of_printers.settle(values.pop("printer"))
         for name, value in values.items():
             with suppress(KeyError, TypeError, ValueError):
-                self.control(name).set_property(CONTROLS[name], value)
+                self.controls[name].set_property(CONTROLS[name], value)
 
     def choices(self) -> Choices:
         """Returns what is chosen; while a file is asked for, the design before it."""
         found: dict[str, Any] = {
-            name: self.control(name).get_property(kind) for name, kind in CONTROLS.items()
+            name: self.controls[name].get_property(kind) for name, kind in CONTROLS.items()
         }
         found |= {name: int(found[name]) for name in ("header_row", "first")}
         if found["design"] == A_FILE:
@@ -378,18 +372,18 @@ class Window(ApplicationWindow):
         """Returns whether others are chosen than those that were made last, or may be, since the
         printer has not said yet what it has.
         """
-        return self.of_printers.is_silent or self.settled() != table.chosen
+        return self.of_printers.awaited is not None or self.settled() != table.chosen
 
     def when_made(self, act: Pressed) -> None:
         """Does something with the labels that are chosen, once they are made: a number or the name
         of a sheet may just have been typed.
         """
         for name in RANGES:
-            self.control(name).update()
+            self.controls[name].update()
         if self.are_made:
             act()
         else:
-            self.work.talk.pressed = act
+            self.pressed = act
             self.keep_up(True)
 
     def follow(self, *_control: Any) -> None:
@@ -422,16 +416,15 @@ class Window(ApplicationWindow):
         if self.table is not None and not self.work.talk.is_sending:
             self.has_labels = False
             doing = _("reading {file}…").format(file=self.table.path.name)
-            talk = WindowTalk(doing, is_making=True, pressed=self.work.talk.pressed)
-            answer = self.of_printers.answer
-            if answer and self.of_printers.is_silent:
-                self.work.wait_for(answer, partial(self.make_for, problem), talk)
+            talk = WindowTalk(doing, is_making=True)
+            if awaited := self.of_printers.awaited:
+                self.work.wait_for(awaited, partial(self.make_for, problem), talk)
                 return
             chosen = self.table.chosen = self.settled()
             self.questions.clear()
             self.of_printers.ask_about_chosen()
             codes: Sequence[int] = [*self.table.guess.codes]
-            doubts = {"code": codes, **self.table.doubts}
+            doubts = {"code": codes, **self.table.guess.doubts}
             for kind, places in doubts.items():
                 column = getattr(chosen, field_of(kind))
                 if column is None or kind == "code" and not column:
@@ -468,11 +461,11 @@ class Window(ApplicationWindow):
         answers = [
             (
                 with_example(guess.names[place] or str(place + 1), guess.examples[place]),
-                partial(self.control(field_of(kind)).set_active_id, str(place + 1)),
+                partial(self.controls[field_of(kind)].set_active_id, str(place + 1)),
             )
             for place in places
         ]
-        self.questions.below(kind).ask(translated(WHICH[kind]), answers)
+        self.questions.below[kind].ask(translated(WHICH[kind]), answers)
 
     def offer_patterns(self, table: Table) -> None:
         """Offers how the prices of the column may be printed."""
@@ -500,17 +493,17 @@ class Window(ApplicationWindow):
         """Shows the labels that were made, and what there is to say about them; then does what was
         pressed.
         """
-        pressed, self.work.talk.pressed = self.work.talk.pressed, None
+        pressed, self.pressed = self.pressed, None
         self.made = made
         self.result.show(made, self.remedies(made.helps), self.is_new)
         if made.asked:
             asked = made.asked[0]
             problem_of_all = in_sentences(asked.problem)
             text = whole_sentence(asked.problem.hint) if asked.origin else problem_of_all
-            self.questions.below("price").ask(text, self.remedies(asked.problem.remedies))
+            self.questions.below["price"].ask(text, self.remedies(asked.problem.remedies))
         if self.choices().new_only and not made.lines.count:
-            since = made.table.last_printed_on()
-            self.events.report(INFO, Text("nothing is new since {}", since))
+            said = Text("nothing is new since {}", made.table.last_printed_on())
+            self.events.report(Event(INFO, whole_sentence(said)))
         elif made.labels.prints or not made.asked:
             check_count(made.labels.job, made.labels.prints)
             self.has_labels = True

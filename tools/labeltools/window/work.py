@@ -10,8 +10,8 @@ from typing import Any, TYPE_CHECKING
 
 from labeltools.common.language import _
 from labeltools.common.messages import Cancelled, fault_of, of_system, ToolError
-from labeltools.common.text import Text
-from labeltools.window.bar import INFO
+from labeltools.common.text import Text, whole_sentence
+from labeltools.window.bar import Event, INFO
 from labeltools.window.gtk import GLib
 from labeltools.window.shop import WindowTalk
 
@@ -58,19 +58,18 @@ class Work:
         is_wanted = talk.is_sending or not talk.stops
         if not (is_wanted and self.window.get_visible()):
             return
-        is_last = talk is self.talk
-        if is_last:
+        pressed = self.window.pressed
+        if talk is self.talk:
             self.leave()
         if talk.is_sending:
             self.window.keep_up()
         try:
             with suppress(SystemExit):  # --help was typed
                 found = future.result()
-                if is_last:
-                    self.talk.pressed = talk.pressed
+                self.window.pressed = pressed
                 then(found)
         except Cancelled:
-            self.window.events.report(INFO, STOPPED)
+            self.window.events.report(Event(INFO, whole_sentence(STOPPED)))
         except (ToolError, OSError) as error:
             problem = of_system(error) if isinstance(error, OSError) else error
             self.window.ways.keep_taken(problem)
@@ -80,19 +79,12 @@ class Work:
         self.window.let_out()
 
     def leave(self) -> None:
-        """Shows no work any more: there is none that anyone waits for."""
-        self.talk = WindowTalk()
-        self.widgets.working.hide()
-
-    def stop(self) -> bool:
-        """Ends work at the next label; returns whether that is its end, which is not so of labels
-        that are sent.
+        """Shows no work any more, and forgets a press of Print: there is none that anyone waits
+        for.
         """
-        self.talk.stop()
-        if not self.talk.is_sending:
-            self.leave()
-            self.window.let_out()
-        return not self.talk.is_sending
+        self.talk = WindowTalk()
+        self.window.pressed = None
+        self.widgets.working.hide()
 
     def show_progress(self, talk: WindowTalk) -> bool:
         """Shows how far work is; returns whether it goes on."""
