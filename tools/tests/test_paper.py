@@ -594,7 +594,7 @@ class Users(unittest.TestCase):
 
     def test_sheets_by_size_and_by_two_makers(self) -> None:
         done = support.run("label-print", "--list-stock", "herma 70x37")
-        self.assertIn(b"Herma 4464: 24 of 70.2 by 37.04 mm", done.stdout)
+        self.assertIn(b"Herma 4464: 24 labels of 70.2 by 37.04 mm", done.stdout)
         done = support.run("label-print", "--list-stock", "herma", "70x37")
         self.assertEqual((done.returncode, done.stdout), (2, b""))
         done = support.run("label-print", "--list-stock", "Avery Zweckform L7160")

@@ -18,9 +18,8 @@ class Stock(unittest.TestCase):
 
     def test_names(self) -> None:
         for name in ("Avery L7160", "avery l 7160", "AVERY-L7160", "l7160"):
-            self.assertEqual(
-                str(stock.stock_sheet(name)), "21 of 63.99 by 38.1 mm on 210 by 297 mm", name
-            )
+            said = str(stock.stock_sheet(name).said)
+            self.assertEqual(said, "21 labels of 63.99 by 38.1 mm on 210 by 297 mm", name)
         self.assertEqual(len(stock.stock_sheet("Herma 4464").places), 24)
         self.assertAlmostEqual(stock.stock_sheet("Herma 4464").beyond(), 0.61, 2)
 
@@ -45,7 +44,7 @@ class Stock(unittest.TestCase):
         done = support.printed("--list-stock", "herma 4464")
         self.assertEqual(
             (done.returncode, done.stdout),
-            (0, b"Herma 4464: 24 of 70.2 by 37.04 mm on 210 by 297 mm\n"),
+            (0, b"Herma 4464: 24 labels of 70.2 by 37.04 mm on 210 by 297 mm\n"),
         )
         done = support.printed("--list-stock")
         self.assertGreater(len(done.stdout.splitlines()), 900)
@@ -85,15 +84,16 @@ class Stock(unittest.TestCase):
         """Shops say "Avery Zweckform" of what glabels has as Avery or as Zweckform."""
         sheet = stock.stock_sheet("l7160")
         self.assertEqual(stock.stock_sheet("Avery Zweckform L7160"), sheet)
-        found = list(stock.list_stock("Avery Zweckform L7160"))
-        self.assertIn("Avery L7160: 21 of 63.99 by 38.1 mm on 210 by 297 mm", found)
-        self.assertTrue(all("L7160" in line for line in found), found)
+        found = dict(stock.list_stock("Avery Zweckform L7160"))
+        self.assertEqual(found["Avery L7160"], sheet)
+        self.assertTrue(all("L7160" in name for name in found), found)
 
     def test_a_size_is_searched_for(self) -> None:
-        found = list(stock.list_stock("herma 70x37"))
-        self.assertIn("Herma 4464: 24 of 70.2 by 37.04 mm on 210 by 297 mm", found)
-        for line in found:
-            self.assertRegex(line, r"^Herma .* of (69|70)[.0-9]* by 3[67][.0-9]* mm")
+        found = dict(stock.list_stock("herma 70x37"))
+        self.assertIn("Herma 4464", found)
+        for name, sheet in found.items():
+            self.assertRegex(name, "^Herma ")
+            self.assertRegex(str(sheet.said), r"of (69|70)[.0-9]* by 3[67][.0-9]* mm")
         self.assertEqual(list(stock.list_stock("herma 37x7")), [])
 
     def test_nothing_is_found(self) -> None:

@@ -35,6 +35,7 @@ from labeltools.common.messages import Problem, ToolError
 from labeltools.common.text import capitalized, NOTHING, Text, translated
 from labeltools.drawing.forms import FORMS
 from labeltools.layout.layout import LaidOut
+from labeltools.paper.stock import stock_sheet
 from labeltools.printing.job import planned
 from labeltools.sending import cups as sending_cups, network, printers as sending
 from labeltools.sending.job import JobState, SentJob
@@ -2750,7 +2751,7 @@ class WindowTest(Keeper):
 
     def test_sheets_have_pictures(self) -> None:
         """Of their grid, by which a keeper knows hers."""
-        picture = sheets.grid_of(sheets.sheet_named("Avery L7160"))
+        picture = sheets.grid_of(stock_sheet("Avery L7160"))
         self.assertEqual((picture.get_width(), picture.get_height()), (28, 40))  # A4
         pixels, row = picture.get_pixels(), picture.get_rowstride()
         size = picture.get_n_channels()

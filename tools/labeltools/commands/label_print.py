@@ -397,8 +397,8 @@ def stock_lines(wanted: str) -> str:
     """Returns the sheets that have some words; raises `ToolError` if there is none."""
     hint = Text("try a part of the name, or the size of a cell, such as 70x37")
     what = Text("no sheet has all of these words: {}", wanted)
-    if lines := "\n".join(list_stock(wanted)):
-        return lines
+    if lines := [f"{name}: {sheet.said}" for name, sheet in list_stock(wanted)]:
+        return "\n".join(lines)
     raise ToolError(Text("{}: {}", what, hint))
 
 

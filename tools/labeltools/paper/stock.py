@@ -11,7 +11,7 @@ from typing import Iterator
 from xml.etree.ElementTree import Element, parse
 
 from labeltools.common.messages import BAD_ARGUMENTS, Remedy, ToolError
-from labeltools.common.text import Text
+from labeltools.common.text import counted, Text
 
 
 GRID = tuple(map(Remedy, ("grid", "cell")))
@@ -50,8 +50,11 @@ class Sheet:
         across = max(-min(lefts), max(lefts) + width - self.page[0])
         return max(across, -min(tops), max(tops) + height - self.page[1])
 
-    def __str__(self) -> str:
-        return f"{len(self.places)} of {size_text(self.cell)} on {size_text(self.page)}"
+    @property
+    def said(self) -> Text:
+        """How many labels it has, of which size."""
+        sizes = size_text(self.cell), size_text(self.page)
+        return counted("{} label of {} on {}", "{} labels of {} on {}", len(self.places), *sizes)
 
 
 @dataclass(frozen=True)
@@ -95,7 +98,7 @@ def grid_sheet(grid: Grid) -> Sheet:
     ]
     sheet = Sheet(grid.page, grid.cell, tuple(places))
     if sheet.beyond() > MOST_BEYOND:
-        message = Text("{}: the cells extend {:.2f} mm beyond the page", sheet, sheet.beyond())
+        message = Text("{}: the cells extend {:.2f} mm beyond the page", sheet.said, sheet.beyond())
         hint = Text("measure the sheet again, with its margin and gaps")
         raise ToolError(message, hint, BAD_ARGUMENTS)
     return sheet
@@ -132,9 +135,9 @@ def parts_named(name: str) -> list[PartName]:
     return [key for key in found if bare_name(key[0]) in named] or found
 
 
-def list_stock(words: str) -> Iterator[str]:
-    """Yields a line for each part of rectangles whose name or sheet has these words; a word such as
-    `70x37` is the size of a cell.
+def list_stock(words: str) -> Iterator[tuple[str, Sheet]]:
+    """Yields each part of rectangles whose name or sheet has these words; a word such as `70x37` is
+    the size of a cell.
     """
     wanted = words.lower().split()
     makers = [word for word in wanted if bare_name(word) in brands()]
@@ -142,10 +145,11 @@ def list_stock(words: str) -> Iterator[str]:
     for key in glabels_parts():
         with suppress(ToolError):
             sheet = glabels_sheet(key)
-            line = f"{' '.join(key)}: {sheet}"
+            name = " ".join(key)
+            line = f"{name}: {sheet.said}"
             is_maker = not makers or any(has_word(key, sheet, line, maker) for maker in makers)
             if is_maker and all(has_word(key, sheet, line, word) for word in others):
-                yield line
+                yield name, sheet
 
 
 def has_word(key: PartName, sheet: Sheet, line: str, word: str) -> bool:

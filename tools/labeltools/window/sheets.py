@@ -3,28 +3,17 @@ of the keeper's own by the names that she gives them: a grid on a page of A4. Le
 millimetres.
 """
 
-from collections.abc import Mapping
 from contextlib import suppress
 from dataclasses import dataclass
-from functools import cache, lru_cache
+from functools import lru_cache
 from typing import Any
 
 import cairo
 
 from labeltools.common.messages import ToolError
-from labeltools.common.text import counted, Text, translated
+from labeltools.common.text import Text, translated
 from labeltools.paper.sizes import A4
-from labeltools.paper.stock import (
-    glabels_parts,
-    glabels_sheet,
-    Grid,
-    grid_sheet,
-    list_stock,
-    parts_named,
-    Sheet,
-    Size,
-    size_text,
-)
+from labeltools.paper.stock import Grid, grid_sheet, list_stock, parts_named, Sheet, Size
 from labeltools.window.gtk import Gdk
 from labeltools.window.memory import SHEETS
 
@@ -103,28 +92,18 @@ def fill_with_sheets(model: Any, typed: str) -> None:
     model.clear()
     if len(typed) < 2:
         return
-    names = [name for name in SHEETS.all() if typed in name.lower()]
+    found: dict[str, Sheet] = {}
+    for name in SHEETS.all():
+        own = own_sheet(name)
+        if own and typed in name.lower():
+            with suppress(ToolError):
+                found[name] = grid_sheet(own.grid)
     with suppress(ToolError):  # glabels, which has the others, is not there
-        names += [line.partition(": ")[0] for line in list_stock(typed)]
-    for name in sorted(dict.fromkeys(names), key=lambda name: not name.lower().startswith(typed)):
-        with suppress(ToolError, KeyError):
-            sheet = sheet_named(name)
-            model.append([name, described(name, sheet), grid_of(sheet)])
-
-
-def described(name: str, sheet: Sheet) -> str:
-    """Returns what the list shows of a sheet."""
-    sizes = size_text(sheet.cell), size_text(sheet.page)
-    text = counted("{} label of {} on {}", "{} labels of {} on {}", len(sheet.places), *sizes)
-    return translated(Text("{}: {}", name, text))
-
-
-def sheet_named(name: str) -> Sheet:
-    """Returns the sheet of a name in the list; raises `ToolError`, and `KeyError` if there is
-    none.
-    """
-    own = own_sheet(name)
-    return grid_sheet(own.grid) if own else glabels_sheet(keys()[name])
+        for name, sheet in list_stock(typed):
+            found.setdefault(name, sheet)
+    for name in sorted(found, key=lambda name: not name.lower().startswith(typed)):
+        said = translated(Text("{}: {}", name, found[name].said))
+        model.append([name, said, grid_of(found[name])])
 
 
 def is_sheet(name: str) -> bool:
@@ -132,12 +111,6 @@ def is_sheet(name: str) -> bool:
     with suppress(ToolError):  # glabels, which has the list, is not there
         return bool(name and parts_named(name))
     return False
-
-
-@cache
-def keys() -> Mapping[str, tuple[str, str]]:
-    """Returns the keys of the parts of glabels, by their names."""
-    return {" ".join(key): key for key in glabels_parts()}
 
 
 @lru_cache(500)
