@@ -598,7 +598,7 @@ class Users(unittest.TestCase):
         done = support.run("label-print", "--list-stock", "herma", "70x37")
         self.assertEqual((done.returncode, done.stdout), (2, b""))
         done = support.run("label-print", "--list-stock", "Avery Zweckform L7160")
-        self.assertIn(b"Avery L7160: 21 of", done.stdout)
+        self.assertIn(b"Avery L7160: 21 labels of", done.stdout)
         done = support.run("label-print", "--list-stock", "nowhere")
         self.assertEqual(support.messages(done)[0][:37], "label-print: no sheet has all of thes")
 
