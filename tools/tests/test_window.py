@@ -2094,10 +2094,11 @@ class WindowTest(Keeper):
         begun = replace(off, begun=1)
         again = replace(off, begun=2, is_printed=True)  # CUPS was started again meanwhile
         twice = "CUPS has begun it twice: some labels may be there twice, look for them."
+        sent = "6 labels are sent to any."
         for before, state, said in (
-            (None, off, "6 labels are not printed: The printer is not responding."),
-            (None, begun, "Some of 6 labels may be on paper: The printer is not responding."),
-            (begun, again, f"any: {twice}"),
+            (None, off, f"{sent} It was not printed: The printer is not responding."),
+            (None, begun, f"{sent} Some labels may be on paper: The printer is not responding."),
+            (begun, again, f"{sent} {twice}"),
         ):
             job = SentJob("any", 7)
             self.window.ways.jobs[job] = ways.Watched(6, state=before)

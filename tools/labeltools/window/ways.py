@@ -383,27 +383,13 @@ def event_of(job: SentJob, count: int, state: JobState, name: str) -> Event | No
     """Returns what there is to say of a job of some labels in a state, on a printer of this name;
     nothing while it goes on.
     """
+    if state.is_printed and not (state.is_raw or state.is_repeated):
+        return Event(SUCCESS, whole_sentence(printed_on(count, name)), None, job)
+    said = " ".join(map(whole_sentence, (sent_to(count, name), state.told)))
     if state.is_repeated:
-        return Event(WARNING, whole_sentence(Text("{}: {}", name, state.told)), None, job)
-    if state.is_printed:
-        text = printed_on(count, name)
-        if state.is_raw:
-            text = joined(" ", (sent_to(count, name), whole_sentence(state.told)))
-        return Event(SUCCESS, whole_sentence(text), None, job)
-    why = state.trouble
-    if state.is_over and state.begun:
-        text = counted(
-            "{} label may be on paper: {}", "Some of {} labels may be on paper: {}", count, why
-        )
-        return Event(ERROR, whole_sentence(text), None, job)
+        return Event(WARNING, said, None, job)
     if state.is_over:
-        text = counted("{} label is not printed: {}", "{} labels are not printed: {}", count, why)
-        return Event(ERROR, whole_sentence(text), None, job)
+        return Event(SUCCESS if state.is_printed else ERROR, said, None, job)
     if state.is_waiting or state.trouble:
-        text = counted("{} label is waiting.", "{} labels are waiting.", count)
-        _queue, reason = state.trouble.fields if state.trouble else ("", state.said)
-        parts = text, Text("{}: {}", name, reason), state.cure
-        show = partial(open_settings, job.queue)
-        answer = _("Show the queue"), show
-        return Event(WARNING, " ".join(filter(None, map(whole_sentence, parts))), answer, job)
+        return Event(WARNING, said, (_("Show the queue"), partial(open_settings, job.queue)), job)
     return None
