@@ -165,7 +165,8 @@ class Trial:
         """Forgets what a queue has printed."""
         for path in self.captured.glob(f"{name}.*"):
             path.unlink()
-        (self.scheduler.folder / f"{name}.out").unlink(missing_ok=True)
+        # CUPS neither makes the file nor empties it
+        (self.scheduler.folder / f"{name}.out").write_bytes(b"")
 
     def print(self, name: str, kind: str) -> Outcome:
         """Prints labels on a queue; what a message asks for is given."""
