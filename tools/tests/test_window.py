@@ -1132,7 +1132,7 @@ class Walk(Keeper):
             self.widgets.print_some.set_active(True)
             self.widgets.print_rows.set_text("2 × 4")
             prints = self.window.ways.printing.wanted().labels.prints
-            self.assertEqual({item.record.origin_number for item in prints} - {2}, set())
+            self.assertEqual({item.record.origin.number for item in prints} - {2}, set())
             self.widgets.print_all.set_active(True)
 
     def step_keep_preset(self) -> None:
@@ -2589,7 +2589,7 @@ class WindowTest(Keeper):
         self.assertEqual(self.widgets.rows_count.get_text(), "2 rows are ticked: 8 labels")
         ways.labels, ways.printer = labels, ""
         self.widgets.print_rows.set_text("2, 3 x 5")
-        found = [label.record.origin_number for label in ways.wanted().labels.prints]
+        found = [label.record.origin.number for label in ways.wanted().labels.prints]
         self.assertEqual(found, [2] * 3 + [3] * 5)
         self.window.made = replace(self.window.made, labels=ways.wanted().labels)
         self.saved("a.pdf")

@@ -145,11 +145,6 @@ class Record(NamedTuple):
         return f"{symbology} {escaped(data).decode()}"
 
     @property
-    def origin_number(self) -> int:
-        """The number of its origin."""
-        return self.row or self.number
-
-    @property
     def origin(self) -> Origin:
         """What messages name: the row of the table, or else the line."""
         if self.row:

@@ -37,14 +37,14 @@ class Selection:
         """Returns whether the label of a line is asked for."""
         if self.codes and not self.codes.isdisjoint(names_of_code(record)):
             return True
-        return self.has_row(record.origin_number)
+        return self.has_row(record.origin.number)
 
     def not_in_input(self, records: Iterable[Record], known: Iterable[Origin]) -> Iterator[LeftOut]:
         """Yields what is asked for and not in the input; `known` are rows without a line."""
         rows = {place.number for place in known}
         codes: set[bytes] = set()
         for record in records:
-            rows.add(record.origin_number)
+            rows.add(record.origin.number)
             if self.codes:
                 codes.update(names_of_code(record))
         if named := listed(self.lacking(rows)):

@@ -39,7 +39,7 @@ class Progress:
         self.again = job.options.again
         self.has_tables = len({record.table for record in records}) > 1
         # whether a number is that of one line: several tables have rows of the same numbers
-        self.is_clear = len({record.origin_number for record in records}) == len(records)
+        self.is_clear = len({record.origin.number for record in records}) == len(records)
         outlet.on_way = []
         outlet.done = job.options.after  # labels on paper or in the journal, and the wrong ones
         self.taken = 0

@@ -57,7 +57,7 @@ class Preview:
     def page_of(self, row: str) -> int:
         """Returns the number of the page, from 1, that has the label of a row; 0 for none."""
         for number, item in enumerate(self.prints, 1):
-            if str(item.record.origin_number) == row:
+            if str(item.record.origin.number) == row:
                 return self.press.job.pages_of(number)
         return 0
 

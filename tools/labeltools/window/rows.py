@@ -74,7 +74,7 @@ class Rows:
 
     def typed(self, prints: Sequence[LaidOut]) -> str:
         """Returns the rows that are marked as they are typed."""
-        usual = Counter(label.record.origin_number for label in prints)
+        usual = Counter(label.record.origin.number for label in prints)
         marked = {row[ROW]: row[MANY] for row in self.widgets.rows if row[MARK]}
         wanted = {row: None if usual[row] == many else many for row, many in marked.items()}
         found = (
@@ -90,8 +90,8 @@ class Rows:
         for old in printed:
             before.setdefault(old.key, set()).add(old.printed_beside)
         parts = parts_in(typed)
-        records = {item.record.origin_number: item.record for item in prints}
-        usual = Counter(item.record.origin_number for item in prints)
+        records = {item.record.origin.number: item.record for item in prints}
+        usual = Counter(item.record.origin.number for item in prints)
         self.widgets.rows.clear()
         for number, record in sorted(records.items()):
             part = part_with(number, parts)
@@ -172,7 +172,7 @@ def labels_of_rows(prints: Sequence[LaidOut], parts: Sequence[RowsPart]) -> Sequ
     found: list[LaidOut] = []
     for _, same in groupby(prints, key=lambda label: label.record.number):
         labels = [*same]
-        part = part_with(labels[0].record.origin_number, parts)
+        part = part_with(labels[0].record.origin.number, parts)
         if part:
             found += labels if part.many is None else labels[:1] * part.many
     return found
