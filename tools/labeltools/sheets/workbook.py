@@ -131,7 +131,7 @@ def tree_of(archive: ZipFile, part: str, but: re.Pattern[bytes] | None = None) -
 
 
 def parts_of(archive: ZipFile, part: str, outer: str, name: str) -> Iterator[Element]:
-    """Yields the elements of a name that are in one of a part, each whole, and forgets them."""
+    """Yields the elements of a name that are in others of a part, each whole, and forgets them."""
     builder = TreeBuilder()
     top = builder.start("", {})
     parser = XMLParser(target=builder)
@@ -143,14 +143,14 @@ def parts_of(archive: ZipFile, part: str, outer: str, name: str) -> Iterator[Ele
             is_read = not data
             if is_read:
                 parser.close()
-            within = top.find(outer)
-            if within is None:
-                continue
-            whole = within[:] if is_read else within[:-1]  # the last one may go on
-            del within[: len(whole)]
-            for element in map(plainly_named, whole):
-                if element.tag == name:
-                    yield element
+            found = top.findall(outer)
+            for within in found:
+                goes_on = within is found[-1] and not is_read  # and its last element, too
+                whole = within[:-1] if goes_on else within[:]
+                del within[: len(whole)]
+                for element in map(plainly_named, whole):
+                    if element.tag == name:
+                        yield element
 
 
 def plainly_named(tree: Element) -> Element:
