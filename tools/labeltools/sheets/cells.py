@@ -93,17 +93,13 @@ class Special:
     """A cell of a spreadsheet that is more than a text.
 
     `value` is what the file has, which messages quote; `number` is what it counts, whatever its
-    format shows, None where it has none. Each method raises `RowError` where the cell has nothing
-    of the kind.
+    format shows, None where it has none; `cell_kind` is what it is by its type. Each method raises
+    `RowError` where the cell has nothing of the kind.
     """
 
     value: str
     number: Decimal | None = None
-
-    @property
-    def cell_kind(self) -> CellKind:
-        """What it is by its type."""
-        return CellKind.TEXT
+    cell_kind: CellKind = CellKind.TEXT
 
     def shown(self) -> str:
         """Returns the text that the spreadsheet shows."""
@@ -141,11 +137,7 @@ class Truth(Special):
     """A truth value, which chooses rows, but which no label can show; `value` is its text."""
 
     value: str
-
-    @property
-    def cell_kind(self) -> CellKind:
-        """What it is by its type."""
-        return CellKind.TRUTH
+    cell_kind = CellKind.TRUTH
 
     def shown(self) -> str:
         """Returns its text."""
@@ -166,11 +158,6 @@ class Mark(Enum):
     LOWERED = "₀₁₂₃₄₅₆₇₈₉"
     STRUCK = "-"
     WHITE = " "
-
-    @property
-    def moves(self) -> bool:
-        """Whether letters are above or below the others."""
-        return self in (Mark.RAISED, Mark.LOWERED)
 
 
 class Lettering(NamedTuple):
@@ -224,7 +211,7 @@ def text_of_runs(runs: Sequence[Run]) -> str | Fault:
 
 def moved(text: str, mark: Mark) -> str:
     """Returns a text with the signs of digits that are raised or lowered."""
-    if not mark.moves:
+    if mark not in (Mark.RAISED, Mark.LOWERED):
         return text
     return text.translate(str.maketrans("0123456789", mark.value))
 

@@ -168,16 +168,17 @@ def not_understood(number_format: str, is_code: bool = False) -> RowError:
     return RowError(what, AS_TEXT)
 
 
-def is_of_time(number_format: str, value: Decimal) -> bool:
-    """Returns whether a format shows a number as a date or a time.
+@lru_cache(maxsize=256)
+def is_of_time(number_format: str) -> bool:
+    """Returns whether a format shows numbers as dates or times.
 
-    >>> is_of_time("d.m", Decimal(46359)), is_of_time("0.00;@", Decimal(3))
+    >>> is_of_time("d.m"), is_of_time("0.00;@")
     (True, False)
     """
     if number_format == DATE_OF_LANGUAGE:
         return True
     try:
-        return bool(section_for(number_format, value)[0].moment)
+        return any(section.moment for section in sections_of(number_format))
     except RowError:
         return is_date_format(number_format)
 

@@ -6,6 +6,7 @@ from dataclasses import dataclass, field
 from datetime import date, datetime
 from decimal import Decimal
 from itertools import groupby
+from operator import itemgetter
 from xml.etree.ElementTree import Element, fromstring, iterparse
 from zipfile import ZipFile
 
@@ -17,11 +18,11 @@ from labeltools.sheets.cells import (
     CellKind,
     CONDITION,
     Fault,
+    formed,
     Lettering,
     Mark,
     NO_LETTERS,
     no_value,
-    RAISED,
     Run,
     Special,
     text_of_runs,
@@ -79,7 +80,7 @@ class OdsNumber(Special):
     number: Decimal | None = field()  # not the default of other cells
     moment: str
     formatter: Formatter
-    cell_kind: CellKind = CellKind.NUMBER
+    cell_kind: CellKind = field()
 
     def agree(self) -> None:
         """Raises `RowError` where the text has a number without a value, or is cut off."""
@@ -206,14 +207,8 @@ def tables_of(archive: ZipFile, styles: Styles, formatter: Formatter) -> Iterato
         for style in fromstring(archive.read("styles.xml")).iter():
             if style.tag in STYLES:
                 styles.take_style(plainly_named(style))
-    table: Element | None = None
-
-    def with_table(element: Element) -> Element | None:
-        nonlocal table
-        table = element if element.tag == "table" else table
-        return table
-
-    for sheet, elements in groupby(parts_of_content(archive), with_table):
+    for sheet, parts in groupby(parts_of_content(archive), itemgetter(0)):
+        elements = map(itemgetter(1), parts)
         if sheet is None:
             for style in elements:
                 styles.take_style(style)
@@ -224,10 +219,12 @@ def tables_of(archive: ZipFile, styles: Styles, formatter: Formatter) -> Iterato
         yield Worksheet(said.get("name", ""), is_visible, rows)
 
 
-def parts_of_content(archive: ZipFile) -> Iterator[Element]:
-    """Yields the styles of a file, and each sheet as it begins, before its columns and rows, which
-    are whole. What is in them is none of these; behind all sheets are those of other files.
+def parts_of_content(archive: ZipFile) -> Iterator[tuple[Element | None, Element]]:
+    """Yields the styles of a file, and the columns and rows of each sheet behind the sheet: all of
+    them whole, each with its sheet. What is in them is none of these; behind all sheets are those
+    of other files.
     """
+    sheet: Element | None = None
     open_rows = 0
     with archive.open("content.xml") as stream:
         for event, element in iterparse(stream, ("start", "end")):
@@ -235,13 +232,14 @@ def parts_of_content(archive: ZipFile) -> Iterator[Element]:
             if event == "start" and name == ROW:
                 open_rows += 1
             elif event == "start" and name == SHEET and not open_rows:
-                yield Element("table", element.attrib)
+                sheet = Element("table", element.attrib)
+                yield sheet, sheet
             elif event == "start" and name == OF_OTHERS:
                 return
             elif event == "end" and name in WHOLE:
                 open_rows -= name == ROW
                 if not open_rows:
-                    yield plainly_named(element)
+                    yield sheet, plainly_named(element)
                     element.clear()
 
 
@@ -333,11 +331,10 @@ class OdsSheet:
         kind = said.get("value-type", "")
         if kind in NUMBERS:
             value, moment = said.get("value", ""), said.get("date-value", "")
-            if form.mark.moves:
-                return Fault(RAISED, AS_TEXT, value or text)
             exact = exact_of(value) if value else None
             own = CellKind.MOMENT if kind in ("date", "time") else CellKind.NUMBER
-            return OdsNumber(value or text, text, exact, moment, self.formatter, own)
+            number = OdsNumber(value or text, text, exact, moment, self.formatter, own)
+            return formed(number, form)
         if kind == "error":
             return Fault(no_value(text).what, value=text)
         if kind == "boolean":

@@ -11,7 +11,7 @@ from zipfile import ZipFile
 
 from labeltools.common.messages import Problem, RowError, Talk, ToolError
 from labeltools.common.text import Text
-from labeltools.sheets import number_format
+
 from labeltools.sheets.cells import (
     Cell,
     CellKind,
@@ -27,7 +27,15 @@ from labeltools.sheets.cells import (
     text_of_runs,
     Truth,
 )
-from labeltools.sheets.number_format import BUILT_IN, BUILT_IN_DATES, Formatter, LANGUAGE
+from labeltools.sheets.number_format import (
+    BUILT_IN,
+    BUILT_IN_DATES,
+    digits_of,
+    Formatter,
+    is_of_time,
+    LANGUAGE,
+    sections_of,
+)
 from labeltools.sheets.rows import Merge, Row
 from labeltools.sheets.workbook import (
     cell_or_fault,
@@ -75,11 +83,12 @@ XlsxRuns = Sequence[
 
 
 class Look(NamedTuple):
-    """A style: its number format, the form of its letters, and why it shows no text, if it puts
-    something around texts that is not understood.
+    """A style: its number format, the kind of the numbers that it shows, the form of its letters,
+    and why it shows no text, if it puts something around texts that is not understood.
     """
 
     number_format: str
+    cell_kind: CellKind
     form: Lettering
     text_problem: RowError | None = None
 
@@ -115,7 +124,8 @@ class Book:
         found = self.numbers.get((value, style))
         if found is None:
             look = self.looks[style]
-            number = XlsxNumber(value, exact_of(value), look.number_format, self)
+            exact = exact_of(value)
+            number = XlsxNumber(value, exact, look.cell_kind, look.number_format, self)
             if len(self.numbers) >= MOST_NUMBERS:
                 self.numbers.clear()
             found = self.numbers[value, style] = formed(number, look.form)
@@ -137,18 +147,11 @@ class XlsxNumber(Special):
 
     value: str
     number: Decimal = field()  # not the default of other cells
+    cell_kind: CellKind = field()
     number_format: str
     book: Book
-    is_moment: bool | None = None
     text: str = ""
     is_kept: bool = False
-
-    @property
-    def cell_kind(self) -> CellKind:
-        """What it is by its format; a number may be shown as a date or a time."""
-        if self.is_moment is None:
-            self.is_moment = number_format.is_of_time(self.number_format, self.number)
-        return CellKind.MOMENT if self.is_moment else CellKind.NUMBER
 
     def shown(self) -> str:
         """Returns the number as its format shows it."""
@@ -170,7 +173,7 @@ class XlsxNumber(Special):
 
     def digits(self, is_data: bool) -> str:
         """Returns the digits of a whole number; as data it is shown so."""
-        return number_format.digits_of(self.number_format, self.number, is_data)
+        return digits_of(self.number_format, self.number, is_data)
 
 
 def rows_of_xlsx(
@@ -304,16 +307,17 @@ def looks_of(archive: ZipFile, part: str) -> Looks:
     ]
     looks: dict[str, Look] = {}
     for found in tree.iterfind("cellXfs/xf"):
-        number_format = by_number.get(found.get("numFmtId", "0"), LANGUAGE)
+        shown = by_number.get(found.get("numFmtId", "0"), LANGUAGE)
         form = numbered_lettering(found.attrib, fonts, are_filled)
-        looks[str(len(looks))] = Look(number_format, form, text_problem(number_format))
+        kind = CellKind.MOMENT if is_of_time(shown) else CellKind.NUMBER
+        looks[str(len(looks))] = Look(shown, kind, form, text_problem(shown))
     of_conditions = [
         lettering_of(found.iterfind("font/*")).within(
             Lettering(is_filled=found.find("fill/*") is not None)
         )
         for found in tree.iterfind("dxfs/dxf")
     ]
-    return Looks(looks or {"0": Look("General", PLAIN)}, of_conditions)
+    return Looks(looks or {"0": Look("General", CellKind.NUMBER, PLAIN)}, of_conditions)
 
 
 def numbered_lettering(
@@ -399,7 +403,7 @@ def text_problem(style: str) -> RowError | None:
     """Returns why a number format shows no text: it may put something around it, as `"SKU-"@`."""
     if "@" in style and style != "@":
         try:
-            number_format.sections_of(style)
+            sections_of(style)
         except RowError as problem:
             return problem
     return None
