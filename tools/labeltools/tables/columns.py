@@ -40,13 +40,14 @@ MARKS = "\u200e\u200f\u061c"  # of the direction, which spreadsheets put around 
 
 @dataclass(frozen=True)
 class Column:
-    """A column that was asked for: its place, from 0, how messages call it, and the name of its
-    texts in a design: its own where that is sure, else its number.
+    """A column that was asked for: its place, from 0, how messages call it, the name of its texts
+    in a design: its own where that is sure, else its number; and what the row of names has for it.
     """
 
     place: int
     title: Text
     name: str
+    header: str
 
     def cell_error(self, problem: RowError) -> RowError:
         """Returns the error of a cell, with the column in front."""
@@ -171,7 +172,7 @@ def column_of(argument: str, head: Start) -> Column:
         refuse_wide_name(place, name, head.row)
     number = place + 1
     title = Text("column {} ({})", number, quoted(name)) if name else Text("column {}", number)
-    return Column(place, title, column_word(head.names, place) if name else str(number))
+    return Column(place, title, column_word(head.names, place) if name else str(number), name)
 
 
 def column_word(names: Sequence[str], place: int) -> str:

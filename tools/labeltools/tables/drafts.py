@@ -68,13 +68,9 @@ class DraftReader:
     columns: Columns[Column]
     names: tuple[str, ...]
     findings: Findings
+    variants: Variants
     right_codes: int = 0
     other_names: int = 0  # the row that names other columns, or the same in other places
-
-    def __post_init__(self) -> None:
-        self.variants = Variants(self.columns, self.findings)
-        place = self.columns.code.place
-        self.code_name = self.names[place] if place < len(self.names) else ""
 
     def draft(self, row: Row) -> Draft | None:
         """Returns what becomes of a row, None where it is not marked; raises `RowError`."""
@@ -83,18 +79,19 @@ class DraftReader:
         place = self.columns.code.place
         cell = row.cells[place] if place < len(row.cells) else ""
         typed = cell if isinstance(cell, str) else cell.value
-        may_be_names = not typed.isdigit() or typed == self.code_name
+        may_be_names = not typed.isdigit() or typed == self.columns.code.header
         if may_be_names or self.other_names:  # few rows
             self.refuse_names(row)
-        if self.columns.variants_of:
-            self.variants.see_title(row)
         columns = self.columns
+        if columns.variants_of:
+            self.variants.see_title(columns.variants_of, row)
         if not all(column.has_value(row, value) for column, value in columns.where):
             return None
         code = self.row_code(row)
         self.right_codes += 1
         title = "\n".join(self.texts(columns.title, row, code).values())
-        title = title or self.variants.title(row)
+        if columns.variants_of and not title:
+            title = self.variants.title(columns.variants_of, row)
         texts = self.texts(columns.text, row, code)
         currency = self.row_currency(row) if columns.currency else None
         copies = columns.copies.copies(row) if columns.copies else 1
@@ -127,7 +124,7 @@ class DraftReader:
         code, *others = (*texts[place : place + 1], *texts[:place], *texts[place + 1 :])
         if not self.names:
             return False
-        is_name = bool(code) and (code == self.code_name or is_name_of_codes(code))
+        is_name = bool(code) and (code == self.columns.code.header or is_name_of_codes(code))
         if is_name:
             return any(others) and not any(map(HAS_DIGIT.search, others))
         named = sum(text in self.names for text in texts if text)
@@ -135,9 +132,8 @@ class DraftReader:
         if are_few:
             return False
         for column in self.columns.asked:
-            name = self.names[column.place] if column.place < len(self.names) else ""
             text = texts[column.place] if column.place < len(texts) else ""
-            if text != name and (text or name in texts):
+            if text != column.header and (text or column.header in texts):
                 return True
         return False
 
