@@ -4,7 +4,8 @@ evidence speaks for, and what only the keeper knows.
 
 from collections.abc import Collection, Mapping, Sequence
 
-from labeltools.tables.code_readings import CodeReading, is_isbn_10, LEAST
+from labeltools.tables.code_readings import CodeReading
+from labeltools.tables.codes import ean_of_isbn
 from labeltools.tables.column_samples import (
     ColumnSample,
     FEW,
@@ -12,7 +13,7 @@ from labeltools.tables.column_samples import (
     is_amount,
     is_money,
     is_paid,
-    Plainness,
+    LEAST,
 )
 from labeltools.tables.evidence import Decision, evidences_of, probable_choice
 from labeltools.tables.facts import (
@@ -25,7 +26,6 @@ from labeltools.tables.facts import (
     is_of_books,
     is_of_other,
     is_paid_beside,
-    is_plain_title,
     may_be_amounts,
     may_be_code,
     may_be_taxed,
@@ -35,6 +35,7 @@ from labeltools.tables.facts import (
     PRICE,
     Samples,
     TITLE,
+    TITLES,
     with_taxes,
 )
 from labeltools.tables.variants import variants_in
@@ -93,7 +94,7 @@ def code_candidates(columns: Samples) -> Samples:
     may_be = {place: column for place, column in columns.items() if may_be_code(column)}
     may_be = {place: own for place, own in may_be.items() if not own.is_running} or may_be
     if any(column.has_codes for column in may_be.values()):
-        may_be = {place: own for place, own in may_be.items() if not own.mostly_pass(is_isbn_10)}
+        may_be = {place: own for place, own in may_be.items() if not own.mostly_pass(ean_of_isbn)}
     checked = {place: column for place, column in may_be.items() if column.has_codes}
     fullest = max(checked, key=lambda place: checked[place].filled, default=-1)
     again = [
@@ -166,7 +167,8 @@ def name_parts(columns: Samples, taken: Collection[int]) -> Sequence[int]:
     if another one has the whole name, or if things have titles, too.
     """
     free = title_candidates(columns, taken)
-    plain = {place: column for place, column in free.items() if is_plain_title(column)}
+    named = (*TITLES, "beside-titles")
+    plain = {place: column for place, column in free.items() if column.is_plain(*named)}
     parts = [place for place, column in plain.items() if column.says("parts")]
     names = [place for place in plain if plain[place].says("titles") and place not in parts]
     if not parts or len(parts) + len(names) != 2:
@@ -256,7 +258,7 @@ def without_same(columns: Samples) -> Samples:
 def is_plain_price(column: ColumnSample) -> bool:
     """Returns whether a name says that customers pay it, and no more."""
     is_own = not column.says("advised", "regular", "sale")
-    return is_own and column.plainness(*PAID) is Plainness.PLAIN
+    return is_own and column.is_plain(*PAID)
 
 
 def net_places(columns: Samples) -> Sequence[int]:

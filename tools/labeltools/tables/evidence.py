@@ -9,8 +9,7 @@ from math import exp
 from pathlib import Path
 
 from labeltools.common.word_lists import lists_by_section
-from labeltools.tables.code_readings import LEAST
-from labeltools.tables.column_samples import ColumnSample, has_unit, Plainness, SPACE
+from labeltools.tables.column_samples import ColumnSample, has_unit, LEAST, SPACE
 from labeltools.tables.facts import charged, CODE, PAID, PRICE, Samples, TITLE, TITLES
 
 # kinds of words that say plainly what a column is, beside further ones that are known
@@ -56,7 +55,7 @@ def of_titles(columns: Samples) -> Mapping[int, Evidence]:
     return {
         place: said_by(column, "titles", "short")
         | {
-            "plain": float(column.plainness(*TITLE_WORDS) is Plainness.PLAIN),
+            "plain": float(column.is_plain(*TITLE_WORDS)),
             "spaces": column.passing_part(SPACE.search),
             "first": float(place == min(columns)),
             "again": float(place in again),
@@ -71,8 +70,10 @@ def of_prices(columns: Samples) -> Mapping[int, Evidence]:
     return {
         place: said_by(column, "prices", "paid", "sold", "advised")
         | {
-            "plain": float(column.plainness(*PRICE_WORDS) is Plainness.PLAIN),
-            "of-some-kind": float(column.plainness(*PRICE_WORDS) is Plainness.OF_SOME_KIND),
+            "plain": float(column.is_plain(*PRICE_WORDS)),
+            "of-some-kind": float(
+                not column.name_words <= column.says(*PRICE_WORDS) | column.shared
+            ),
             "unknown": float(is_unknown(column)),
             "charged": float(charged(column) >= LEAST),
             "units": column.passing_part(has_unit),
