@@ -9,6 +9,7 @@ from labeltools.common.column_names import name_of
 from labeltools.common.messages import Problem, quoted, Remedy, RowError
 from labeltools.common.text import Text
 from labeltools.lines.symbologies import SYMBOLOGIES
+from labeltools.sheets.cells import DATA, DIGITS, PRICE
 from labeltools.sheets.encoding import twice_encoded
 from labeltools.sheets.number_format import EXACT
 from labeltools.sheets.rows import Row
@@ -139,9 +140,13 @@ class DraftReader:
 
     def row_code(self, row: Row) -> Code:
         """Returns the code of a row; raises `RowError`."""
-        rules = self.rules(row) if self.columns.symbology else self.options.codes
+        rules = self.options.codes
+        if self.columns.symbology:
+            rules = rules_in(self.columns.symbology, row, rules)
         column = self.columns.code
-        text = column.code_text(row, rules.is_free)
+        text = column.taken(row, DATA if rules.is_free else DIGITS)
+        if not text.strip():
+            raise column.cell_error(RowError(Text("is empty")))
         if rules.is_free and (link := (row.links or {}).get(column.place)):
             text = self.linked(row, text, link)
         code = code_of(text, rules)
@@ -163,17 +168,6 @@ class DraftReader:
             remedy = Remedy("links", says=Text("draw the address"))
             self.findings.see(self.columns.code, Problem(what, remedies=(remedy,)))
         return text
-
-    def rules(self, row: Row) -> CodeRules:
-        """Returns how the code of a row is read: its symbology may be in a column; raises
-        `RowError`.
-        """
-        rules = self.options.codes
-        if self.columns.symbology is None:
-            return rules
-        symbology = symbology_in(self.columns.symbology, row, rules.symbology)
-        is_number = not CodeRules(symbology).is_free
-        return replace(rules, symbology=symbology, digits=rules.digits if is_number else "")
 
     def texts(self, columns: Sequence[Column], row: Row, code: Code) -> dict[str, str]:
         """Returns the texts of columns that are not empty, by their names; that of the codes gives
@@ -235,7 +229,7 @@ class DraftReader:
 
     def row_price(self, column: Column, row: Row, currency: str | None) -> Price:
         """Returns the price of a column; raises `RowError`."""
-        text = column.price_text(row)
+        text = column.taken(row, PRICE).strip().replace("\t", " ")
         if not text:
             return ""
         cell = row.cells[column.place]
@@ -296,16 +290,15 @@ def is_name_of_codes(text: str) -> bool:
     return not HAS_DIGIT.search(text) and column_words()["codes"].knows(word)
 
 
-def symbology_in(column: Column, row: Row, default: str) -> str:
-    """Returns the symbology that a cell names, as `EAN-13` or `qr`; the default for an empty one;
-    raises `RowError`.
+def rules_in(column: Column, row: Row, rules: CodeRules) -> CodeRules:
+    """Returns how the code of a row is read whose symbology is in a column, as `EAN-13` or `qr`; if
+    its cell is empty, it is that of the rules. Raises `RowError`.
     """
     text = column.compared_text(row)
-    if not text:
-        return default
-    found = symbology_named(text)
+    found = symbology_named(text) if text else rules.symbology
     if not found:
         listed = ", ".join(kind.title for kind in SYMBOLOGIES.values())
         what = Text("has {}, which is not a symbology", quoted(text))
         raise column.cell_error(RowError(what, Text("it is one of {}", listed)))
-    return found
+    of_row = replace(rules, symbology=found)
+    return replace(of_row, digits="") if of_row.is_free else of_row
