@@ -59,7 +59,6 @@ DATE = r"d{1,2}(?!d)|m{1,2}(?!m)|(?:yy){1,2}(?!y)|h{1,2}(?!h)|s{1,2}(?![s.])|AM/
 MOMENT = re.compile(rf"(?:{DATE}|[.,]|{ANY})+", LITERAL.flags)
 MOMENT_PART = re.compile(rf"(?P<date>{DATE})|[.,]|{ANY}", LITERAL.flags)
 SECTION = re.compile(r"""(?:"[^"]*"|\\.|[_*].|\[[^\]]*\]|[^;"\\\[])*""", re.DOTALL)
-PATTERN_OF_DATES = re.compile("(?:yyyy|yy|dd?|mm?|hh?|ss?|[-./: ,]|[^\x00-\x7f])+")
 SIGNIFICANT = Context(prec=15)  # the digits of a number in a spreadsheet
 EXACT = Context(prec=600)  # those of any other, with as many decimals as a format has
 FIRST_DAY = 61  # from March 1900 on all spreadsheets count from the same day
@@ -307,17 +306,16 @@ def is_date_format(number_format: str) -> bool:
 
 @lru_cache(maxsize=16)
 def date_section(pattern: str) -> Section:
-    """Returns the section of a pattern of dates, as `dd.mm.yyyy`; raises ValueError.
+    """Returns the section of a format of dates or times, as `dd.mm.yyyy`; raises ValueError.
 
     >>> date_text(date_section("dd.mm.yy"), Decimal(46351))
     '25.11.26'
     """
-    if not PATTERN_OF_DATES.fullmatch(pattern) or not re.search("[dmy]", pattern):
-        raise ValueError(Text("{!r}: write it as 'dd.mm.yyyy'", pattern))
-    parts = re.findall("yyyy|yy|dd?|mm?|hh?|ss?|.", pattern)
-    return Section(
-        moment=with_minutes([part if part[0] in "ymdhs" else f"'{part}" for part in parts])
-    )
+    with suppress(RowError):
+        section, *others = sections_of(pattern)
+        if section.moment and not others:
+            return section
+    raise ValueError(Text("{!r}: write it as 'dd.mm.yyyy'", pattern))
 
 
 def date_text(section: Section, value: Decimal, is_from_1904: bool = False) -> str:
