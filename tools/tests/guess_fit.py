@@ -72,7 +72,7 @@ def fitted(cases: Sequence[Case]) -> Mapping[str, float]:
         slope = {name: -SMALL * len(cases) * weight for name, weight in weights.items()}
         for case in cases:
             found = probabilities(case.evidences, weights)
-            for place, shown in (*case.evidences.columns.items(), (NONE, case.evidences.none)):
+            for place, shown in case.evidences.items():
                 wrong = case.wanted.get(place, 0.0) - found[place]
                 for name, part in shown.items():
                     slope[name] = slope.get(name, 0.0) + wrong * part
@@ -86,9 +86,7 @@ def fitted(cases: Sequence[Case]) -> Mapping[str, float]:
 
 def without_zeros(case: Case) -> Case:
     """A case without the evidence that is not there."""
-    every = case.evidences
-    columns = {place: bare(shown) for place, shown in every.columns.items()}
-    return Case(Evidences(every.role, columns, bare(every.none)), case.wanted)
+    return Case({place: bare(shown) for place, shown in case.evidences.items()}, case.wanted)
 
 
 def bare(shown: evidence.Evidence) -> evidence.Evidence:

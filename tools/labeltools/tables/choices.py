@@ -15,7 +15,7 @@ from labeltools.tables.column_samples import (
     is_paid,
     LEAST,
 )
-from labeltools.tables.evidence import Decision, evidences_of, probable_choice
+from labeltools.tables.evidence import Decision, probable_choice
 from labeltools.tables.facts import (
     are_different_texts,
     charged,
@@ -47,7 +47,7 @@ NO_KEYS = ("prices", "cost", "stock")  # what says nothing about which rows are 
 def code_choice(columns: Samples) -> Decision:
     """Returns which column has the codes: some, wherever a column may have them."""
     may_be = code_candidates(columns)
-    found = probable_choice(evidences_of(may_be, CODE))
+    found = probable_choice(may_be, CODE)
     if found.is_none:
         return Decision(sorted(found.may_be))
     if found.surely is None:
@@ -127,7 +127,7 @@ def title_choice(columns: Samples, taken: Collection[int]) -> Decision:
     """Returns which column has the title, of those that are not taken."""
     may_be = title_candidates(columns, taken)
     if may_be:
-        found = probable_choice(evidences_of(may_be, TITLE))
+        found = probable_choice(may_be, TITLE)
         rivals = title_rivals(may_be, found.surely)
         return Decision(sorted({*found.may_be, *rivals})) if rivals else found
     free = without(columns, taken)
@@ -198,7 +198,7 @@ def price_choice(columns: Samples, taken: Collection[int]) -> Decision:
     if not may_be:
         free = without(columns, taken)
         return Decision(net_places(free) or paired_places(compared(free)))
-    found = probable_choice(evidences_of(may_be, PRICE))
+    found = probable_choice(may_be, PRICE)
     near = {place: may_be[place] for place in found.may_be}
     if found.surely is not None:
         rivals = near | advised_beside(may_be, found.surely)

@@ -29,11 +29,17 @@ from labeltools.tables.choices import (
 )
 from labeltools.tables.code_readings import ANY_TEXT, CodeReading, reading_of
 from labeltools.tables.codes import CodeRules
-from labeltools.tables.column_samples import ARTICLE, DIGITS, FIGURES, is_code, samples_of
+from labeltools.tables.column_samples import (
+    ARTICLE,
+    ColumnSample,
+    DIGITS,
+    FIGURES,
+    is_code,
+    samples_of,
+)
 from labeltools.tables.columns import Start
 from labeltools.tables.evidence import Decision
 from labeltools.tables.facts import Samples
-from labeltools.tables.name_words import column_words, words_in
 from labeltools.tables.price_words import are_currencies
 from labeltools.tables.prices import pattern_for
 from labeltools.tables.table import head_of
@@ -116,13 +122,8 @@ def guessed_header(rows: Sequence[Row]) -> Row:
 
 def known_in(texts: Iterable[str]) -> int:
     """Returns how many different texts are short, with a word that the names of columns have."""
-    of_texts = ([*words_in(text)] for text in {*texts})
-    return sum(len(words) <= MOST_WORDS and any(map(is_known, words)) for words in of_texts)
-
-
-def is_known(word: str) -> bool:
-    """Returns whether a word is one of the names of columns."""
-    return any(words.knows(word) for words in column_words().values())
+    names = map(ColumnSample, {*texts})
+    return sum(len(name.name_words) <= MOST_WORDS and bool(name.words_by_kind) for name in names)
 
 
 def table_columns(
