@@ -73,13 +73,13 @@ def decoded(data: bytes, name: str, encoding: str | None) -> str:
     try:
         codec = codecs.lookup(encoding or known or "utf-8").name
         text = data.decode(codec)
-    except LookupError:
-        raise unknown_encoding(encoding or "") from None
-    except UnicodeError as error:
-        if not isinstance(error, UnicodeDecodeError):
-            raise unknown_encoding(encoding or "") from None
+    except UnicodeDecodeError as error:
         refuse_other(known, codec, encoding, name)
         raise wrong_encoding(data, name, codec, error.start) from None
+    except (LookupError, UnicodeError):
+        what = Text("the encoding {} is unknown", quoted(encoding or ""))
+        hint, remedies = Text("give one as cp1252"), (Remedy("encoding"),)
+        raise ToolError(what, hint, BAD_ARGUMENTS, remedies) from None
     refuse_other(known, codec, encoding, name)
     unread = re.search("[\0\x80-\x9f]" if codec == "iso8859-1" else "\0", text)
     if unread:
@@ -116,12 +116,6 @@ def refuse_other(known: str, codec: str, encoding: str | None, name: str) -> Non
         remedy = Remedy("encoding", encoding or "", says, is_less=True)
         what = Text("the letters of {} are stored as {}", name, known.upper())
         raise ToolError(what, status=BAD_ARGUMENTS, remedies=(remedy,))
-
-
-def unknown_encoding(encoding: str) -> ToolError:
-    """Returns the error of an encoding that is none."""
-    what = Text("the encoding {} is unknown", quoted(encoding))
-    return ToolError(what, Text("give one as cp1252"), BAD_ARGUMENTS, (Remedy("encoding"),))
 
 
 def wrong_encoding(data: bytes, name: str, codec: str, start: int) -> ToolError:

@@ -40,9 +40,7 @@ from labeltools.sheets.workbook import (
     NOT_SAVED,
     NOT_SAVED_HINT,
     plainly_named,
-    repeats,
     rows_from,
-    rows_of_chosen,
     SAVE_AGAIN,
     whole_number,
     with_empty_cells,
@@ -189,20 +187,9 @@ def styled_lettering(said: Mapping[str, str]) -> Lettering:
     return Lettering(Mark.WHITE if is_white else Mark.NONE, points)
 
 
-def rows_of_ods(
-    archive: ZipFile, wanted: str | None, formatter: Formatter, talk: Talk
-) -> Iterator[Row]:
-    """Yields the rows of the sheet that is wanted, else of the only one that is visible and has
-    data.
-    """
-    styles = Styles()
-    yield from rows_of_chosen(tables_of(archive, styles, formatter), wanted)
-    if styles.has_condition():
-        talk.say(CONDITION)
-
-
-def tables_of(archive: ZipFile, styles: Styles, formatter: Formatter) -> Iterator[Worksheet]:
+def sheets_of_ods(archive: ZipFile, formatter: Formatter, talk: Talk) -> Iterator[Worksheet]:
     """Yields the sheets of a file, whose styles are in front of them."""
+    styles = Styles()
     if "styles.xml" in archive.namelist():
         for style in fromstring(archive.read("styles.xml")).iter():
             if style.tag in STYLES:
@@ -217,6 +204,8 @@ def tables_of(archive: ZipFile, styles: Styles, formatter: Formatter) -> Iterato
         is_visible = said.get("style-name") not in styles.hidden
         rows = OdsSheet(styles, formatter).rows(elements)
         yield Worksheet(said.get("name", ""), is_visible, rows)
+    if styles.has_condition():
+        talk.say(CONDITION)
 
 
 def parts_of_content(archive: ZipFile) -> Iterator[tuple[Element | None, Element]]:
@@ -266,7 +255,7 @@ class OdsSheet:
                 self.merges = merges_at(self.merges, self.number)
                 cells, links = self.cells_of(element, said.get("default-cell-style-name", ""))
                 is_hidden = said.get("visibility", "visible") != "visible"
-                repeat = repeats(said, "number-rows-repeated")
+                repeat = whole_number(said.get("number-rows-repeated", "1"), 1)
                 if is_hidden or any(cells):
                     beside = tuple(self.merges), links, self.hidden_places
                     yield from rows_from(Row(self.number, cells, None, is_hidden, *beside), repeat)
@@ -274,7 +263,7 @@ class OdsSheet:
 
     def add_columns(self, said: Attributes) -> None:
         """Adds the style of columns, which may be repeated."""
-        count = repeats(said, "number-columns-repeated")
+        count = whole_number(said.get("number-columns-repeated", "1"), 1)
         style = said.get("default-cell-style-name", "")
         first = len(self.columns)
         self.columns += [style] * min(count, MOST_COLUMNS - first)
@@ -292,7 +281,7 @@ class OdsSheet:
             said = local(element)
             self.add_merge(said, place)
             begin = place
-            repeat = repeats(said, "number-columns-repeated")
+            repeat = whole_number(said.get("number-columns-repeated", "1"), 1)
             place = min(begin + repeat, MOST_COLUMNS + 1)
             lines = element.findall("p")
             if not (lines or "value-type" in said or "formula" in said):
@@ -312,8 +301,8 @@ class OdsSheet:
 
     def add_merge(self, said: Attributes, place: int) -> None:
         """Adds the merged cells that begin at a cell."""
-        rows = repeats(said, "number-rows-spanned")
-        columns = repeats(said, "number-columns-spanned")
+        rows = whole_number(said.get("number-rows-spanned", "1"), 1)
+        columns = whole_number(said.get("number-columns-spanned", "1"), 1)
         if rows > 1 or columns > 1:
             last = self.number + rows - 1, place + columns - 1
             self.merges.append(Merge(self.number, place, *last))

@@ -227,14 +227,6 @@ def exact_of(value: str) -> Decimal:
     return exact
 
 
-def repeats(attributes: Mapping[str, str], name: str) -> int:
-    """Returns an attribute that counts from 1, and is 1 where it is not there; raises
-    ValueError.
-    """
-    value = attributes.get(name)
-    return 1 if value is None else whole_number(value, 1)
-
-
 def whole_number(value: str, least: int = 0) -> int:
     """Returns a count or an index of a file; raises ValueError for one below the least, which
     Python would take.

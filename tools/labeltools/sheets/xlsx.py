@@ -49,7 +49,6 @@ from labeltools.sheets.workbook import (
     parts_of,
     range_corners,
     rows_from,
-    rows_of_chosen,
     SAVE_AGAIN,
     tree_of,
     TRUE,
@@ -176,18 +175,9 @@ class XlsxNumber(Special):
         return digits_of(self.number_format, self.number, is_data)
 
 
-def rows_of_xlsx(
-    archive: ZipFile, wanted: str | None, formatter: Formatter, talk: Talk
-) -> Iterator[Row]:
-    """Yields the rows of the sheet that is wanted, else of the only one that is visible and has
-    data.
-    """
-    path = dict(relations(archive, "").values())["officeDocument"]
-    return rows_of_chosen(sheets_of(archive, path, formatter, talk), wanted)
-
-
-def sheets_of(archive: ZipFile, path: str, formatter: Formatter, talk: Talk) -> Iterator[Worksheet]:
+def sheets_of_xlsx(archive: ZipFile, formatter: Formatter, talk: Talk) -> Iterator[Worksheet]:
     """Yields the sheets of a workbook."""
+    path = dict(relations(archive, "").values())["officeDocument"]
     targets = relations(archive, path)
     parts = dict(targets.values())
     tree = tree_of(archive, path)

@@ -21,10 +21,10 @@ from labeltools.sheets.cells import seen_text
 from labeltools.sheets.csv_table import rows_of_csv
 from labeltools.sheets.file_options import CsvOptions
 from labeltools.sheets.number_format import Formatter, local_date, local_signs
-from labeltools.sheets.ods import rows_of_ods
+from labeltools.sheets.ods import sheets_of_ods
 from labeltools.sheets.rows import Row
-from labeltools.sheets.workbook import is_ods, named_errors, opened
-from labeltools.sheets.xlsx import rows_of_xlsx
+from labeltools.sheets.workbook import is_ods, named_errors, opened, rows_of_chosen
+from labeltools.sheets.xlsx import sheets_of_xlsx
 from labeltools.tables.codes import (
     ARE_MISSING,
     kind_remedy,
@@ -162,10 +162,12 @@ def table_rows(
 def rows_of_workbook(
     data: bytes, name: str, wanted: str | None, formatter: Formatter, talk: Talk
 ) -> Iterator[Row]:
-    """Yields the rows of a sheet of a workbook."""
+    """Yields the rows of the sheet of a workbook that is wanted, else of the only one that is
+    visible and has data.
+    """
     with named_errors(name), opened(data) as archive:
-        kind = rows_of_ods if is_ods(archive) else rows_of_xlsx
-        yield from kind(archive, wanted, formatter, talk)
+        sheets_of = sheets_of_ods if is_ods(archive) else sheets_of_xlsx
+        yield from rows_of_chosen(sheets_of(archive, formatter, talk), wanted)
 
 
 def nothing_marked(columns: Columns[Column], name: str) -> ToolError:
@@ -210,7 +212,8 @@ class TableRun:
             if draft is None:
                 self.unmarked += 1
                 return
-            self.leave_out_held()
+            if self.held:
+                self.leave_out_held()
             self.writer.take_draft(draft)
         except RowError as problem:
             self.hold(row, problem)
