@@ -245,8 +245,7 @@ def taken_text(cell: Cell, use: Use) -> str:
         text = cell  # most cells, at once
     else:
         text = plain_text(cell)
-    has_price = use is PRICE and text[:1].isdigit() and "+" not in text  # most prices, at once
-    if use is PRINTED or use is PRICE and not has_price:
+    if use is PRINTED or use is PRICE and not (text[:1].isdigit() and "+" not in text):
         refuse_no_value(text)
     if not (text.isprintable() and (text.isascii() or use.unseen is not UNSEEN_CODE)):
         refuse_unseen(text, use)

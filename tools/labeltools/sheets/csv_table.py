@@ -113,9 +113,8 @@ def rows_of_csv(data: bytes, name: str, options: CsvOptions) -> Iterator[Row]:
         text = text[separator.end() :]
         given = given or separator[1]
     all_rows = partial(parsed, text, delimiter_of(text, given, options))
-    wanted = options.file.header_row
-    rows = (row for row in all_rows() if row.number == wanted or not row.is_blank())
-    head = next((row for row in rows if row.number >= (wanted or 0)), None)
+    wanted = options.file.header_row or 0
+    head = next((row for row in all_rows() if row.number >= wanted and not row.is_blank()), None)
     if head is None or head.problem:
         yield from () if head is None else (head,)
         return

@@ -151,10 +151,6 @@ class Styles:
             name = self.parents.get((family, name), "")
         return found
 
-    def has_condition(self) -> bool:
-        """Returns whether a condition takes letters away."""
-        return any(self.form(style).mark in NO_LETTERS for style in self.of_conditions)
-
     def form(self, cell: str, spans: str = "") -> Lettering:
         """Returns the form of the letters of a cell by its style, and by those of letters in it,
         with spaces between, the innermost last.
@@ -204,7 +200,7 @@ def sheets_of_ods(archive: ZipFile, formatter: Formatter, talk: Talk) -> Iterato
         is_visible = said.get("style-name") not in styles.hidden
         rows = OdsSheet(styles, formatter).rows(elements)
         yield Worksheet(said.get("name", ""), is_visible, rows)
-    if styles.has_condition():
+    if any(styles.form(style).mark in NO_LETTERS for style in styles.of_conditions):
         talk.say(CONDITION)
 
 

@@ -7,13 +7,15 @@ from functools import partial
 
 from labeltools.common.messages import RowError
 from labeltools.common.text import NOTHING, Text
-from labeltools.lines.symbologies import CODE128, QR
-from labeltools.tables.codes import code_of, CodeRules, has_length, NO_CHECK_DIGIT
+from labeltools.lines.symbologies import CODE128, NUMBERS, QR
+from labeltools.tables.codes import code_of, CodeRules, NO_CHECK_DIGIT
 from labeltools.tables.column_samples import ColumnSample, has_lost_zeros, is_code, WITH_ZEROS
 
 NO_BARS = re.compile(".*://.*|.{31,}")
 # numbers of a library or a shop: with letters, or longer than any EAN; but none as 4.01E+12
 OWN_NUMBER = re.compile(r"(?=.*[^\W\d_])[\w./-]+|[1-9][0-9]{13,}")
+# as many digits as an EAN or UPC has: if the check digit is wrong, only the keeper knows what it is
+OF_LENGTH = re.compile("|".join(f"[0-9]{{{length}}}" for length in NUMBERS))
 # how numbers that are no EAN or UPC as they are may be meant
 ANY_TEXT = CodeRules(CODE128.name)
 OTHER_WAYS = (WITH_ZEROS, CodeRules(digits=NO_CHECK_DIGIT), ANY_TEXT)
@@ -43,7 +45,7 @@ def reading_of(column: ColumnSample) -> CodeReading:
     if column.mostly_pass(is_code):
         return CodeReading()
     are_own = column.mostly_pass(OWN_NUMBER.fullmatch)
-    have_length = not are_own and column.mostly_pass(has_length)
+    have_length = not are_own and column.mostly_pass(OF_LENGTH.fullmatch)
     are_meant = have_length or column.says("codes") and not are_own
     if are_meant and not column.says("national"):
         ways = ((way, partial(is_code, rules=way)) for way in OTHER_WAYS)

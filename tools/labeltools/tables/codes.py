@@ -155,16 +155,6 @@ def symbology_named(text: str) -> str:
     return NAMED.get(re.sub("[^a-z0-9]", "", text.casefold()), "")
 
 
-def has_length(text: str) -> bool:
-    """Returns whether a text has as many digits as an EAN or UPC: if its check digit is wrong, only
-    the keeper knows what it is.
-
-    >>> has_length("4006381333932"), has_length("101")
-    (True, False)
-    """
-    return text.isdecimal() and len(text) in NUMBERS
-
-
 def check_data(cell: str) -> None:
     """Raises `RowError` for what would be drawn as data though nobody means it."""
     if IS_ROUNDED_DATA.fullmatch(cell):

@@ -110,9 +110,9 @@ def head_of(data: bytes, name: str, options: TableOptions, talk: Talk) -> Start:
     """
     formatter = Formatter(local_signs(options.file.decimal), options.file.date_as, local_date())
     rows = table_rows(data, name, options, formatter, talk)
-    wanted = options.file.header_row
-    first = row_of_names(rows, wanted)
-    if first is None and wanted:
+    wanted = options.file.header_row or 0
+    first = next((row for row in rows if row.number >= wanted and not row.is_blank()), None)
+    if wanted and (first is None or first.number != wanted):
         raise ToolError(Text("{} has nothing in row {}", name, wanted))
     if first is None:
         raise ToolError(Text("{} has only empty cells", name))
@@ -122,17 +122,6 @@ def head_of(data: bytes, name: str, options: TableOptions, talk: Talk) -> Start:
     if not options.file.has_names:
         return Start(first, (), chain([first], rows), formatter)
     return Start(first, first.names, rows, formatter)
-
-
-def row_of_names(rows: Iterator[Row], wanted: int | None) -> Row | None:
-    """Returns the row of a number, or else the first one that is not blank; None where there is
-    none, or where that of the number is blank.
-    """
-    if not wanted:
-        return next((row for row in rows if not row.is_blank()), None)
-    found = next((row for row in rows if row.number >= wanted), None)
-    is_there = found is not None and found.number == wanted and not found.is_blank()
-    return found if is_there else None
 
 
 def table_rows(
