@@ -2,6 +2,7 @@
 evidence speaks for, and what only the keeper knows.
 """
 
+import re
 from collections.abc import Collection, Mapping, Sequence
 
 from labeltools.tables.code_readings import CodeReading
@@ -38,10 +39,11 @@ from labeltools.tables.facts import (
     TITLES,
     with_taxes,
 )
-from labeltools.tables.variants import variants_in
 
 MOST_PAIRS = 500_000  # of amounts that are compared
 NO_KEYS = ("prices", "cost", "stock")  # what says nothing about which rows are variants
+# what programs call an article, as `a-1` or `10047`: no word or amount as people write it
+KEY = re.compile(r"(?=(?:.*[0-9]){3})[\w/:#-]+|(?=.*[a-z])[a-z0-9._-]+")
 
 
 def code_choice(columns: Samples) -> Decision:
@@ -379,9 +381,26 @@ def copies_choice(columns: Samples, taken: Collection[int]) -> Decision:
 
 
 def variants_place(columns: Samples, title: int) -> int | None:
-    """Returns the column that tells which rows without a title are variants of the one above."""
-    keys = [() if column.says(*NO_KEYS) else column.cells for column in columns.values()]
-    return variants_in(columns[title].cells, keys)
+    """Returns the column that says which rows are variants of one article, by words as programs
+    write them: of each the first row has a title, and no other one. None where each row has its
+    title, or no column is so.
+
+    >>> cells = ["Shirt", "", "Cap"], ["red", "blue", "red"], ["a-1", "a-1", "b-2"]
+    >>> columns = {place: ColumnSample("", texts) for place, texts in enumerate(cells)}
+    >>> variants_place(columns, 0), variants_place(columns, 1)
+    (2, None)
+    """
+    titles = columns[title].cells
+    for place, column in columns.items():
+        first: set[str] = set()
+        for text, cell in zip(titles, column.cells):
+            if not KEY.fullmatch(cell) or bool(text) == (cell in first):
+                break
+            first.add(cell)
+        else:
+            if first and not all(titles) and not column.says(*NO_KEYS):
+                return place
+    return None
 
 
 def are_single_things(readings: Mapping[int, CodeReading], columns: Samples) -> bool:

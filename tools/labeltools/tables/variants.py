@@ -2,7 +2,6 @@
 of the other sizes and colours have none.
 """
 
-import re
 from collections.abc import Sequence
 from contextlib import suppress
 from dataclasses import dataclass, field
@@ -12,31 +11,6 @@ from labeltools.common.text import Text
 from labeltools.sheets.rows import Row
 from labeltools.tables.columns import Column
 from labeltools.tables.findings import Findings
-
-# what programs call an article, as `a-1` or `10047`: no word or amount as people write it
-KEY = re.compile(r"(?=(?:.*[0-9]){3})[\w/:#-]+|(?=.*[a-z])[a-z0-9._-]+")
-
-
-def variants_in(titles: Sequence[str], columns: Sequence[Sequence[str]]) -> int | None:
-    """Returns the place of the column that says which rows are variants of one article, by words as
-    programs write them: of each the first row has a title, and no other one. None where each row
-    has its title, or no column is so.
-
-    >>> variants_in(["Shirt", "", "Cap"], [["red", "blue", "red"], ["a-1", "a-1", "b-2"]])
-    1
-    >>> variants_in(["Shirt", "", "Cap", ""], [["red", "blue", "red", "blue"]])
-    """
-    if not all(titles):
-        for place, cells in enumerate(columns):
-            first: set[str] = set()
-            for title, cell in zip(titles, cells):
-                if not KEY.fullmatch(cell) or bool(title) == (cell in first):
-                    break
-                first.add(cell)
-            else:
-                if first:
-                    return place
-    return None
 
 
 @dataclass
