@@ -216,16 +216,15 @@ def section_of(text: str, number_format: str) -> Section:
         if literal["language"] and not literal["currency"]:
             language = language_of(literal["language"], number_format)
     if found := NUMBER.fullmatch(text):
-        around = re.sub(LITERAL, "", found["before"] + found["behind"])
-        is_framed = (
-            found["pattern"] == "@" and literals_shown(found["before"] + found["behind"]).strip()
-        )
+        around = LITERAL.sub("", found["before"] + found["behind"])
+        before, behind = (LITERAL.sub(literal_shown, found[part]) for part in ("before", "behind"))
+        is_framed = found["pattern"] == "@" and (before + behind).strip()
         if around in ("", "%") and (found["pattern"] or not around) and not is_framed:
-            before, behind = literals_shown(found["before"]), literals_shown(found["behind"])
             return Section(before, found["pattern"], behind, around == "%", language)
     elif MOMENT.fullmatch(text):
         parts = [
-            part["date"] or f"'{literals_shown(part[0])}" for part in MOMENT_PART.finditer(text)
+            part["date"] or f"'{LITERAL.sub(literal_shown, part[0])}"
+            for part in MOMENT_PART.finditer(text)
         ]
         moment = with_minutes(parts)
         if any(part[0] in "dmyhns" for part in moment):
@@ -233,18 +232,14 @@ def section_of(text: str, number_format: str) -> Section:
     raise not_understood(number_format)
 
 
-def literals_shown(literals: str) -> str:
-    """Returns what literals show.
+def literal_shown(found: re.Match[str]) -> str:
+    """Returns what a literal shows.
 
-    >>> literals_shown('"a" \\\\b_-[$€-407][Red]')
+    >>> LITERAL.sub(literal_shown, '"a" \\\\b_-[$€-407][Red]')
     'a b €'
     """
-
-    def text(found: re.Match[str]) -> str:
-        named = found["quoted"] or found["escaped"] or found["currency"] or found["plain"]
-        return named or (" " if found["space"] else "")
-
-    return LITERAL.sub(text, literals)
+    named = found["quoted"] or found["escaped"] or found["currency"] or found["plain"]
+    return named or (" " if found["space"] else "")
 
 
 def language_of(code: str | None, number_format: str) -> str:
