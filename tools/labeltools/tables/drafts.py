@@ -94,7 +94,7 @@ class DraftReader:
         if columns.variants_of and not title:
             title = self.variants.title(columns.variants_of, row)
         texts = self.texts(columns.text, row, code)
-        currency = self.row_currency(row) if columns.currency else None
+        currency = self.row_currency(columns.currency, row) if columns.currency else None
         copies = columns.copies.copies(row) if columns.copies else 1
         prices = [
             self.row_price(column, row, currency) if column else "" for column in columns.prices
@@ -210,13 +210,8 @@ class DraftReader:
             what = Text("row {} shows the price {}, and its value is {}", row, money.text, value)
             self.findings.see(column, Problem(what))
 
-    def row_currency(self, row: Row) -> str | None:
-        """Returns the currency of a row, None where the table has no column of them; raises
-        `RowError`.
-        """
-        column = self.columns.currency
-        if column is None:
-            return None
+    def row_currency(self, column: Column, row: Row) -> str:
+        """Returns the currency of a row, which may be empty; raises `RowError`."""
         found = column.compared_text(row)
         if any(letter.isdigit() for letter in found):
             what = Text("has {}, which is not a currency", quoted(found))

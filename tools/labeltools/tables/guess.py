@@ -171,7 +171,7 @@ def guess_by(columns: Samples) -> Guess:
     code = code_choice(columns)
     parts = name_parts(columns, code.taken)
     title = Decision((), parts[0]) if parts else title_choice(columns, code.taken)
-    readings = readings_of(code, columns)
+    readings = {place: reading_of(columns[place]) for place in code.taken}
     is_single = bool(parts) or are_single_things(readings, columns)
     taken = {*code.taken, *title.taken, *parts}
     price = Decision(is_none=True) if is_single else price_choice(columns, taken)
@@ -212,12 +212,6 @@ def choices_beside(
     if price.surely is not None:
         found["old-price"] = old_price_choice(columns, used, price.surely)
     return found | {"copies": copies_choice(columns, used)}
-
-
-def readings_of(code: Decision, columns: Samples) -> Mapping[int, CodeReading]:
-    """Returns how each column may be read that may have the codes."""
-    places = code.may_be if code.surely is None else [code.surely]
-    return {place: reading_of(columns[place]) for place in places}
 
 
 def columns_beside(
