@@ -150,7 +150,6 @@ class XlsxNumber(Special):
     number_format: str
     book: Book
     text: str = ""
-    is_kept: bool = False
 
     def shown(self) -> str:
         """Returns the number as its format shows it."""
@@ -165,9 +164,7 @@ class XlsxNumber(Special):
         it.
         """
         text = self.shown()
-        if not self.is_kept:
-            self.book.formatter.keep_example(self.number_format, text)
-            self.is_kept = True
+        self.book.formatter.keep_example(self.number_format, text)
         return text
 
     def digits(self, is_data: bool) -> str:
