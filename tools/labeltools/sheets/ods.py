@@ -43,7 +43,6 @@ from labeltools.sheets.workbook import (
     rows_from,
     SAVE_AGAIN,
     whole_number,
-    with_empty_cells,
     Worksheet,
 )
 
@@ -292,7 +291,8 @@ class OdsSheet:
                 if style not in made:
                     made[style] = cell_or_fault(self.cell_of, said, lines, style)
                 if cell := made[style]:
-                    with_empty_cells(cells, at).append(cell)
+                    cells += [""] * (min(at, MOST_COLUMNS) - len(cells))
+                    cells.append(cell)
         return cells, links
 
     def add_merge(self, said: Attributes, place: int) -> None:

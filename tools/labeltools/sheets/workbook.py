@@ -177,7 +177,7 @@ def rows_from(row: Row, repeat: int = 1) -> Iterator[Row]:
                 MOST_MERGES,
             )
         )
-    if row.is_blank():  # there may be a million
+    if repeat > 1 and row.is_blank():  # there may be a million
         repeat = 1
     letters = sum([len(cell) for cell in row.cells if isinstance(cell, str)])
     if letters > LARGEST_ROW or repeat > 1 and (letters + EACH) * repeat > LARGEST_ROW:
@@ -204,14 +204,6 @@ def cell_or_fault(make: Callable[..., Cell], *arguments: object) -> Cell:
 def merges_at(merges: list[Merge], number: int) -> list[Merge]:
     """Returns the merged cells that reach a row or one below it."""
     return [merge for merge in merges if merge.last_row >= number]
-
-
-def with_empty_cells(cells: list[Cell], place: int) -> list[Cell]:
-    """Returns a row with empty cells up to a place."""
-    if place > len(cells):
-        lacking = min(place, MOST_COLUMNS) - len(cells)
-        cells += [""] * lacking
-    return cells
 
 
 def exact_of(value: str) -> Decimal:

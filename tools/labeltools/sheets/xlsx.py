@@ -53,7 +53,6 @@ from labeltools.sheets.workbook import (
     tree_of,
     TRUE,
     whole_number,
-    with_empty_cells,
     Worksheet,
 )
 
@@ -205,20 +204,19 @@ def rows_of_sheet(archive: ZipFile, part: str, book: Book, looks: Looks) -> Iter
         if number <= before:
             raise out_of_order(number)
         merges = merges_at(merges, number) + beside.merges.get(number, [])
-        cells, links = cells_of(found, number, book)
-        links = {**beside.links.get(number, {}), **links}
+        links = beside.links.get(number, {})
+        cells = cells_of(found, number, book, links)
         is_hidden = is_unseen(found.attrib)
         yield from rows_from(
             Row(number, cells, None, is_hidden, merges, links, beside.hidden_places)
         )
 
 
-def cells_of(row: Element, number: int, book: Book) -> tuple[list[Cell], dict[int, str]]:
-    """Returns the cells of a row, and the addresses that formulas in them lead to, by their
-    places.
+def cells_of(row: Element, number: int, book: Book, links: dict[int, str]) -> list[Cell]:
+    """Returns the cells of a row, and adds the addresses that formulas in them lead to, by their
+    places, to those of the row.
     """
     cells: list[Cell] = []
-    links: dict[int, str] = {}
     for found in row:
         if found.tag != "c":
             continue
@@ -228,10 +226,12 @@ def cells_of(row: Element, number: int, book: Book) -> tuple[list[Cell], dict[in
             raise out_of_order(number)
         formula = found.findtext("f")
         cell = cell_or_fault(cell_of, found, formula is not None, book)
-        with_empty_cells(cells, place).append(cell)
+        if place > len(cells):
+            cells += [""] * (min(place, MOST_COLUMNS) - len(cells))
+        cells.append(cell)
         if formula and (link := HYPERLINK.fullmatch(formula)):
             links[place] = link[1]
-    return cells, links
+    return cells
 
 
 def cell_of(found: Element, has_formula: bool, book: Book) -> Cell:
