@@ -13,9 +13,9 @@ from unittest import mock
 
 from guess_tables import needed, NEEDED, small_tables, Table, tables, Verdict, verdict_of
 from labeltools.tables import choices, evidence, facts, guess
+from labeltools.tables.column_samples import samples_of
 from labeltools.tables.evidence import Evidences, evidences_of, NONE, probabilities, WEIGHTS
 from labeltools.tables.facts import CODE, PRICE, ROLES, Samples
-from labeltools.tables.guess import samples_from
 
 ROUNDS = 150
 RATE = 0.3  # of a step
@@ -39,7 +39,7 @@ def cases_of(of_tables: Iterable[Table], role: str) -> Iterator[Case]:
             ("", *()) if place in table.hidden else cells
             for place, cells in enumerate(table.columns)
         ]
-        columns = samples_from(shown)
+        columns = samples_of(shown)
         meant = table.places(role)
         taken = {place for other in ROLES if other != role for place in table.places(other)}
         may_be = candidates_of(columns, role, taken - {*meant})
@@ -72,7 +72,7 @@ def fitted(cases: Sequence[Case]) -> Mapping[str, float]:
         slope = {name: -SMALL * len(cases) * weight for name, weight in weights.items()}
         for case in cases:
             found = probabilities(case.evidences, weights)
-            for place, shown in (*case.evidences.columns.items(), (NONE, case.evidences.none)):
+            for place, shown in case.evidences.items():
                 wrong = case.wanted.get(place, 0.0) - found[place]
                 for name, part in shown.items():
                     slope[name] = slope.get(name, 0.0) + wrong * part
@@ -86,9 +86,7 @@ def fitted(cases: Sequence[Case]) -> Mapping[str, float]:
 
 def without_zeros(case: Case) -> Case:
     """A case without the evidence that is not there."""
-    every = case.evidences
-    columns = {place: bare(shown) for place, shown in every.columns.items()}
-    return Case(Evidences(every.role, columns, bare(every.none)), case.wanted)
+    return Case({place: bare(shown) for place, shown in case.evidences.items()}, case.wanted)
 
 
 def bare(shown: evidence.Evidence) -> evidence.Evidence:
@@ -216,16 +214,15 @@ def parts() -> Iterator[Part]:
 
 def samples_at_once() -> Any:
     """Lets columns be looked at once that are guessed again and again."""
-    usual = guess.samples_from
     found: dict[object, Samples] = {}
 
     def samples(columns: Sequence[Sequence[str]]) -> Samples:
         key = tuple(tuple(cells) for cells in columns)
         if key not in found:
-            found[key] = usual(columns)
+            found[key] = samples_of(columns)
         return found[key]
 
-    return mock.patch.object(guess, "samples_from", samples)
+    return mock.patch.object(guess, "samples_of", samples)
 
 
 def all_verdicts() -> Mapping[str, tuple[Verdict, str]]:

@@ -84,7 +84,8 @@ class Guesses(unittest.TestCase):
             self.assertEqual(found.header, 1)
             if is_shop:
                 wanted = SYMBOLOGIES.get(names.partition(";")[0], "auto")
-                self.assertEqual(found.rules.symbology, wanted, names)
+                kind = found.rules_of(next(iter(found.codes), -1)).symbology
+                self.assertEqual(kind, wanted, names)
 
     def test_what_a_shop_pays_is_no_price(self) -> None:
         names = "EAN;Artikel;EK netto"
@@ -681,7 +682,9 @@ class Codes(unittest.TestCase):
         ):
             numbers = [f"{start}{end}" for end in ends]
             found = guess([["Nr", *numbers], ["Name", "Tea", "Book", "Gum", "Pen"]], 1)
-            self.assertEqual((found.rules.symbology, found.columns["code"]), (wanted, 0), start)
+            self.assertEqual(
+                (found.rules_of(0).symbology, found.columns["code"]), (wanted, 0), start
+            )
         text = "Nr\n" + "".join(f"{number}\n" for number in ("4006381333932", "4006381333933"))
         done = support.run_here("label-table", "--code", "Nr", input=text.encode())
         self.assertIn('most codes in column 1 ("Nr") have a wrong', support.messages(done)[-1])

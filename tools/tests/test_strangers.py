@@ -56,7 +56,7 @@ from labeltools.sending.job import trouble_of
 from labeltools.sending.outlets import Outlet
 from labeltools.sending.queue import lp_line
 from labeltools.sending.sender import Sender, settling_line
-from labeltools.sheets.encoding import OTHER_BYTES, OTHER_LINE, OTHER_WORD
+from labeltools.sheets.encoding import OTHER_BYTES, OTHER_WORD, other_words
 from labeltools.sheets.rows import Row
 from labeltools.sheets.workbook import rows_of_chosen, Worksheet
 from labeltools.tables.code_readings import CodeReading
@@ -268,8 +268,11 @@ class Bombs(unittest.TestCase):
         self.assertEqual(OTHER_WORD.findall(text), wanted)
         old = text.encode("cp1252")
         found = [part.decode("cp1252") for part in OTHER_BYTES.findall(old)]
-        self.assertEqual(found, ["Käse", "für", "×2\u00a0é", "é", "xé", "zé"])
-        self.assertEqual(OTHER_LINE.findall(b"a\n\xe4b\nc\xe4\nd"), [b"\xe4b\n", b"c\xe4\n"])
+        self.assertEqual(found, ["Käse", "für", "×2\u00a0é", "é|xé", "zé"])
+        self.assertEqual(other_words(old, ["cp1252"]), {tuple(dict.fromkeys(wanted)): ["cp1252"]})
+        words = ("ポット", "ソース")  # letters that have the bytes of a bar and of a backslash
+        old = "ポット|ソース;Tea".encode("cp932")
+        self.assertEqual(other_words(old, ["cp932"]), {words: ["cp932"]})
 
     def test_many_columns_of_prices_or_codes(self) -> None:
         count = 250

@@ -632,6 +632,7 @@ class Workbooks(RulesTest):
         ]
         for number_format in formats:
             self.assertEqual(dates(number_format, "--date-as", "dd.mm.yy"), ["25.11.26"])
+            self.assertEqual(dates(number_format, "--date-as", "YYYY-M-D"), ["2026-11-25"])
         more = 'office:date-value="2026-11-25"'
         data = ods(table(["EAN", "MHD"], [SMALL, ods_cell("Mi 25. Nov", "date", more)]))
         arguments = "--code EAN --text MHD".split()
@@ -639,9 +640,9 @@ class Workbooks(RulesTest):
         self.assertEqual(
             self.said(data, *arguments, "--date-as", "d.m.yyyy")[2][0][0]["text"], ["25.11.2026"]
         )
-        self.check_usage(
-            "--code 1 --date-as xx".split(), "argument --date-as: 'xx': write it as 'dd.mm.yyyy'"
-        )
+        for form in ("xx", "d.mmm.yyyy", "0.00", "d.m;d"):  # names of months have no language here
+            said = f"argument --date-as: '{form}': write it as 'dd.mm.yyyy'"
+            self.check_usage(["--code", "1", "--date-as", form], said)
 
     def test_damaged_numbers_and_counts(self) -> None:
         damaged = "standard input is damaged, has a password, or is neither .xlsx nor .ods "

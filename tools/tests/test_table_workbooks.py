@@ -218,6 +218,16 @@ class Xlsx(WorkbookTest):
             f"has row 1 or a cell of it out of order: {AGAIN}",
         )
 
+    def test_rows_in_two_places(self) -> None:
+        for count in (1, 1000):  # less than is read together, and more
+            first = rows(["EAN"], *[[PENCIL]] * count)
+            second = f'</sheetData><sheetData><row r="{count + 3}">{cell(SMALL)}</row>'
+            found = [({"row": row}, f"ean13 {PENCIL}") for row in range(2, count + 2)]
+            found.append(({"row": count + 3}, f"ean8 {SMALL}"))
+            self.assertEqual(self.found(xlsx(first + second)), found)
+            again = second.replace(str(count + 3), "1")
+            self.refused(xlsx(first + again), f"has row 1 or a cell of it out of order: {AGAIN}")
+
     def test_prefixes_and_strict_namespaces(self) -> None:
         sheet = rows(["EAN"], [PENCIL])
         self.assertEqual(

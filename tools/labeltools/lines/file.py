@@ -339,18 +339,13 @@ def is_of(value: object, kind: Any) -> bool:
     these.
     """
     if kind is NAMED:
-        texts = value if isinstance(value, list) else named_texts(value)
+        texts = [*value, *value.values()] if isinstance(value, dict) else value
         return is_of(texts, [str])
     if isinstance(kind, list):
         return isinstance(value, list) and all(is_of(part, kind[0]) for part in value)
     if isinstance(value, int):
         return type(value) is kind and 0 <= value <= MOST_NUMBER
     return type(value) is kind and not UNPRINTABLE.search(str(value))
-
-
-def named_texts(value: object) -> object:
-    """Returns the names and the texts of an object as one list; another value as it is."""
-    return [*value, *value.values()] if isinstance(value, dict) else value
 
 
 def texts_of_object(found: dict[str, Any]) -> dict[str, Any]:

@@ -42,6 +42,9 @@ BRACKETS = "()[]<>{}"
 UNSEEN_CODE = re.compile("C[cf]|Z[lps]|.*(?:SELECTOR|FILLER|JOINER|INHERENT|PATTERN BLANK)")
 UNSEEN_TEXT = re.compile("Cc|Z[lp]|Cf .*(?:EMBEDDING|OVERRIDE|ISOLATE|DIRECTIONAL)")
 UNSEEN_PRICE = re.compile("C[cf]|Z[lp]")
+NONE_UNSEEN = re.compile("(?!)")
+DIRECTIONS = "\u200e\u200f\u061c"  # marks of them, which spreadsheets put around currencies
+LINE_END = re.compile("\r\n?|\n")
 IS_ROUNDED_DATA = re.compile("[0-9](?:[.,][0-9]+)?[Ee][+][0-9]{2,}")
 ROUNDED = Text("the spreadsheet has rounded the number")
 ROUNDED_HINT = Text("format the column as text, enter it again")
@@ -69,20 +72,24 @@ class CellKind(Enum):
 
 
 class Use(NamedTuple):
-    """What a column is for: the kinds of cells that it takes, and what is said of a date or a time
-    where it takes none.
+    """What a column is for: the kinds of cells that it takes, what is said of a date or a time
+    where it takes none; and characters that nobody sees, by their classes and names, which leave
+    out the row, but for some that are passed.
     """
 
     kinds: tuple[CellKind, ...]
     of_moment: Text = NOTHING
+    unseen: re.Pattern[str] = NONE_UNSEEN
+    passed: str = " "
 
 
 NUMBERS = (CellKind.TEXT, CellKind.NUMBER)
 IS_NO_CODE = Text("is a date or a time, which is not a code")
-DIGITS = Use(NUMBERS, IS_NO_CODE)  # a code with a check digit
-DATA = Use(NUMBERS, IS_NO_CODE)  # a code of any letters
-PRINTED = Use((*NUMBERS, CellKind.MOMENT))  # a title or a text
-PRICE = Use(NUMBERS, Text("is a date or a time, which is not a price"))
+IS_NO_PRICE = Text("is a date or a time, which is not a price")
+DIGITS = Use(NUMBERS, IS_NO_CODE, UNSEEN_CODE)  # a code with a check digit
+DATA = Use(NUMBERS, IS_NO_CODE, UNSEEN_CODE)  # a code of any letters
+PRINTED = Use((*NUMBERS, CellKind.MOMENT), NOTHING, UNSEEN_TEXT, " \t\n")  # a title or a text
+PRICE = Use(NUMBERS, IS_NO_PRICE, UNSEEN_PRICE, f" \t{DIRECTIONS}")
 COPIES = Use(NUMBERS, Text("is a date or a time, which is not a number of copies"))
 MARK = Use(tuple(CellKind))  # by which rows are chosen
 IS_TRUTH = Text("has neither a text nor a number, but TRUE, FALSE or the like")
@@ -93,17 +100,13 @@ class Special:
     """A cell of a spreadsheet that is more than a text.
 
     `value` is what the file has, which messages quote; `number` is what it counts, whatever its
-    format shows, None where it has none. Each method raises `RowError` where the cell has nothing
-    of the kind.
+    format shows, None where it has none; `cell_kind` is what it is by its type. Each method raises
+    `RowError` where the cell has nothing of the kind.
     """
 
     value: str
     number: Decimal | None = None
-
-    @property
-    def cell_kind(self) -> CellKind:
-        """What it is by its type."""
-        return CellKind.TEXT
+    cell_kind: CellKind = CellKind.TEXT
 
     def shown(self) -> str:
         """Returns the text that the spreadsheet shows."""
@@ -141,11 +144,7 @@ class Truth(Special):
     """A truth value, which chooses rows, but which no label can show; `value` is its text."""
 
     value: str
-
-    @property
-    def cell_kind(self) -> CellKind:
-        """What it is by its type."""
-        return CellKind.TRUTH
+    cell_kind = CellKind.TRUTH
 
     def shown(self) -> str:
         """Returns its text."""
@@ -166,11 +165,6 @@ class Mark(Enum):
     LOWERED = "₀₁₂₃₄₅₆₇₈₉"
     STRUCK = "-"
     WHITE = " "
-
-    @property
-    def moves(self) -> bool:
-        """Whether letters are above or below the others."""
-        return self in (Mark.RAISED, Mark.LOWERED)
 
 
 class Lettering(NamedTuple):
@@ -224,7 +218,7 @@ def text_of_runs(runs: Sequence[Run]) -> str | Fault:
 
 def moved(text: str, mark: Mark) -> str:
     """Returns a text with the signs of digits that are raised or lowered."""
-    if not mark.moves:
+    if mark not in (Mark.RAISED, Mark.LOWERED):
         return text
     return text.translate(str.maketrans("0123456789", mark.value))
 
@@ -242,8 +236,8 @@ def formed(cell: Cell, form: Lettering) -> Cell:
 
 
 def taken_text(cell: Cell, use: Use) -> str:
-    """Returns what a column takes of a cell; raises `RowError` where it takes none of its kind, or
-    its kind, value and text do not agree.
+    """Returns what a column takes of a cell; raises `RowError` where it takes none of its kind, its
+    kind, value and text do not agree, or it has a character that nobody sees.
     """
     if not isinstance(cell, str):
         text = taken_of(cell, use)
@@ -251,10 +245,10 @@ def taken_text(cell: Cell, use: Use) -> str:
         text = cell  # most cells, at once
     else:
         text = plain_text(cell)
-    if use is PRICE and text[:1].isdigit() and "+" not in text:
-        return text  # most prices, at once
-    if use is PRINTED or use is PRICE:
+    if use is PRINTED or use is PRICE and not (text[:1].isdigit() and "+" not in text):
         refuse_no_value(text)
+    if not (text.isprintable() and (text.isascii() or use.unseen is not UNSEEN_CODE)):
+        refuse_unseen(text, use)
     return text
 
 
@@ -342,13 +336,14 @@ def plain_text(cell: str) -> str:
     return cell
 
 
-def refuse_unseen(bare: str, text: str, unseen: re.Pattern[str]) -> None:
-    """Raises `RowError` where a text has a character that nobody sees, but for plain spaces."""
-    if bare.isascii() and bare.isprintable():
-        return
-    for character in bare.replace(" ", ""):
+def refuse_unseen(text: str, use: Use) -> None:
+    """Raises `RowError` where a text has a character that nobody sees, and that a column for a use
+    does not pass; white space around lines is none.
+    """
+    lines = "\n".join(map(str.strip, LINE_END.split(text.strip())))
+    for character in lines:
         name = f"{unicodedata.category(character)} {unicodedata.name(character, '')}"
-        if unseen.match(name):
+        if use.unseen.match(name) and character not in use.passed:
             what = Text(
                 "has {} in the cell {}, which nobody sees", named_character(character), quoted(text)
             )

@@ -3,8 +3,9 @@
 import csv
 import re
 from collections import Counter
-from collections.abc import Container, Iterator, Sequence
+from collections.abc import Container, Iterable, Iterator, Sequence
 from dataclasses import dataclass
+from functools import partial
 from itertools import count, islice
 from typing import NamedTuple
 
@@ -18,7 +19,7 @@ from labeltools.common.messages import (
     RowError,
     ToolError,
 )
-from labeltools.common.text import Text
+from labeltools.common.text import NOTHING, Text
 from labeltools.sheets.encoding import decoded
 from labeltools.sheets.file_options import CsvOptions
 from labeltools.sheets.rows import Row, row_with_names
@@ -99,74 +100,50 @@ class Shape:
         return None
 
 
-@dataclass
-class CsvTable:
-    """A table of CSV. `begin` is where the text begins, behind a mark and a line that names the
-    delimiter.
-    """
-
-    text: str
-    begin: int
-    delimiter: str
-    options: CsvOptions
-
-    def all_rows(self) -> Iterator[Row]:
-        """Returns the rows of the text."""
-        return parsed(self.text, self.begin, self.delimiter)
-
-    def read_rows(self) -> Iterator[Row]:
-        """Yields the rows from the row of names on; one whose cells may have moved has a
-        problem.
-        """
-        wanted = self.options.file.header_row
-        rows = (row for row in self.all_rows() if row.number == wanted or not row.is_blank())
-        head = next((row for row in rows if row.number >= (wanted or 0)), None)
-        if head is None or head.problem:
-            yield from () if head is None else (head,)
-            return
-        shape = self.shape(head)
-        for row in self.all_rows():
-            if row.number >= head.number:
-                is_read = row.number == head.number or row.problem or row.is_blank()
-                problem = None if is_read else shape.problem(row)
-                yield row._replace(problem=problem) if problem else row
-
-    def shape(self, head: Row) -> Shape:
-        """Returns the shape of the table: some exports end each row but the names by a
-        delimiter.
-        """
-        named = max((place for place, name in enumerate(head.names, 1) if name), default=0)
-        width = len(head.cells)
-        below = (row for row in self.all_rows() if row.number > head.number and not row.is_blank())
-        beside = [len(row.cells) - width for row in below if len(row.cells) >= named]
-        rest = beside[0] if len(beside) > 1 and len(set(beside)) == 1 else 0
-        asked = {int(column) - 1 for column in self.options.asked if column.isdecimal()}
-        has_names = self.options.file.has_names
-        return Shape(head.number, named, width, max(rest, 0), asked if has_names else range(width))
-
-
-def csv_table(data: bytes, name: str, options: CsvOptions) -> CsvTable:
-    """Returns a table of text; raises `ToolError` where its encoding or its delimiter is not
-    sure.
+def rows_of_csv(data: bytes, name: str, options: CsvOptions) -> Iterator[Row]:
+    """Yields the rows of a table of text from the row of names on; one whose cells may have moved
+    has a problem. Raises `ToolError` where its encoding or its delimiter is not sure.
     """
     check_size(name, len(data), TABLE, CSV)
     text = decoded(data, name, options.file.encoding)
     check_size(name, max(map(len, LINE.findall(text)), default=0), TABLE, WHOLE_LINE)
-    begin = 1 if text.startswith("\ufeff") else 0
+    text = text.removeprefix("\ufeff")
     given = DELIMITERS.get(options.file.delimiter or "", options.file.delimiter)
-    separator = SEPARATOR_LINE.match(text, begin)
-    if separator:
-        begin = separator.end()
+    if separator := SEPARATOR_LINE.match(text):
+        text = text[separator.end() :]
         given = given or separator[1]
-    return CsvTable(text, begin, delimiter_of(text, begin, given, options), options)
+    all_rows = partial(parsed, text, delimiter_of(text, given, options))
+    wanted = options.file.header_row or 0
+    head = next((row for row in all_rows() if row.number >= wanted and not row.is_blank()), None)
+    if head is None or head.problem:
+        yield from () if head is None else (head,)
+        return
+    shape = table_shape(head, all_rows(), options)
+    for row in all_rows():
+        if row.number >= head.number:
+            is_read = row.number == head.number or row.problem or row.is_blank()
+            problem = None if is_read else shape.problem(row)
+            yield row._replace(problem=problem) if problem else row
 
 
-def delimiter_of(text: str, begin: int, given: str | None, options: CsvOptions) -> str:
+def table_shape(head: Row, rows: Iterable[Row], options: CsvOptions) -> Shape:
+    """Returns the shape of a table: some exports end each row but the names by a delimiter."""
+    named = max((place for place, name in enumerate(head.names, 1) if name), default=0)
+    width = len(head.cells)
+    below = (row for row in rows if row.number > head.number and not row.is_blank())
+    beside = [len(row.cells) - width for row in below if len(row.cells) >= named]
+    rest = beside[0] if len(beside) > 1 and len(set(beside)) == 1 else 0
+    asked = {int(column) - 1 for column in options.asked if column.isdecimal()}
+    has_names = options.file.has_names
+    return Shape(head.number, named, width, max(rest, 0), asked if has_names else range(width))
+
+
+def delimiter_of(text: str, given: str | None, options: CsvOptions) -> str:
     """Returns the delimiter: the one that was given, or else the one that row 1 has and that is
     surely no data.
     """
     marks: list[str] = [*MARKS, given] if given else [*MARKS]
-    fits = {mark: fitness(text, begin, mark, options) for mark in marks}
+    fits = {mark: fitness(text, mark, options) for mark in marks}
     best = max(fits, key=lambda mark: fits[mark])
     is_cut = fits[best].is_cut
     if given:
@@ -176,24 +153,24 @@ def delimiter_of(text: str, begin: int, given: str | None, options: CsvOptions) 
             remedy = Remedy("delimiter", says=Text("find what is between cells"), is_less=True)
             raise ToolError(what, status=BAD_ARGUMENTS, remedies=(remedy,))
         return given
-    if not is_cut and (later := delimiter_of_names(text, begin, options)):
+    if not is_cut and (later := delimiter_of_names(text, options)):
         return later
-    is_quoted = text[begin : begin + 100].lstrip("\r\n").startswith('"')
+    is_quoted = text[:100].lstrip("\r\n").startswith('"')
     is_single_text = options.is_free and set(options.asked) == {"1"}
     may_be_data = is_single_text and best != "\t"
     if is_cut and (is_quoted or not may_be_data):
         return best
-    first = LINE.match(text, begin)
+    first = LINE.match(text)
     rare = [mark for mark in RARE if first and mark in first[0]]
     if is_cut or rare or options.is_free:
-        refuse_delimiter(text, begin, [best] if is_cut else rare or marks)
+        refuse_delimiter(text, [best] if is_cut else rare or marks)
     return ONE_COLUMN
 
 
-def refuse_delimiter(text: str, begin: int, marks: Sequence[str]) -> None:
+def refuse_delimiter(text: str, marks: Sequence[str]) -> None:
     """Raises `ToolError` where a row has a mark that may be data or between cells."""
     for mark in marks:
-        for row in parsed(text, begin, mark):
+        for row in parsed(text, mark):
             if len(row.cells) > 1:
                 ways = (
                     Remedy("delimiter", "tab" if mark == "\t" else mark, BETWEEN),
@@ -203,24 +180,24 @@ def refuse_delimiter(text: str, begin: int, marks: Sequence[str]) -> None:
                 raise ToolError(what, Text("what is it?"), BAD_ARGUMENTS, ways)
 
 
-def delimiter_of_names(text: str, begin: int, options: CsvOptions) -> str:
+def delimiter_of_names(text: str, options: CsvOptions) -> str:
     """Returns the delimiter by which a row below has all the names that were asked for; empty for
     none.
     """
     if not options.file.has_names:
         return ""
     for mark in MARKS:
-        rows = islice(parsed(text, begin, mark), NAMES_LOOKED_AT)
+        rows = islice(parsed(text, mark), NAMES_LOOKED_AT)
         found = row_with_names(rows, options.asked)
         if found > 1:
             return mark
     return ""
 
 
-def fitness(text: str, begin: int, mark: str, options: CsvOptions) -> Fitness:
+def fitness(text: str, mark: str, options: CsvOptions) -> Fitness:
     """Returns how well a delimiter fits the row of names and the rows below."""
     header_row = options.file.header_row or 0
-    rows = list(islice(parsed(text, begin, mark), header_row + ROWS_LOOKED_AT))
+    rows = list(islice(parsed(text, mark), header_row + ROWS_LOOKED_AT))
     filled_rows = [row for row in rows if row.cells and row.number >= header_row]
     if not filled_rows:
         return Fitness(False, False, 0)
@@ -231,14 +208,14 @@ def fitness(text: str, begin: int, mark: str, options: CsvOptions) -> Fitness:
     return Fitness(width > 1, all(column in names for column in asked), widths[width])
 
 
-def parsed(text: str, begin: int, delimiter: str) -> Iterator[Row]:
+def parsed(text: str, delimiter: str) -> Iterator[Row]:
     """Yields the rows with the numbers that a spreadsheet shows; after a quote that does not match,
     the last one.
     """
     csv.field_size_limit(MEGABYTE)
-    lines = (line[0] for line in LINE.finditer(text, begin))
+    lines = (line[0] for line in LINE.finditer(text))
     reader = csv.reader(lines, delimiter=delimiter, strict=True)
-    again = LINE.finditer(text, begin)  # for the lines of faulty rows, `passed` of which are behind
+    again = LINE.finditer(text)  # for the lines of faulty rows, `passed` of which are behind
     passed = 0
     for number in count(1):
         first = reader.line_num
@@ -291,12 +268,10 @@ def faulty(number: int, lines: Sequence[str], error: str) -> tuple[Row, bool]:
     """
     is_one_line = len(lines) == 1
     is_last = not is_one_line or lines[-1].count('"') % 2 == 1
-
-    def with_below(text: Text) -> Text:
-        return Text("{}; {}", text, ALL_BELOW) if is_last else text
-
+    texts = [UNCLOSED]
     if is_one_line and "expected after" in error:
-        problem = RowError(AFTER_QUOTE, with_below(AFTER_QUOTE_HINT))
-    else:
-        problem = RowError(with_below(UNCLOSED))
-    return Row(number, [], problem), is_last
+        texts = [AFTER_QUOTE, AFTER_QUOTE_HINT]
+    if is_last:
+        texts[-1] = Text("{}; {}", texts[-1], ALL_BELOW)
+    what, hint, *_ = *texts, NOTHING
+    return Row(number, [], RowError(what, hint)), is_last

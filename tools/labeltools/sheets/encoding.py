@@ -45,14 +45,12 @@ LETTERS_OF = {
 SAVE_AS_UTF_8 = Text("save it as UTF-8")
 CHOOSE = Text("save it as UTF-8, or choose what reads well")
 MOST_READINGS = 4
-MOST_LINES = 1000  # that are tried
-MOST_WORDS = 500
+MOST_WORDS = 500  # that are tried
 LONGEST_WORD = 40
 TOLERANCE = 0.25  # a reading with a larger part of odd words than the best one is not shown
-# each begins where a line or a word does: else a long one without such a letter is looked at again
-# from each of its letters
-OTHER_LINE = re.compile(rb"^[^\n\x80-\xff]*[\x80-\xff][^\n]*\n?", re.MULTILINE)
-OTHER_BYTES = re.compile(rb'(?<![^\s;,|"])[^\s;,|"\x80-\xff]*[\x80-\xff][^\s;,|"]*')
+# each begins where a word does: else a long one without such a letter is looked at again from each
+# of its letters; a letter of several bytes may have the one of a bar
+OTHER_BYTES = re.compile(rb'(?<![^\s;,"])[^\s;,"\x80-\xff]*[\x80-\xff][^\s;,"]*')
 OTHER_WORD = re.compile(r'(?<![^\s;,|"])[^\s;,|"\x80-\U0010ffff]*[^\x00-\x7f\s][^\s;,|"]*')
 ANY_WORD = re.compile(r'[^\s;,|"]+')
 CURRENCY = "€£¥₤₺"
@@ -73,13 +71,13 @@ def decoded(data: bytes, name: str, encoding: str | None) -> str:
     try:
         codec = codecs.lookup(encoding or known or "utf-8").name
         text = data.decode(codec)
-    except LookupError:
-        raise unknown_encoding(encoding or "") from None
-    except UnicodeError as error:
-        if not isinstance(error, UnicodeDecodeError):
-            raise unknown_encoding(encoding or "") from None
+    except UnicodeDecodeError as error:
         refuse_other(known, codec, encoding, name)
         raise wrong_encoding(data, name, codec, error.start) from None
+    except (LookupError, UnicodeError):
+        what = Text("the encoding {} is unknown", quoted(encoding or ""))
+        hint, remedies = Text("give one as cp1252"), (Remedy("encoding"),)
+        raise ToolError(what, hint, BAD_ARGUMENTS, remedies) from None
     refuse_other(known, codec, encoding, name)
     unread = re.search("[\0\x80-\x9f]" if codec == "iso8859-1" else "\0", text)
     if unread:
@@ -118,12 +116,6 @@ def refuse_other(known: str, codec: str, encoding: str | None, name: str) -> Non
         raise ToolError(what, status=BAD_ARGUMENTS, remedies=(remedy,))
 
 
-def unknown_encoding(encoding: str) -> ToolError:
-    """Returns the error of an encoding that is none."""
-    what = Text("the encoding {} is unknown", quoted(encoding))
-    return ToolError(what, Text("give one as cp1252"), BAD_ARGUMENTS, (Remedy("encoding"),))
-
-
 def wrong_encoding(data: bytes, name: str, codec: str, start: int) -> ToolError:
     """Returns the error of a table in another encoding, with how others would read a word of it."""
     line = data.count(b"\n", 0, start) + 1
@@ -151,12 +143,9 @@ def readings(data: bytes, without: str) -> dict[str, str]:
     >>> readings("Käse Füller".encode("cp850"), "utf-8")
     {'cp850': 'Käse'}
     """
-    sample = b"".join(OTHER_LINE.findall(data)[:MOST_LINES])
-    words: dict[str, list[str]] = {}
-    for codec in CANDIDATES:
-        found = OTHER_WORD.findall(text_by(sample, codec))[:MOST_WORDS]
-        if codec != without and found and found not in words.values():
-            words[codec] = found
+    others = [codec for codec in CANDIDATES if codec != without]
+    found = other_words(data, others, MOST_WORDS)
+    words = {codec: alike for alike, (codec, *_) in found.items()}
     odd = {codec: sum(is_odd(word) for word in own) / len(own) for codec, own in words.items()}
     best = min(odd.values(), default=0.0) + TOLERANCE
     good = (codec for codec in sorted(odd, key=odd.__getitem__) if odd[codec] <= best)
@@ -164,9 +153,11 @@ def readings(data: bytes, without: str) -> dict[str, str]:
     return {codec: word_of(words[codec], [words[other] for other in shown]) for codec in shown}
 
 
-def other_words(data: bytes, codecs: Iterable[str]) -> dict[tuple[str, ...], list[str]]:
-    """Returns how encodings of single bytes read the words of a text that is surely in none of
-    Unicode, each word with other letters than ASCII once, in their order; those that read all alike
+def other_words(
+    data: bytes, codecs: Iterable[str], most: int | None = None
+) -> dict[tuple[str, ...], list[str]]:
+    """Returns how encodings read the words of a text that is surely in none of Unicode, each word
+    with other letters than ASCII once, in their order, or the first ones; those that read all alike
     are together.
 
     >>> other_words("Käse Käse für".encode("cp1252"), ["cp1252", "cp850", "cp1250"])
@@ -174,7 +165,7 @@ def other_words(data: bytes, codecs: Iterable[str]) -> dict[tuple[str, ...], lis
     """
     if not is_old(data):
         return {}
-    sample = b" ".join(dict.fromkeys(OTHER_BYTES.findall(data)))
+    sample = b" ".join([*dict.fromkeys(OTHER_BYTES.findall(data))][:most])
     found: dict[tuple[str, ...], list[str]] = {}
     for codec in codecs:
         words = tuple(dict.fromkeys(OTHER_WORD.findall(text_by(sample, codec))))

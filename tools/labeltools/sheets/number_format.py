@@ -59,7 +59,6 @@ DATE = r"d{1,2}(?!d)|m{1,2}(?!m)|(?:yy){1,2}(?!y)|h{1,2}(?!h)|s{1,2}(?![s.])|AM/
 MOMENT = re.compile(rf"(?:{DATE}|[.,]|{ANY})+", LITERAL.flags)
 MOMENT_PART = re.compile(rf"(?P<date>{DATE})|[.,]|{ANY}", LITERAL.flags)
 SECTION = re.compile(r"""(?:"[^"]*"|\\.|[_*].|\[[^\]]*\]|[^;"\\\[])*""", re.DOTALL)
-PATTERN_OF_DATES = re.compile("(?:yyyy|yy|dd?|mm?|hh?|ss?|[-./: ,]|[^\x00-\x7f])+")
 SIGNIFICANT = Context(prec=15)  # the digits of a number in a spreadsheet
 EXACT = Context(prec=600)  # those of any other, with as many decimals as a format has
 FIRST_DAY = 61  # from March 1900 on all spreadsheets count from the same day
@@ -168,16 +167,17 @@ def not_understood(number_format: str, is_code: bool = False) -> RowError:
     return RowError(what, AS_TEXT)
 
 
-def is_of_time(number_format: str, value: Decimal) -> bool:
-    """Returns whether a format shows a number as a date or a time.
+@lru_cache(maxsize=256)
+def is_of_time(number_format: str) -> bool:
+    """Returns whether a format shows numbers as dates or times.
 
-    >>> is_of_time("d.m", Decimal(46359)), is_of_time("0.00;@", Decimal(3))
+    >>> is_of_time("d.m"), is_of_time("0.00;@")
     (True, False)
     """
     if number_format == DATE_OF_LANGUAGE:
         return True
     try:
-        return bool(section_for(number_format, value)[0].moment)
+        return any(section.moment for section in sections_of(number_format))
     except RowError:
         return is_date_format(number_format)
 
@@ -216,16 +216,15 @@ def section_of(text: str, number_format: str) -> Section:
         if literal["language"] and not literal["currency"]:
             language = language_of(literal["language"], number_format)
     if found := NUMBER.fullmatch(text):
-        around = re.sub(LITERAL, "", found["before"] + found["behind"])
-        is_framed = (
-            found["pattern"] == "@" and literals_shown(found["before"] + found["behind"]).strip()
-        )
+        around = LITERAL.sub("", found["before"] + found["behind"])
+        before, behind = (LITERAL.sub(literal_shown, found[part]) for part in ("before", "behind"))
+        is_framed = found["pattern"] == "@" and (before + behind).strip()
         if around in ("", "%") and (found["pattern"] or not around) and not is_framed:
-            before, behind = literals_shown(found["before"]), literals_shown(found["behind"])
             return Section(before, found["pattern"], behind, around == "%", language)
     elif MOMENT.fullmatch(text):
         parts = [
-            part["date"] or f"'{literals_shown(part[0])}" for part in MOMENT_PART.finditer(text)
+            part["date"] or f"'{LITERAL.sub(literal_shown, part[0])}"
+            for part in MOMENT_PART.finditer(text)
         ]
         moment = with_minutes(parts)
         if any(part[0] in "dmyhns" for part in moment):
@@ -233,18 +232,14 @@ def section_of(text: str, number_format: str) -> Section:
     raise not_understood(number_format)
 
 
-def literals_shown(literals: str) -> str:
-    """Returns what literals show.
+def literal_shown(found: re.Match[str]) -> str:
+    """Returns what a literal shows.
 
-    >>> literals_shown('"a" \\\\b_-[$€-407][Red]')
+    >>> LITERAL.sub(literal_shown, '"a" \\\\b_-[$€-407][Red]')
     'a b €'
     """
-
-    def text(found: re.Match[str]) -> str:
-        named = found["quoted"] or found["escaped"] or found["currency"] or found["plain"]
-        return named or (" " if found["space"] else "")
-
-    return LITERAL.sub(text, literals)
+    named = found["quoted"] or found["escaped"] or found["currency"] or found["plain"]
+    return named or (" " if found["space"] else "")
 
 
 def language_of(code: str | None, number_format: str) -> str:
@@ -306,17 +301,16 @@ def is_date_format(number_format: str) -> bool:
 
 @lru_cache(maxsize=16)
 def date_section(pattern: str) -> Section:
-    """Returns the section of a pattern of dates, as `dd.mm.yyyy`; raises ValueError.
+    """Returns the section of a format of dates or times, as `dd.mm.yyyy`; raises ValueError.
 
     >>> date_text(date_section("dd.mm.yy"), Decimal(46351))
     '25.11.26'
     """
-    if not PATTERN_OF_DATES.fullmatch(pattern) or not re.search("[dmy]", pattern):
-        raise ValueError(Text("{!r}: write it as 'dd.mm.yyyy'", pattern))
-    parts = re.findall("yyyy|yy|dd?|mm?|hh?|ss?|.", pattern)
-    return Section(
-        moment=with_minutes([part if part[0] in "ymdhs" else f"'{part}" for part in parts])
-    )
+    with suppress(RowError):
+        section, *others = sections_of(pattern)
+        if section.moment and not others:
+            return section
+    raise ValueError(Text("{!r}: write it as 'dd.mm.yyyy'", pattern))
 
 
 def date_text(section: Section, value: Decimal, is_from_1904: bool = False) -> str:

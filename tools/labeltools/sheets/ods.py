@@ -6,6 +6,7 @@ from dataclasses import dataclass, field
 from datetime import date, datetime
 from decimal import Decimal
 from itertools import groupby
+from operator import itemgetter
 from xml.etree.ElementTree import Element, fromstring, iterparse
 from zipfile import ZipFile
 
@@ -17,11 +18,11 @@ from labeltools.sheets.cells import (
     CellKind,
     CONDITION,
     Fault,
+    formed,
     Lettering,
     Mark,
     NO_LETTERS,
     no_value,
-    RAISED,
     Run,
     Special,
     text_of_runs,
@@ -39,12 +40,9 @@ from labeltools.sheets.workbook import (
     NOT_SAVED,
     NOT_SAVED_HINT,
     plainly_named,
-    repeats,
     rows_from,
-    rows_of_chosen,
     SAVE_AGAIN,
     whole_number,
-    with_empty_cells,
     Worksheet,
 )
 
@@ -79,7 +77,7 @@ class OdsNumber(Special):
     number: Decimal | None = field()  # not the default of other cells
     moment: str
     formatter: Formatter
-    cell_kind: CellKind = CellKind.NUMBER
+    cell_kind: CellKind = field()
 
     def agree(self) -> None:
         """Raises `RowError` where the text has a number without a value, or is cut off."""
@@ -152,10 +150,6 @@ class Styles:
             name = self.parents.get((family, name), "")
         return found
 
-    def has_condition(self) -> bool:
-        """Returns whether a condition takes letters away."""
-        return any(self.form(style).mark in NO_LETTERS for style in self.of_conditions)
-
     def form(self, cell: str, spans: str = "") -> Lettering:
         """Returns the form of the letters of a cell by its style, and by those of letters in it,
         with spaces between, the innermost last.
@@ -188,32 +182,15 @@ def styled_lettering(said: Mapping[str, str]) -> Lettering:
     return Lettering(Mark.WHITE if is_white else Mark.NONE, points)
 
 
-def rows_of_ods(
-    archive: ZipFile, wanted: str | None, formatter: Formatter, talk: Talk
-) -> Iterator[Row]:
-    """Yields the rows of the sheet that is wanted, else of the only one that is visible and has
-    data.
-    """
-    styles = Styles()
-    yield from rows_of_chosen(tables_of(archive, styles, formatter), wanted)
-    if styles.has_condition():
-        talk.say(CONDITION)
-
-
-def tables_of(archive: ZipFile, styles: Styles, formatter: Formatter) -> Iterator[Worksheet]:
+def sheets_of_ods(archive: ZipFile, formatter: Formatter, talk: Talk) -> Iterator[Worksheet]:
     """Yields the sheets of a file, whose styles are in front of them."""
+    styles = Styles()
     if "styles.xml" in archive.namelist():
         for style in fromstring(archive.read("styles.xml")).iter():
             if style.tag in STYLES:
                 styles.take_style(plainly_named(style))
-    table: Element | None = None
-
-    def with_table(element: Element) -> Element | None:
-        nonlocal table
-        table = element if element.tag == "table" else table
-        return table
-
-    for sheet, elements in groupby(parts_of_content(archive), with_table):
+    for sheet, parts in groupby(parts_of_content(archive), itemgetter(0)):
+        elements = map(itemgetter(1), parts)
         if sheet is None:
             for style in elements:
                 styles.take_style(style)
@@ -222,12 +199,16 @@ def tables_of(archive: ZipFile, styles: Styles, formatter: Formatter) -> Iterato
         is_visible = said.get("style-name") not in styles.hidden
         rows = OdsSheet(styles, formatter).rows(elements)
         yield Worksheet(said.get("name", ""), is_visible, rows)
+    if any(styles.form(style).mark in NO_LETTERS for style in styles.of_conditions):
+        talk.say(CONDITION)
 
 
-def parts_of_content(archive: ZipFile) -> Iterator[Element]:
-    """Yields the styles of a file, and each sheet as it begins, before its columns and rows, which
-    are whole. What is in them is none of these; behind all sheets are those of other files.
+def parts_of_content(archive: ZipFile) -> Iterator[tuple[Element | None, Element]]:
+    """Yields the styles of a file, and the columns and rows of each sheet behind the sheet: all of
+    them whole, each with its sheet. What is in them is none of these; behind all sheets are those
+    of other files.
     """
+    sheet: Element | None = None
     open_rows = 0
     with archive.open("content.xml") as stream:
         for event, element in iterparse(stream, ("start", "end")):
@@ -235,13 +216,14 @@ def parts_of_content(archive: ZipFile) -> Iterator[Element]:
             if event == "start" and name == ROW:
                 open_rows += 1
             elif event == "start" and name == SHEET and not open_rows:
-                yield Element("table", element.attrib)
+                sheet = Element("table", element.attrib)
+                yield sheet, sheet
             elif event == "start" and name == OF_OTHERS:
                 return
             elif event == "end" and name in WHOLE:
                 open_rows -= name == ROW
                 if not open_rows:
-                    yield plainly_named(element)
+                    yield sheet, plainly_named(element)
                     element.clear()
 
 
@@ -268,7 +250,7 @@ class OdsSheet:
                 self.merges = merges_at(self.merges, self.number)
                 cells, links = self.cells_of(element, said.get("default-cell-style-name", ""))
                 is_hidden = said.get("visibility", "visible") != "visible"
-                repeat = repeats(said, "number-rows-repeated")
+                repeat = whole_number(said.get("number-rows-repeated", "1"), 1)
                 if is_hidden or any(cells):
                     beside = tuple(self.merges), links, self.hidden_places
                     yield from rows_from(Row(self.number, cells, None, is_hidden, *beside), repeat)
@@ -276,7 +258,7 @@ class OdsSheet:
 
     def add_columns(self, said: Attributes) -> None:
         """Adds the style of columns, which may be repeated."""
-        count = repeats(said, "number-columns-repeated")
+        count = whole_number(said.get("number-columns-repeated", "1"), 1)
         style = said.get("default-cell-style-name", "")
         first = len(self.columns)
         self.columns += [style] * min(count, MOST_COLUMNS - first)
@@ -294,7 +276,7 @@ class OdsSheet:
             said = local(element)
             self.add_merge(said, place)
             begin = place
-            repeat = repeats(said, "number-columns-repeated")
+            repeat = whole_number(said.get("number-columns-repeated", "1"), 1)
             place = min(begin + repeat, MOST_COLUMNS + 1)
             lines = element.findall("p")
             if not (lines or "value-type" in said or "formula" in said):
@@ -309,13 +291,14 @@ class OdsSheet:
                 if style not in made:
                     made[style] = cell_or_fault(self.cell_of, said, lines, style)
                 if cell := made[style]:
-                    with_empty_cells(cells, at).append(cell)
+                    cells += [""] * (min(at, MOST_COLUMNS) - len(cells))
+                    cells.append(cell)
         return cells, links
 
     def add_merge(self, said: Attributes, place: int) -> None:
         """Adds the merged cells that begin at a cell."""
-        rows = repeats(said, "number-rows-spanned")
-        columns = repeats(said, "number-columns-spanned")
+        rows = whole_number(said.get("number-rows-spanned", "1"), 1)
+        columns = whole_number(said.get("number-columns-spanned", "1"), 1)
         if rows > 1 or columns > 1:
             last = self.number + rows - 1, place + columns - 1
             self.merges.append(Merge(self.number, place, *last))
@@ -333,11 +316,10 @@ class OdsSheet:
         kind = said.get("value-type", "")
         if kind in NUMBERS:
             value, moment = said.get("value", ""), said.get("date-value", "")
-            if form.mark.moves:
-                return Fault(RAISED, AS_TEXT, value or text)
             exact = exact_of(value) if value else None
             own = CellKind.MOMENT if kind in ("date", "time") else CellKind.NUMBER
-            return OdsNumber(value or text, text, exact, moment, self.formatter, own)
+            number = OdsNumber(value or text, text, exact, moment, self.formatter, own)
+            return formed(number, form)
         if kind == "error":
             return Fault(no_value(text).what, value=text)
         if kind == "boolean":

@@ -131,7 +131,7 @@ def tree_of(archive: ZipFile, part: str, but: re.Pattern[bytes] | None = None) -
 
 
 def parts_of(archive: ZipFile, part: str, outer: str, name: str) -> Iterator[Element]:
-    """Yields the elements of a name that are in one of a part, each whole, and forgets them."""
+    """Yields the elements of a name that are in others of a part, each whole, and forgets them."""
     builder = TreeBuilder()
     top = builder.start("", {})
     parser = XMLParser(target=builder)
@@ -143,14 +143,14 @@ def parts_of(archive: ZipFile, part: str, outer: str, name: str) -> Iterator[Ele
             is_read = not data
             if is_read:
                 parser.close()
-            within = top.find(outer)
-            if within is None:
-                continue
-            whole = within[:] if is_read else within[:-1]  # the last one may go on
-            del within[: len(whole)]
-            for element in map(plainly_named, whole):
-                if element.tag == name:
-                    yield element
+            found = top.findall(outer)
+            for within in found:
+                goes_on = within is found[-1] and not is_read  # and its last element, too
+                whole = within[:-1] if goes_on else within[:]
+                del within[: len(whole)]
+                for element in map(plainly_named, whole):
+                    if element.tag == name:
+                        yield element
 
 
 def plainly_named(tree: Element) -> Element:
@@ -177,7 +177,7 @@ def rows_from(row: Row, repeat: int = 1) -> Iterator[Row]:
                 MOST_MERGES,
             )
         )
-    if row.is_blank():  # there may be a million
+    if repeat > 1 and row.is_blank():  # there may be a million
         repeat = 1
     letters = sum([len(cell) for cell in row.cells if isinstance(cell, str)])
     if letters > LARGEST_ROW or repeat > 1 and (letters + EACH) * repeat > LARGEST_ROW:
@@ -206,14 +206,6 @@ def merges_at(merges: list[Merge], number: int) -> list[Merge]:
     return [merge for merge in merges if merge.last_row >= number]
 
 
-def with_empty_cells(cells: list[Cell], place: int) -> list[Cell]:
-    """Returns a row with empty cells up to a place."""
-    if place > len(cells):
-        lacking = min(place, MOST_COLUMNS) - len(cells)
-        cells += [""] * lacking
-    return cells
-
-
 def exact_of(value: str) -> Decimal:
     """Returns a number of a file; raises ValueError or ArithmeticError for one that no spreadsheet
     writes.
@@ -225,14 +217,6 @@ def exact_of(value: str) -> Decimal:
     if not exact.is_finite() or exact and abs(exact.adjusted()) > LARGEST_EXPONENT:
         raise ValueError(f"number {value:.30}")
     return exact
-
-
-def repeats(attributes: Mapping[str, str], name: str) -> int:
-    """Returns an attribute that counts from 1, and is 1 where it is not there; raises
-    ValueError.
-    """
-    value = attributes.get(name)
-    return 1 if value is None else whole_number(value, 1)
 
 
 def whole_number(value: str, least: int = 0) -> int:

@@ -11,7 +11,7 @@ from zipfile import ZipFile
 
 from labeltools.common.messages import Problem, RowError, Talk, ToolError
 from labeltools.common.text import Text
-from labeltools.sheets import number_format
+
 from labeltools.sheets.cells import (
     Cell,
     CellKind,
@@ -27,7 +27,15 @@ from labeltools.sheets.cells import (
     text_of_runs,
     Truth,
 )
-from labeltools.sheets.number_format import BUILT_IN, BUILT_IN_DATES, Formatter, LANGUAGE
+from labeltools.sheets.number_format import (
+    BUILT_IN,
+    BUILT_IN_DATES,
+    digits_of,
+    Formatter,
+    is_of_time,
+    LANGUAGE,
+    sections_of,
+)
 from labeltools.sheets.rows import Merge, Row
 from labeltools.sheets.workbook import (
     cell_or_fault,
@@ -41,12 +49,10 @@ from labeltools.sheets.workbook import (
     parts_of,
     range_corners,
     rows_from,
-    rows_of_chosen,
     SAVE_AGAIN,
     tree_of,
     TRUE,
     whole_number,
-    with_empty_cells,
     Worksheet,
 )
 
@@ -75,11 +81,12 @@ XlsxRuns = Sequence[
 
 
 class Look(NamedTuple):
-    """A style: its number format, the form of its letters, and why it shows no text, if it puts
-    something around texts that is not understood.
+    """A style: its number format, the kind of the numbers that it shows, the form of its letters,
+    and why it shows no text, if it puts something around texts that is not understood.
     """
 
     number_format: str
+    cell_kind: CellKind
     form: Lettering
     text_problem: RowError | None = None
 
@@ -115,7 +122,8 @@ class Book:
         found = self.numbers.get((value, style))
         if found is None:
             look = self.looks[style]
-            number = XlsxNumber(value, exact_of(value), look.number_format, self)
+            exact = exact_of(value)
+            number = XlsxNumber(value, exact, look.cell_kind, look.number_format, self)
             if len(self.numbers) >= MOST_NUMBERS:
                 self.numbers.clear()
             found = self.numbers[value, style] = formed(number, look.form)
@@ -137,18 +145,10 @@ class XlsxNumber(Special):
 
     value: str
     number: Decimal = field()  # not the default of other cells
+    cell_kind: CellKind = field()
     number_format: str
     book: Book
-    is_moment: bool | None = None
     text: str = ""
-    is_kept: bool = False
-
-    @property
-    def cell_kind(self) -> CellKind:
-        """What it is by its format; a number may be shown as a date or a time."""
-        if self.is_moment is None:
-            self.is_moment = number_format.is_of_time(self.number_format, self.number)
-        return CellKind.MOMENT if self.is_moment else CellKind.NUMBER
 
     def shown(self) -> str:
         """Returns the number as its format shows it."""
@@ -163,28 +163,17 @@ class XlsxNumber(Special):
         it.
         """
         text = self.shown()
-        if not self.is_kept:
-            self.book.formatter.keep_example(self.number_format, text)
-            self.is_kept = True
+        self.book.formatter.keep_example(self.number_format, text)
         return text
 
     def digits(self, is_data: bool) -> str:
         """Returns the digits of a whole number; as data it is shown so."""
-        return number_format.digits_of(self.number_format, self.number, is_data)
+        return digits_of(self.number_format, self.number, is_data)
 
 
-def rows_of_xlsx(
-    archive: ZipFile, wanted: str | None, formatter: Formatter, talk: Talk
-) -> Iterator[Row]:
-    """Yields the rows of the sheet that is wanted, else of the only one that is visible and has
-    data.
-    """
-    path = dict(relations(archive, "").values())["officeDocument"]
-    return rows_of_chosen(sheets_of(archive, path, formatter, talk), wanted)
-
-
-def sheets_of(archive: ZipFile, path: str, formatter: Formatter, talk: Talk) -> Iterator[Worksheet]:
+def sheets_of_xlsx(archive: ZipFile, formatter: Formatter, talk: Talk) -> Iterator[Worksheet]:
     """Yields the sheets of a workbook."""
+    path = dict(relations(archive, "").values())["officeDocument"]
     targets = relations(archive, path)
     parts = dict(targets.values())
     tree = tree_of(archive, path)
@@ -215,20 +204,19 @@ def rows_of_sheet(archive: ZipFile, part: str, book: Book, looks: Looks) -> Iter
         if number <= before:
             raise out_of_order(number)
         merges = merges_at(merges, number) + beside.merges.get(number, [])
-        cells, links = cells_of(found, number, book)
-        links = {**beside.links.get(number, {}), **links}
+        links = beside.links.get(number, {})
+        cells = cells_of(found, number, book, links)
         is_hidden = is_unseen(found.attrib)
         yield from rows_from(
             Row(number, cells, None, is_hidden, merges, links, beside.hidden_places)
         )
 
 
-def cells_of(row: Element, number: int, book: Book) -> tuple[list[Cell], dict[int, str]]:
-    """Returns the cells of a row, and the addresses that formulas in them lead to, by their
-    places.
+def cells_of(row: Element, number: int, book: Book, links: dict[int, str]) -> list[Cell]:
+    """Returns the cells of a row, and adds the addresses that formulas in them lead to, by their
+    places, to those of the row.
     """
     cells: list[Cell] = []
-    links: dict[int, str] = {}
     for found in row:
         if found.tag != "c":
             continue
@@ -238,10 +226,12 @@ def cells_of(row: Element, number: int, book: Book) -> tuple[list[Cell], dict[in
             raise out_of_order(number)
         formula = found.findtext("f")
         cell = cell_or_fault(cell_of, found, formula is not None, book)
-        with_empty_cells(cells, place).append(cell)
+        if place > len(cells):
+            cells += [""] * (min(place, MOST_COLUMNS) - len(cells))
+        cells.append(cell)
         if formula and (link := HYPERLINK.fullmatch(formula)):
             links[place] = link[1]
-    return cells, links
+    return cells
 
 
 def cell_of(found: Element, has_formula: bool, book: Book) -> Cell:
@@ -304,16 +294,17 @@ def looks_of(archive: ZipFile, part: str) -> Looks:
     ]
     looks: dict[str, Look] = {}
     for found in tree.iterfind("cellXfs/xf"):
-        number_format = by_number.get(found.get("numFmtId", "0"), LANGUAGE)
+        shown = by_number.get(found.get("numFmtId", "0"), LANGUAGE)
         form = numbered_lettering(found.attrib, fonts, are_filled)
-        looks[str(len(looks))] = Look(number_format, form, text_problem(number_format))
+        kind = CellKind.MOMENT if is_of_time(shown) else CellKind.NUMBER
+        looks[str(len(looks))] = Look(shown, kind, form, text_problem(shown))
     of_conditions = [
         lettering_of(found.iterfind("font/*")).within(
             Lettering(is_filled=found.find("fill/*") is not None)
         )
         for found in tree.iterfind("dxfs/dxf")
     ]
-    return Looks(looks or {"0": Look("General", PLAIN)}, of_conditions)
+    return Looks(looks or {"0": Look("General", CellKind.NUMBER, PLAIN)}, of_conditions)
 
 
 def numbered_lettering(
@@ -399,7 +390,7 @@ def text_problem(style: str) -> RowError | None:
     """Returns why a number format shows no text: it may put something around it, as `"SKU-"@`."""
     if "@" in style and style != "@":
         try:
-            number_format.sections_of(style)
+            sections_of(style)
         except RowError as problem:
             return problem
     return None

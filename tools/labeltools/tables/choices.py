@@ -2,9 +2,11 @@
 evidence speaks for, and what only the keeper knows.
 """
 
+import re
 from collections.abc import Collection, Mapping, Sequence
 
-from labeltools.tables.code_readings import CodeReading, is_isbn_10, LEAST
+from labeltools.tables.code_readings import CodeReading
+from labeltools.tables.codes import ean_of_isbn
 from labeltools.tables.column_samples import (
     ColumnSample,
     FEW,
@@ -12,9 +14,9 @@ from labeltools.tables.column_samples import (
     is_amount,
     is_money,
     is_paid,
-    Plainness,
+    LEAST,
 )
-from labeltools.tables.evidence import Decision, evidences_of, probable_choice
+from labeltools.tables.evidence import Decision, probable_choice
 from labeltools.tables.facts import (
     are_different_texts,
     charged,
@@ -25,7 +27,6 @@ from labeltools.tables.facts import (
     is_of_books,
     is_of_other,
     is_paid_beside,
-    is_plain_title,
     may_be_amounts,
     may_be_code,
     may_be_taxed,
@@ -35,18 +36,20 @@ from labeltools.tables.facts import (
     PRICE,
     Samples,
     TITLE,
+    TITLES,
     with_taxes,
 )
-from labeltools.tables.variants import variants_in
 
 MOST_PAIRS = 500_000  # of amounts that are compared
 NO_KEYS = ("prices", "cost", "stock")  # what says nothing about which rows are variants
+# what programs call an article, as `a-1` or `10047`: no word or amount as people write it
+KEY = re.compile(r"(?=(?:.*[0-9]){3})[\w/:#-]+|(?=.*[a-z])[a-z0-9._-]+")
 
 
 def code_choice(columns: Samples) -> Decision:
     """Returns which column has the codes: some, wherever a column may have them."""
     may_be = code_candidates(columns)
-    found = probable_choice(evidences_of(may_be, CODE))
+    found = probable_choice(may_be, CODE)
     if found.is_none:
         return Decision(sorted(found.may_be))
     if found.surely is None:
@@ -93,7 +96,7 @@ def code_candidates(columns: Samples) -> Samples:
     may_be = {place: column for place, column in columns.items() if may_be_code(column)}
     may_be = {place: own for place, own in may_be.items() if not own.is_running} or may_be
     if any(column.has_codes for column in may_be.values()):
-        may_be = {place: own for place, own in may_be.items() if not own.mostly_pass(is_isbn_10)}
+        may_be = {place: own for place, own in may_be.items() if not own.mostly_pass(ean_of_isbn)}
     checked = {place: column for place, column in may_be.items() if column.has_codes}
     fullest = max(checked, key=lambda place: checked[place].filled, default=-1)
     again = [
@@ -126,7 +129,7 @@ def title_choice(columns: Samples, taken: Collection[int]) -> Decision:
     """Returns which column has the title, of those that are not taken."""
     may_be = title_candidates(columns, taken)
     if may_be:
-        found = probable_choice(evidences_of(may_be, TITLE))
+        found = probable_choice(may_be, TITLE)
         rivals = title_rivals(may_be, found.surely)
         return Decision(sorted({*found.may_be, *rivals})) if rivals else found
     free = without(columns, taken)
@@ -166,7 +169,8 @@ def name_parts(columns: Samples, taken: Collection[int]) -> Sequence[int]:
     if another one has the whole name, or if things have titles, too.
     """
     free = title_candidates(columns, taken)
-    plain = {place: column for place, column in free.items() if is_plain_title(column)}
+    named = (*TITLES, "beside-titles")
+    plain = {place: column for place, column in free.items() if column.is_plain(*named)}
     parts = [place for place, column in plain.items() if column.says("parts")]
     names = [place for place in plain if plain[place].says("titles") and place not in parts]
     if not parts or len(parts) + len(names) != 2:
@@ -196,7 +200,7 @@ def price_choice(columns: Samples, taken: Collection[int]) -> Decision:
     if not may_be:
         free = without(columns, taken)
         return Decision(net_places(free) or paired_places(compared(free)))
-    found = probable_choice(evidences_of(may_be, PRICE))
+    found = probable_choice(may_be, PRICE)
     near = {place: may_be[place] for place in found.may_be}
     if found.surely is not None:
         rivals = near | advised_beside(may_be, found.surely)
@@ -256,7 +260,7 @@ def without_same(columns: Samples) -> Samples:
 def is_plain_price(column: ColumnSample) -> bool:
     """Returns whether a name says that customers pay it, and no more."""
     is_own = not column.says("advised", "regular", "sale")
-    return is_own and column.plainness(*PAID) is Plainness.PLAIN
+    return is_own and column.is_plain(*PAID)
 
 
 def net_places(columns: Samples) -> Sequence[int]:
@@ -377,9 +381,26 @@ def copies_choice(columns: Samples, taken: Collection[int]) -> Decision:
 
 
 def variants_place(columns: Samples, title: int) -> int | None:
-    """Returns the column that tells which rows without a title are variants of the one above."""
-    keys = [() if column.says(*NO_KEYS) else column.cells for column in columns.values()]
-    return variants_in(columns[title].cells, keys)
+    """Returns the column that says which rows are variants of one article, by words as programs
+    write them: of each the first row has a title, and no other one. None where each row has its
+    title, or no column is so.
+
+    >>> cells = ["Shirt", "", "Cap"], ["red", "blue", "red"], ["a-1", "a-1", "b-2"]
+    >>> columns = {place: ColumnSample("", texts) for place, texts in enumerate(cells)}
+    >>> variants_place(columns, 0), variants_place(columns, 1)
+    (2, None)
+    """
+    titles = columns[title].cells
+    for place, column in columns.items():
+        first: set[str] = set()
+        for text, cell in zip(titles, column.cells):
+            if not KEY.fullmatch(cell) or bool(text) == (cell in first):
+                break
+            first.add(cell)
+        else:
+            if first and not all(titles) and not column.says(*NO_KEYS):
+                return place
+    return None
 
 
 def are_single_things(readings: Mapping[int, CodeReading], columns: Samples) -> bool:

@@ -155,16 +155,6 @@ def symbology_named(text: str) -> str:
     return NAMED.get(re.sub("[^a-z0-9]", "", text.casefold()), "")
 
 
-def has_length(text: str) -> bool:
-    """Returns whether a text has as many digits as an EAN or UPC: if its check digit is wrong, only
-    the keeper knows what it is.
-
-    >>> has_length("4006381333932"), has_length("101")
-    (True, False)
-    """
-    return text.isdecimal() and len(text) in NUMBERS
-
-
 def check_data(cell: str) -> None:
     """Raises `RowError` for what would be drawn as data though nobody means it."""
     if IS_ROUNDED_DATA.fullmatch(cell):
@@ -203,7 +193,8 @@ def digits_in(cell: str, has_check_digit: bool) -> str:
         raise RowError(Text("{}: {}", quoted(digits), ROUNDED), ROUNDED_HINT)
     if re.fullmatch("0+", digits):
         raise RowError(Text("{} has only zeros, and is not an article number", quoted(digits)))
-    check_isbn(digits)
+    if ean := ean_of_isbn(digits):
+        raise RowError(Text("{} is an ISBN of ten digits", digits), Text("its EAN-13 is {}", ean))
     if other := re.search("[^0-9]", digits):
         what = Text(
             "{} has other characters than digits: character {} is {}",
@@ -215,22 +206,21 @@ def digits_in(cell: str, has_check_digit: bool) -> str:
     return digits
 
 
-def check_isbn(digits: str) -> None:
-    """Raises `RowError` for an ISBN of ten digits, with its EAN-13.
+def ean_of_isbn(digits: str) -> str:
+    """Returns the EAN-13 of an ISBN of ten digits; empty for what is none.
 
     ISO 2108: weights 10 to 1, X is 10; 11 divides the sum.
+
+    >>> ean_of_isbn("0-306-40615-2"), ean_of_isbn("0306406153")
+    ('9780306406157', '')
     """
     if not ISBN_10.fullmatch(digits):
-        return
+        return ""
     ten = re.sub("[- ]", "", digits).upper().zfill(10)
     values = ["0123456789X".index(digit) for digit in ten]
     total = sum(weight * value for weight, value in zip(range(10, 0, -1), values))
-    if total % 11 == 0:
-        nine = "978" + ten[:9]
-        raise RowError(
-            Text("{} is an ISBN of ten digits", digits),
-            Text("its EAN-13 is {}{}", nine, check_digit(nine)),
-        )
+    twelve = "978" + ten[:9]
+    return "" if total % 11 else twelve + check_digit(twelve)
 
 
 def symbology_of(digits: str, rules: CodeRules) -> str:

@@ -3,14 +3,16 @@ an amount of money or a count, and what their names say in words that are known.
 """
 
 import re
-from collections.abc import Callable, Iterable, Mapping, Sequence
+import unicodedata
+from collections.abc import Callable, Mapping, Sequence
 from dataclasses import dataclass, field, replace
 from decimal import Decimal
-from enum import IntEnum
 from functools import cached_property
 from os.path import commonprefix
 
-from labeltools.tables.code_readings import has_lost_zeros, is_code, LEAST, passing_share
+from labeltools.common.messages import RowError
+from labeltools.sheets.cells import FORMULA_OF_TEXT
+from labeltools.tables.codes import code_of, CodeRules, ZEROS_ARE_LOST
 from labeltools.tables.columns import NAME_WITH_DIGITS
 from labeltools.tables.money import price_or_none, read_unit_price
 from labeltools.tables.name_words import column_words, words_in
@@ -35,17 +37,11 @@ TAG = re.compile(r"\s*<[a-z][^<>]*>.*", re.DOTALL | re.IGNORECASE)  # what HTML 
 DIGITS = re.compile("[0-9]+")
 FIVE_DIGITS = re.compile("(?:[0-9][^0-9]?){5}")  # an EAN-8 without its three zeros has as many
 MANY = 6  # names that begin alike by no chance
-
-
-class Plainness(IntEnum):
-    """What the name of a column says beside the words for a thing: nothing, a number as `Price 2`,
-    words that the name of the stock or of a cost has, too, or that it is of some kind.
-    """
-
-    PLAIN = 0
-    NUMBERED = 1
-    SHARED = 2
-    OF_SOME_KIND = 3
+LONGEST = 1000  # letters of a cell, whose kind these show
+LEAST = 0.5  # the part of the cells of a column that are of its kind
+MOST_CHANCE = 3  # numbers whose check digits agree by chance, all of them, in one case of 1000
+EAN_OR_UPC = CodeRules()
+WITH_ZEROS = CodeRules(digits=ZEROS_ARE_LOST)
 
 
 @dataclass(frozen=True)
@@ -76,13 +72,15 @@ class ColumnSample:
 
     @cached_property
     def amounts(self) -> Sequence[Decimal | None]:
-        """The amounts of money in its cells, but for zero."""
-        return [amount_in(cell) for cell in self.cells]
+        """The amounts of money in its cells."""
+        prices = map(price_or_none, self.cells)
+        return [price.value if price else None for price in prices]
 
     def passing_part(self, test: Callable[[str], object]) -> float:
-        """Returns the part of its texts that pass a test; those that it refuses do not."""
+        """Returns the part of its texts that pass a test."""
         if test not in self.parts:
-            self.parts[test] = passing_share(self.texts, test)
+            passed = sum(bool(test(text)) for text in self.texts)
+            self.parts[test] = passed / max(1, len(self.texts))
         return self.parts[test]
 
     def mostly_pass(self, test: Callable[[str], object]) -> bool:
@@ -124,19 +122,21 @@ class ColumnSample:
         )
         return {kind: words for kind, words in pairs if words}
 
-    def plainness(self, *kinds: str) -> Plainness:
-        """Returns how plainly its name says what it is by words of these kinds."""
-        more = self.name_words - self.says(*kinds)
-        if more:
-            return Plainness.SHARED if more <= self.shared else Plainness.OF_SOME_KIND
+    def is_plain(self, *kinds: str) -> bool:
+        """Returns whether its name says what it is by words of these kinds alone, and has no
+        number, as `Price 2`.
+        """
         is_numbered = DIGITS.search(NAME_WITH_DIGITS.sub("", self.name))
-        return Plainness.NUMBERED if is_numbered else Plainness.PLAIN
+        return self.name_words == self.says(*kinds) and not is_numbered
 
 
-def samples_of(names: Sequence[str], cells: Iterable[Sequence[str]]) -> list[ColumnSample]:
-    """Returns columns by what is said in their names alone: not where all begin alike, nor the shop
-    in `Price Main Street` and `Stock Main Street`, nor what a cost is of, as `Purchase rate`.
+def samples_of(columns: Sequence[Sequence[str]]) -> Mapping[int, ColumnSample]:
+    """Returns columns, each with its name in front, by their places, and by what is said in their
+    names alone: not where all begin alike, nor the shop in `Price Main Street` and `Stock Main
+    Street`, nor what a cost is of, as `Purchase rate`.
     """
+    names = [name for name, *_ in columns]
+    cells = [[*map(text_in, texts)] for _, *texts in columns]
     start = commonprefix([name for name in names if name])
     is_in_a_word = len(names) < MANY and start[-1:].isalpha()
     is_single_name = names.count("") == len(names) - 1
@@ -148,7 +148,47 @@ def samples_of(names: Sequence[str], cells: Iterable[Sequence[str]]) -> list[Col
     named = (column for column in found if column.texts and column.says("cost"))
     costs = (column for column in named if column.mostly_pass(is_money))
     shop = shop.union(*(cost.name_words - cost.says("cost") for cost in costs))
-    return [replace(column, shared=shop & column.name_words, parts={}) for column in found]
+    return {
+        place: replace(column, shared=shop & column.name_words, parts={})
+        for place, column in enumerate(found)
+    }
+
+
+def text_in(cell: str) -> str:
+    """Returns the text of a cell, without spaces around it, and of `="007"` what the formula keeps;
+    digits of another script are those of ASCII.
+
+    >>> text_in(' ="007"'), text_in('<a href="x">'), text_in("٢٥")
+    ('007', '<a href="x">', '25')
+    """
+    text = cell.strip()[:LONGEST]
+    if not text.isascii():
+        text = "".join(str(unicodedata.decimal(sign, sign)) for sign in text)
+    kept = FORMULA_OF_TEXT.fullmatch(text)
+    return kept[1] if kept else text
+
+
+def is_code(text: str, rules: CodeRules = EAN_OR_UPC) -> bool:
+    """Returns whether a text is surely a code, if it is read by rules; else by those of EAN and
+    UPC.
+    """
+    try:
+        return bool(code_of(text, rules))
+    except RowError:
+        return False
+
+
+def has_lost_zeros(texts: Sequence[str]) -> bool:
+    """Returns whether all numbers that are no EAN or UPC are one with zeros in front, by their
+    check digits, and are so many that this is no chance.
+
+    >>> has_lost_zeros(["72651101016", "72651101023", "72651101030", "4006381333931"])
+    True
+    >>> has_lost_zeros(["72651101016", "72651101023"]), has_lost_zeros(["4006381333931"])
+    (False, False)
+    """
+    lost = {text for text in texts if not is_code(text)}
+    return len(lost) >= MOST_CHANCE and all(is_code(text, WITH_ZEROS) for text in lost)
 
 
 def has_letters(text: str) -> bool:
@@ -195,9 +235,3 @@ def is_money(text: str) -> bool:
     """Returns whether a text is a price with two decimals or a currency."""
     price = price_or_none(text)
     return price is not None and (price.decimals == 2 or price.currency != "")
-
-
-def amount_in(text: str) -> Decimal | None:
-    """Returns the amount of a price; None if it is none, or zero."""
-    price = price_or_none(text)
-    return price.value or None if price else None

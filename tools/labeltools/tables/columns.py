@@ -14,16 +14,11 @@ from labeltools.lines.file import MOST_COPIES
 from labeltools.sheets.cells import (
     CellKind,
     COPIES,
-    DATA,
-    DIGITS,
+    LINE_END,
     MARK,
-    PRICE,
     PRINTED,
-    refuse_unseen,
     taken_text,
-    UNSEEN_CODE,
-    UNSEEN_PRICE,
-    UNSEEN_TEXT,
+    Use,
 )
 from labeltools.sheets.number_format import Formatter
 from labeltools.sheets.rows import Row, row_with_names
@@ -35,18 +30,18 @@ LISTED = 40  # columns that a message lists
 COUNT = re.compile("0*[0-9]{1,4}(?:[.,]00?)?")
 # what may be in the name of a column of codes though it has digits
 NAME_WITH_DIGITS = re.compile("(?:EAN|GTIN|UPC|ISBN|Code|QR)[- ]?[0-9]{1,3}", re.IGNORECASE)
-MARKS = "\u200e\u200f\u061c"  # of the direction, which spreadsheets put around currencies
 
 
 @dataclass(frozen=True)
 class Column:
-    """A column that was asked for: its place, from 0, how messages call it, and the name of its
-    texts in a design: its own where that is sure, else its number.
+    """A column that was asked for: its place, from 0, how messages call it, the name of its texts
+    in a design: its own where that is sure, else its number; and what the row of names has for it.
     """
 
     place: int
     title: Text
     name: str
+    header: str
 
     def cell_error(self, problem: RowError) -> RowError:
         """Returns the error of a cell, with the column in front."""
@@ -54,59 +49,32 @@ class Column:
         error.column = self.place
         return error
 
-    def code_text(self, row: Row, is_free: bool) -> str:
-        """Returns the text of a code, which is not empty; raises `RowError`."""
+    def taken(self, row: Row, use: Use) -> str:
+        """Returns what a column for a use takes of a row; raises `RowError`."""
         try:
-            text = taken_text(row.cell(self.place), DATA if is_free else DIGITS)
-            if not text.strip():
-                raise RowError(Text("is empty"))
-            refuse_unseen(text.strip(), text, UNSEEN_CODE)
-            return text
+            return taken_text(row.cell(self.place), use)
         except RowError as problem:
             raise self.cell_error(problem) from None
 
     def printed_text(self, row: Row) -> str:
         """Returns a title or a text, with LF between its lines; raises `RowError`."""
-        try:
-            text = taken_text(row.cell(self.place), PRINTED)
-            if text.isprintable():
-                return text.strip()
-            lines = [" ".join(line.split("\t")).strip() for line in re.split("\r\n?|\n", text)]
-            refuse_unseen("".join(lines), text, UNSEEN_TEXT)
-            return "\n".join(line for line in lines if line)
-        except RowError as problem:
-            raise self.cell_error(problem) from None
-
-    def price_text(self, row: Row) -> str:
-        """Returns the text of a price; raises `RowError`."""
-        try:
-            text = taken_text(row.cell(self.place), PRICE).strip()
-            if not text.isprintable():
-                bare = text.translate(dict.fromkeys(map(ord, MARKS), None)).replace("\t", " ")
-                refuse_unseen(bare, text, UNSEEN_PRICE)
-            return text.replace("\t", " ")
-        except RowError as problem:
-            raise self.cell_error(problem) from None
+        text = self.taken(row, PRINTED)
+        if text.isprintable():
+            return text.strip()
+        lines = (" ".join(line.split("\t")).strip() for line in LINE_END.split(text))
+        return "\n".join(line for line in lines if line)
 
     def copies(self, row: Row) -> int:
         """Returns a number of copies; raises `RowError`."""
-        try:
-            text = taken_text(row.cell(self.place), COPIES).strip()
-            if not COUNT.fullmatch(text):
-                what = Text(
-                    "is {}: copies are a whole number from 0 to {}", quoted(text), MOST_COPIES
-                )
-                raise RowError(what)
-            return int(re.split("[.,]", text.lstrip("0") or "0")[0] or "0")
-        except RowError as problem:
-            raise self.cell_error(problem) from None
+        text = self.taken(row, COPIES).strip()
+        if not COUNT.fullmatch(text):
+            what = Text("is {}: copies are a whole number from 0 to {}", quoted(text), MOST_COPIES)
+            raise self.cell_error(RowError(what))
+        return int(re.split("[.,]", text.lstrip("0") or "0")[0] or "0")
 
     def compared_text(self, row: Row) -> str:
         """Returns a text on one line, as it is compared; raises `RowError`."""
-        try:
-            return name_of(taken_text(row.cell(self.place), MARK))
-        except RowError as problem:
-            raise self.cell_error(problem) from None
+        return name_of(self.taken(row, MARK))
 
     def has_value(self, row: Row, value: str) -> bool:
         """Returns whether a cell has a value, in letters of either case; numbers are compared as
@@ -171,7 +139,7 @@ def column_of(argument: str, head: Start) -> Column:
         refuse_wide_name(place, name, head.row)
     number = place + 1
     title = Text("column {} ({})", number, quoted(name)) if name else Text("column {}", number)
-    return Column(place, title, column_word(head.names, place) if name else str(number))
+    return Column(place, title, column_word(head.names, place) if name else str(number), name)
 
 
 def column_word(names: Sequence[str], place: int) -> str:

@@ -9,6 +9,7 @@ from labeltools.common.column_names import name_of
 from labeltools.common.messages import Problem, quoted, Remedy, RowError
 from labeltools.common.text import Text
 from labeltools.lines.symbologies import SYMBOLOGIES
+from labeltools.sheets.cells import DATA, DIGITS, PRICE
 from labeltools.sheets.encoding import twice_encoded
 from labeltools.sheets.number_format import EXACT
 from labeltools.sheets.rows import Row
@@ -68,13 +69,9 @@ class DraftReader:
     columns: Columns[Column]
     names: tuple[str, ...]
     findings: Findings
+    variants: Variants
     right_codes: int = 0
     other_names: int = 0  # the row that names other columns, or the same in other places
-
-    def __post_init__(self) -> None:
-        self.variants = Variants(self.columns, self.findings)
-        place = self.columns.code.place
-        self.code_name = self.names[place] if place < len(self.names) else ""
 
     def draft(self, row: Row) -> Draft | None:
         """Returns what becomes of a row, None where it is not marked; raises `RowError`."""
@@ -83,20 +80,21 @@ class DraftReader:
         place = self.columns.code.place
         cell = row.cells[place] if place < len(row.cells) else ""
         typed = cell if isinstance(cell, str) else cell.value
-        may_be_names = not typed.isdigit() or typed == self.code_name
+        may_be_names = not typed.isdigit() or typed == self.columns.code.header
         if may_be_names or self.other_names:  # few rows
             self.refuse_names(row)
-        if self.columns.variants_of:
-            self.variants.see_title(row)
         columns = self.columns
+        if columns.variants_of:
+            self.variants.see_title(columns.variants_of, row)
         if not all(column.has_value(row, value) for column, value in columns.where):
             return None
         code = self.row_code(row)
         self.right_codes += 1
         title = "\n".join(self.texts(columns.title, row, code).values())
-        title = title or self.variants.title(row)
+        if columns.variants_of and not title:
+            title = self.variants.title(columns.variants_of, row)
         texts = self.texts(columns.text, row, code)
-        currency = self.row_currency(row) if columns.currency else None
+        currency = self.row_currency(columns.currency, row) if columns.currency else None
         copies = columns.copies.copies(row) if columns.copies else 1
         prices = [
             self.row_price(column, row, currency) if column else "" for column in columns.prices
@@ -127,7 +125,7 @@ class DraftReader:
         code, *others = (*texts[place : place + 1], *texts[:place], *texts[place + 1 :])
         if not self.names:
             return False
-        is_name = bool(code) and (code == self.code_name or is_name_of_codes(code))
+        is_name = bool(code) and (code == self.columns.code.header or is_name_of_codes(code))
         if is_name:
             return any(others) and not any(map(HAS_DIGIT.search, others))
         named = sum(text in self.names for text in texts if text)
@@ -135,17 +133,20 @@ class DraftReader:
         if are_few:
             return False
         for column in self.columns.asked:
-            name = self.names[column.place] if column.place < len(self.names) else ""
             text = texts[column.place] if column.place < len(texts) else ""
-            if text != name and (text or name in texts):
+            if text != column.header and (text or column.header in texts):
                 return True
         return False
 
     def row_code(self, row: Row) -> Code:
         """Returns the code of a row; raises `RowError`."""
-        rules = self.rules(row) if self.columns.symbology else self.options.codes
+        rules = self.options.codes
+        if self.columns.symbology:
+            rules = rules_in(self.columns.symbology, row, rules)
         column = self.columns.code
-        text = column.code_text(row, rules.is_free)
+        text = column.taken(row, DATA if rules.is_free else DIGITS)
+        if not text.strip():
+            raise column.cell_error(RowError(Text("is empty")))
         if rules.is_free and (link := (row.links or {}).get(column.place)):
             text = self.linked(row, text, link)
         code = code_of(text, rules)
@@ -167,17 +168,6 @@ class DraftReader:
             remedy = Remedy("links", says=Text("draw the address"))
             self.findings.see(self.columns.code, Problem(what, remedies=(remedy,)))
         return text
-
-    def rules(self, row: Row) -> CodeRules:
-        """Returns how the code of a row is read: its symbology may be in a column; raises
-        `RowError`.
-        """
-        rules = self.options.codes
-        if self.columns.symbology is None:
-            return rules
-        symbology = symbology_in(self.columns.symbology, row, rules.symbology)
-        is_number = not CodeRules(symbology).is_free
-        return replace(rules, symbology=symbology, digits=rules.digits if is_number else "")
 
     def texts(self, columns: Sequence[Column], row: Row, code: Code) -> dict[str, str]:
         """Returns the texts of columns that are not empty, by their names; that of the codes gives
@@ -220,13 +210,8 @@ class DraftReader:
             what = Text("row {} shows the price {}, and its value is {}", row, money.text, value)
             self.findings.see(column, Problem(what))
 
-    def row_currency(self, row: Row) -> str | None:
-        """Returns the currency of a row, None where the table has no column of them; raises
-        `RowError`.
-        """
-        column = self.columns.currency
-        if column is None:
-            return None
+    def row_currency(self, column: Column, row: Row) -> str:
+        """Returns the currency of a row, which may be empty; raises `RowError`."""
         found = column.compared_text(row)
         if any(letter.isdigit() for letter in found):
             what = Text("has {}, which is not a currency", quoted(found))
@@ -239,7 +224,7 @@ class DraftReader:
 
     def row_price(self, column: Column, row: Row, currency: str | None) -> Price:
         """Returns the price of a column; raises `RowError`."""
-        text = column.price_text(row)
+        text = column.taken(row, PRICE).strip().replace("\t", " ")
         if not text:
             return ""
         cell = row.cells[column.place]
@@ -300,16 +285,15 @@ def is_name_of_codes(text: str) -> bool:
     return not HAS_DIGIT.search(text) and column_words()["codes"].knows(word)
 
 
-def symbology_in(column: Column, row: Row, default: str) -> str:
-    """Returns the symbology that a cell names, as `EAN-13` or `qr`; the default for an empty one;
-    raises `RowError`.
+def rules_in(column: Column, row: Row, rules: CodeRules) -> CodeRules:
+    """Returns how the code of a row is read whose symbology is in a column, as `EAN-13` or `qr`; if
+    its cell is empty, it is that of the rules. Raises `RowError`.
     """
     text = column.compared_text(row)
-    if not text:
-        return default
-    found = symbology_named(text)
+    found = symbology_named(text) if text else rules.symbology
     if not found:
         listed = ", ".join(kind.title for kind in SYMBOLOGIES.values())
         what = Text("has {}, which is not a symbology", quoted(text))
         raise column.cell_error(RowError(what, Text("it is one of {}", listed)))
-    return found
+    of_row = replace(rules, symbology=found)
+    return replace(of_row, digits="") if of_row.is_free else of_row

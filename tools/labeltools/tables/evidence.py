@@ -9,8 +9,7 @@ from math import exp
 from pathlib import Path
 
 from labeltools.common.word_lists import lists_by_section
-from labeltools.tables.code_readings import LEAST
-from labeltools.tables.column_samples import ColumnSample, has_unit, Plainness, SPACE
+from labeltools.tables.column_samples import ColumnSample, has_unit, LEAST, SPACE
 from labeltools.tables.facts import charged, CODE, PAID, PRICE, Samples, TITLE, TITLES
 
 # kinds of words that say plainly what a column is, beside further ones that are known
@@ -18,6 +17,7 @@ TITLE_WORDS = (*TITLES, "beside-titles", "languages", "short", "long")
 PRICE_WORDS = (*PAID, "sale", "advised")
 NO_PRICE = {"none": 1.0}
 Evidence = Mapping[str, float]
+Evidences = Mapping[int, Evidence]  # of columns, by their places, and of none of them
 WEIGHTS = Path(__file__).with_name("weights.list")
 MARGIN = 0.65  # of the probability: with less the keeper is asked
 LEAST_ASKED = 0.05  # of the probability: with less the keeper is not asked about a column
@@ -25,22 +25,13 @@ NONE = -1  # the place of no column
 Weights = Mapping[str, float]
 
 
-@dataclass(frozen=True)
-class Evidences:
-    """What the columns that may have a role show, by their places, and what shows that none has."""
-
-    role: str
-    columns: Mapping[int, Evidence]
-    none: Evidence
-
-
 def evidences_of(columns: Samples, role: str) -> Evidences:
-    """Returns what the columns show that may have a role."""
+    """Returns what the columns show that may have a role, and what shows that none has."""
     found = {CODE: of_codes, TITLE: of_titles, PRICE: of_prices}[role](columns)
-    return Evidences(role, found, NO_PRICE if role == PRICE else {})
+    return {**found, NONE: NO_PRICE if role == PRICE else {}}
 
 
-def of_codes(columns: Samples) -> Mapping[int, Evidence]:
+def of_codes(columns: Samples) -> Evidences:
     """Returns what columns show that may have the codes."""
     fullest = max((column.filled for column in columns.values()), default=0.0)
     return {
@@ -50,13 +41,13 @@ def of_codes(columns: Samples) -> Mapping[int, Evidence]:
     }
 
 
-def of_titles(columns: Samples) -> Mapping[int, Evidence]:
+def of_titles(columns: Samples) -> Evidences:
     """Returns what columns show that may have the title."""
     again = named_again(columns)
     return {
         place: said_by(column, "titles", "short")
         | {
-            "plain": float(column.plainness(*TITLE_WORDS) is Plainness.PLAIN),
+            "plain": float(column.is_plain(*TITLE_WORDS)),
             "spaces": column.passing_part(SPACE.search),
             "first": float(place == min(columns)),
             "again": float(place in again),
@@ -65,14 +56,16 @@ def of_titles(columns: Samples) -> Mapping[int, Evidence]:
     }
 
 
-def of_prices(columns: Samples) -> Mapping[int, Evidence]:
+def of_prices(columns: Samples) -> Evidences:
     """Returns what columns show that may have the price."""
     again = named_again(columns)
     return {
         place: said_by(column, "prices", "paid", "sold", "advised")
         | {
-            "plain": float(column.plainness(*PRICE_WORDS) is Plainness.PLAIN),
-            "of-some-kind": float(column.plainness(*PRICE_WORDS) is Plainness.OF_SOME_KIND),
+            "plain": float(column.is_plain(*PRICE_WORDS)),
+            "of-some-kind": float(
+                not column.name_words <= column.says(*PRICE_WORDS) | column.shared
+            ),
             "unknown": float(is_unknown(column)),
             "charged": float(charged(column) >= LEAST),
             "units": column.passing_part(has_unit),
@@ -137,11 +130,11 @@ def weights_of(role: str) -> Weights:
     return {name: float(weight) for name, [weight] in found.items()}
 
 
-def probable_choice(evidences: Evidences) -> Decision:
+def probable_choice(columns: Samples, role: str) -> Decision:
     """Returns the column that most probably has a role, if that is probable enough; the others
     that may have it are behind it, the most probable one first.
     """
-    found = probabilities(evidences, weights_of(evidences.role))
+    found = probabilities(evidences_of(columns, role), weights_of(role))
     ranked = sorted(found, key=lambda place: (-found[place], place))
     near = [place for place in ranked if place != NONE]
     near = [place for place in near if found[place] >= LEAST_ASKED] or near[:1]
@@ -155,8 +148,7 @@ def probabilities(evidences: Evidences, weights: Weights) -> dict[int, float]:
     """Returns how probably each column has a role, and how probably none has: each counts e to the
     power of the sum of its evidence by its weights.
     """
-    every = {**evidences.columns, NONE: evidences.none}
-    sums = {place: weighted_sum(evidence, weights) for place, evidence in every.items()}
+    sums = {place: weighted_sum(evidence, weights) for place, evidence in evidences.items()}
     most = max(sums.values())
     counts = {place: exp(total - most) for place, total in sums.items()}
     whole = sum(counts.values())

@@ -5,9 +5,7 @@ its cells and by its name, and what amounts prove about each other, such as that
 from collections.abc import Collection, Mapping, Sequence, Set
 from decimal import Decimal
 
-from labeltools.tables.code_readings import LEAST
 from labeltools.tables.column_samples import (
-    ABOVE_ZERO,
     ARTICLE,
     BOOKING,
     ColumnSample,
@@ -19,9 +17,10 @@ from labeltools.tables.column_samples import (
     is_amount,
     is_charged,
     is_money,
+    is_paid,
+    LEAST,
     LETTER,
     LETTERS,
-    Plainness,
     SPACE,
     TAG,
 )
@@ -110,14 +109,8 @@ def are_different_texts(column: ColumnSample) -> bool:
 
 def is_plain_name(column: ColumnSample) -> bool:
     """Returns whether a column is plainly named as names, and each cell is another one."""
-    plainness = column.plainness("titles", "beside-titles")
-    is_named = bool(column.says("titles")) and plainness is Plainness.PLAIN
+    is_named = bool(column.says("titles")) and column.is_plain("titles", "beside-titles")
     return is_named and column.differing == 1 and column.mostly_pass(LETTER.search)
-
-
-def is_plain_title(column: ColumnSample) -> bool:
-    """Returns whether a name says that it has titles, and nothing of some other kind of them."""
-    return column.plainness(*TITLES, "beside-titles") is Plainness.PLAIN
 
 
 def may_be_amounts(column: ColumnSample) -> bool:
@@ -128,11 +121,10 @@ def may_be_amounts(column: ColumnSample) -> bool:
         return False
     if is_weight(column):
         return False
-    has_price = any(map(ABOVE_ZERO.search, column.texts)) and column.passing_part(is_amount) > 0
+    has_price = column.passing_part(is_paid) > 0
     if column.says("prices", "priced"):
-        is_plain = column.plainness(*PAID) is Plainness.PLAIN
         has_no_amounts = not column.texts or column.mostly_pass(ERROR.fullmatch)
-        return has_price or is_plain and has_no_amounts
+        return has_price or has_no_amounts and column.is_plain(*PAID)
     is_number = column.says("others", "numbers", "codes", "own-numbers", "copies")
     is_named = column.says("paid", "sold", "taxed", "currencies", "cost", "net", "old", "sale")
     may_be = bool(is_named) or column.mostly_pass(is_money)

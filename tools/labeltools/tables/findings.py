@@ -42,7 +42,7 @@ class Findings:
     options: TableOptions
     columns: Columns[Column]
     formatter: Formatter
-    prices: tuple[PriceColumn, PriceColumn, PriceColumn] = field(init=False)
+    prices: Sequence[PriceColumn]
     totals: Totals = field(default_factory=Totals)
     unchanged: int = 0
     hidden: int = 0
@@ -54,10 +54,6 @@ class Findings:
     without_price: list[int] = field(default_factory=list)
     bare: set[int] = field(default_factory=set)
     in_quotes: dict[int, tuple[Column, list[tuple[int, str]]]] = field(default_factory=dict)
-
-    def __post_init__(self) -> None:
-        decimal = self.options.file.decimal
-        self.prices = PriceColumn(decimal), PriceColumn(decimal), PriceColumn(decimal)
 
     def see(self, column: Column, problem: Problem) -> None:
         """Sees something in a row that is said once of a column, though many rows are so."""

@@ -3,7 +3,7 @@ proposed command makes of it.
 """
 
 from collections.abc import Sequence
-from dataclasses import replace
+from dataclasses import dataclass, field, replace
 from itertools import islice
 from typing import NamedTuple
 
@@ -36,11 +36,11 @@ class FirstLabels(NamedTuple):
     problem: Problem | None
 
 
+@dataclass
 class FirstProblem(Talk):
     """Keeps the first reason for which a row has no label."""
 
-    def __init__(self) -> None:
-        self.problem: Problem | None = None
+    problem: Problem | None = None
 
     def note(self, origin: Origin, cell: str, problem: Problem) -> None:
         """Keeps the reason of the first row."""
@@ -48,12 +48,13 @@ class FirstProblem(Talk):
         self.problem = self.problem or replace(problem, what=what)
 
 
+@dataclass
 class FirstRows:
     """The first rows of a table, which are read once for all ways that read its cells alike."""
 
-    def __init__(self, data: bytes, name: str) -> None:
-        self.data, self.name = data, name
-        self.opened: dict[object, tuple[Start, Sequence[Row]]] = {}
+    data: bytes
+    name: str
+    opened: dict[object, tuple[Start, Sequence[Row]]] = field(default_factory=dict)
 
     def start(self, options: TableOptions, talk: Talk) -> Start:
         """Returns the table at its first row; raises `ToolError` if it cannot be read."""

@@ -7,14 +7,12 @@ all, and proves what it can about prices; evidence.py gathers what the columns s
 by weights.list. choices.py decides by all of them, and asks the keeper what is below the margin.
 """
 
-import unicodedata
 from collections.abc import Collection, Iterable, Iterator, Mapping, Sequence
 from dataclasses import dataclass, field, replace
 from itertools import islice, takewhile, zip_longest
 
 from labeltools.common.budget import LOOKED_AT, NAMES_LOOKED_AT, Share
 from labeltools.common.messages import Talk
-from labeltools.sheets.cells import FORMULA_OF_TEXT
 from labeltools.sheets.rows import Row
 from labeltools.tables.choices import (
     amounts_in,
@@ -29,26 +27,25 @@ from labeltools.tables.choices import (
     variants_place,
     without,
 )
-from labeltools.tables.code_readings import (
-    ANY_TEXT,
-    CodeReading,
-    is_code,
-    passing_share,
-    reading_of,
-)
+from labeltools.tables.code_readings import ANY_TEXT, CodeReading, reading_of
 from labeltools.tables.codes import CodeRules
-from labeltools.tables.column_samples import ARTICLE, ColumnSample, DIGITS, FIGURES, samples_of
+from labeltools.tables.column_samples import (
+    ARTICLE,
+    ColumnSample,
+    DIGITS,
+    FIGURES,
+    is_code,
+    samples_of,
+)
 from labeltools.tables.columns import Start
 from labeltools.tables.evidence import Decision
 from labeltools.tables.facts import Samples
-from labeltools.tables.name_words import column_words, words_in
 from labeltools.tables.price_words import are_currencies
 from labeltools.tables.prices import pattern_for
 from labeltools.tables.table import head_of
 from labeltools.tables.table_options import TableOptions
 
 SAMPLE = 300  # rows that are looked at, fewer of a table with very many columns
-LONGEST = 1000  # letters of a cell, whose kind these show
 MOST_WORDS = 5  # of a name
 OWN = CodeReading([ANY_TEXT])
 
@@ -73,11 +70,6 @@ class Guess:
     formats: Mapping[int, str] = field(default_factory=dict)
     amounts: Sequence[int] = ()
 
-    @property
-    def rules(self) -> CodeRules:
-        """How the codes that may be meant first are read, as far as it is sure."""
-        return self.rules_of(next(iter(self.codes), -1))
-
     def rules_of(self, place: int) -> CodeRules:
         """Returns how the codes of a column are read, as far as it is sure."""
         reading = self.codes.get(place, CodeReading())
@@ -97,7 +89,7 @@ def guess_of(data: bytes, name: str, options: TableOptions, talk: Talk) -> Guess
         top = guessed_header([start.row, *sample_of(start, len(data), LOOKED_AT)])
         named = replace(options, file=replace(file, header_row=top.number))
         found = guess_of(data, name, named, talk)
-        has_code = any(passing_share([text], is_code) for text in top.names if text)
+        has_code = any(map(is_code, filter(None, top.names)))
         if not has_code and not any(map(found.is_named_as_code, found.codes)):
             return found
         options = replace(options, file=replace(file, header_row=0))
@@ -130,13 +122,8 @@ def guessed_header(rows: Sequence[Row]) -> Row:
 
 def known_in(texts: Iterable[str]) -> int:
     """Returns how many different texts are short, with a word that the names of columns have."""
-    of_texts = ([*words_in(text)] for text in {*texts})
-    return sum(len(words) <= MOST_WORDS and any(map(is_known, words)) for words in of_texts)
-
-
-def is_known(word: str) -> bool:
-    """Returns whether a word is one of the names of columns."""
-    return any(words.knows(word) for words in column_words().values())
+    names = map(ColumnSample, {*texts})
+    return sum(len(name.name_words) <= MOST_WORDS and bool(name.words_by_kind) for name in names)
 
 
 def table_columns(
@@ -171,18 +158,12 @@ def guess(
     are only looked at if no other one has codes.
     """
     shown = [("", *()) if place in hidden else cells for place, cells in enumerate(columns)]
-    found = guess_by(samples_from(shown))
+    found = guess_by(samples_of(shown))
     if hidden and not found.codes:
-        found = guess_by(samples_from(columns))
+        found = guess_by(samples_of(columns))
     names = [name for name, *_ in columns]
     examples = [next(filter(None, map(str.strip, cells)), "") for _, *cells in columns]
     return replace(found, names=names, header=header, examples=examples)
-
-
-def samples_from(columns: Sequence[Sequence[str]]) -> Samples:
-    """Returns columns, each with its name in front, by their places."""
-    cells = [[text_in(cell) for cell in texts] for _, *texts in columns]
-    return dict(enumerate(samples_of([name for name, *_ in columns], cells)))
 
 
 def guess_by(columns: Samples) -> Guess:
@@ -190,7 +171,7 @@ def guess_by(columns: Samples) -> Guess:
     code = code_choice(columns)
     parts = name_parts(columns, code.taken)
     title = Decision((), parts[0]) if parts else title_choice(columns, code.taken)
-    readings = readings_of(code, columns)
+    readings = {place: reading_of(columns[place]) for place in code.taken}
     is_single = bool(parts) or are_single_things(readings, columns)
     taken = {*code.taken, *title.taken, *parts}
     price = Decision(is_none=True) if is_single else price_choice(columns, taken)
@@ -203,7 +184,10 @@ def guess_by(columns: Samples) -> Guess:
     return Guess(
         (),
         found,
-        {place: as_own(reading, columns[place], is_single) for place, reading in readings.items()},
+        {
+            place: OWN if is_single and reading.problem else reading
+            for place, reading in readings.items()
+        },
         0,
         doubts={kind: choice.may_be for kind, choice in choices.items() if choice.is_asked},
         others={kind: places for kind, places in others.items() if places},
@@ -228,23 +212,6 @@ def choices_beside(
     if price.surely is not None:
         found["old-price"] = old_price_choice(columns, used, price.surely)
     return found | {"copies": copies_choice(columns, used)}
-
-
-def readings_of(code: Decision, columns: Samples) -> Mapping[int, CodeReading]:
-    """Returns how each column may be read that may have the codes."""
-    places = code.may_be if code.surely is None else [code.surely]
-    return {
-        place: reading_of(columns[place].texts, bool(columns[place].says("codes")))
-        for place in places
-    }
-
-
-def as_own(reading: CodeReading, column: ColumnSample, is_single: bool) -> CodeReading:
-    """Returns how codes are read that may be numbers of their own: those of single things, or of a
-    country, are no EAN with a wrong digit.
-    """
-    is_own = is_single or bool(column.says("national"))
-    return OWN if is_own and reading.problem else reading
 
 
 def columns_beside(
@@ -272,17 +239,3 @@ def formats_of(columns: Samples, price: Decision, has_currencies: bool) -> Mappi
         for place in price.taken
     )
     return {place: pattern for place, pattern in patterns if pattern}
-
-
-def text_in(cell: str) -> str:
-    """Returns the text of a cell, without spaces around it, and of `="007"` what the formula keeps;
-    digits of another script are those of ASCII.
-
-    >>> text_in(' ="007"'), text_in('<a href="x">'), text_in("٢٥")
-    ('007', '<a href="x">', '25')
-    """
-    text = cell.strip()[:LONGEST]
-    if not text.isascii():
-        text = "".join(str(unicodedata.decimal(sign, sign)) for sign in text)
-    kept = FORMULA_OF_TEXT.fullmatch(text)
-    return kept[1] if kept else text

@@ -41,16 +41,12 @@ class LineWriter:
     columns: Columns[Column]
     talk: Talk
     findings: Findings
-    older: Older | None = field(init=False)
+    older: Older
     output: bytearray = field(default_factory=bytearray)
     waiting: list[Draft] = field(default_factory=list)
     taken: int = 0
     left_out: list[int] = field(default_factory=list)
     seen: dict[str, tuple[int, int]] = field(default_factory=dict)
-
-    def __post_init__(self) -> None:
-        self.older = shown_by(self.options.new_since) if self.options.new_since else None
-        self.output += first_remark(self.options.table).encode()
 
     def take_draft(self, draft: Draft) -> None:
         """Takes a draft."""
@@ -70,8 +66,8 @@ class LineWriter:
         self.findings.totals.left_out = len(self.left_out)
         names = (column.name for column in self.columns.text)
         empty = [name for name in names if name not in self.findings.filled]
-        self.output += last_remark(self.findings.totals.rows, self.left_out, empty).encode()
-        return bytes(self.output)
+        end = last_remark(self.findings.totals.rows, self.left_out, empty)
+        return b"".join([first_remark(self.options.table).encode(), self.output, end.encode()])
 
     def write_draft(self, draft: Draft) -> None:
         """Writes a draft, or leaves it out, whatever it raises."""
@@ -93,7 +89,7 @@ class LineWriter:
             return
         self.report_if_twice(draft.code, record)
         key = (draft.code.symbology, draft.code.whole)
-        if self.older is not None and record.printed_beside in self.older.get(key, ()):
+        if self.older and record.printed_beside in self.older.get(key, ()):
             self.findings.unchanged += 1
             return
         self.write_label(lines)

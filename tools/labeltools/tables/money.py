@@ -76,10 +76,13 @@ NUMBER = re.compile(
     """,
     re.VERBOSE,
 )
-FOOTNOTE = re.compile(r"(?<=[0-9€$£.,a-zA-Zł\-])(?: ?\*{1,3}| ?[¹²³⁴⁵]\)?)\Z")
-ACCOUNTANTS = re.compile(r"\A\((?=.*[0-9]\)\Z)(.*)\)\Z")  # (5.00)
-SIGN_AS_POINT = re.compile(r"\A([0-9]{1,4}) ?([€$£]) ?([0-9]{2})\Z")  # 3€50
-APOSTROPHE_AS_POINT = re.compile(r"\A([0-9]{1,4})'([0-9]{2})(?= ?€)")  # 12'50 €
+# other customs, and the usual signs for them; nothing for that of a footnote
+CUSTOMS = (
+    (re.compile(r"(?<=[0-9€$£.,a-zA-Zł\-])(?: ?\*{1,3}| ?[¹²³⁴⁵]\)?)\Z"), ""),
+    (re.compile(r"\A\((?=.*[0-9]\)\Z)(.*)\)\Z"), r"-\1"),  # of accountants: (5.00)
+    (re.compile(r"\A([0-9]{1,4}) ?([€$£]) ?([0-9]{2})\Z"), r"\1,\3 \2"),  # 3€50
+    (re.compile(r"\A([0-9]{1,4})'([0-9]{2})(?= ?€)"), r"\1,\2"),  # 12'50 €
+)
 TAXED = re.compile(r"(\W?税[込抜別]\W?|本体)?(\D*?)(\W?税[込抜別]\W?)?")
 # what a unit price names first: `1 kg = 7,96 €`, `100 g: 1,20 €`
 BASIS = re.compile(
@@ -183,7 +186,9 @@ def read_price(text: str, own: str = "", most_decimals: int = MOST_DECIMALS) -> 
         whole, group, point, decimals, euro = common.groups(default="")
         value = Decimal(f"{whole.replace(group, '')}.{decimals}")
         return Money(text, value, point, group, 2, "EUR" if euro else "")
-    bare = with_usual_points(plain_price(text))
+    bare = plain_price(text)
+    for custom, usual in CUSTOMS:
+        bare = custom.sub(usual, bare)
     unit, bare = unit_in(bare)
     price = price_of_plain(bare, plain_signs(own), most_decimals)
     if unit and not is_priced(price, bare, unit):
@@ -248,16 +253,6 @@ def with_other_words(bare: str = "") -> NotMoney:
     if LONE_WORD.search(bare):
         return NotMoney(OTHER_WORDS, IS_RIGHT, remedies=(ANY_TEXT,))
     return NotMoney(OTHER_WORDS, IS_RIGHT, remedies=(replace(ANY_TEXT, says=NOTHING),))
-
-
-def with_usual_points(bare: str) -> str:
-    """Returns a plain price without a footnote's sign, and with the usual signs for other
-    customs.
-    """
-    bare = FOOTNOTE.sub("", bare)
-    bare = ACCOUNTANTS.sub(r"-\1", bare)
-    bare = SIGN_AS_POINT.sub(r"\1,\3 \2", bare)
-    return APOSTROPHE_AS_POINT.sub(r"\1,\2", bare)
 
 
 def unit_in(bare: str) -> tuple[str, str]:

@@ -8,6 +8,7 @@ from pathlib import Path
 from labeltools.common.messages import Remedy
 from labeltools.common.text import Text
 from labeltools.common.word_lists import lists_of
+from labeltools.sheets.cells import DIRECTIONS
 
 LONGEST = 1000  # letters: a longer text is no price, and is left as it is
 NO_CURRENCY = "¤"  # ISO 8859-15 has its € where other encodings have this sign
@@ -16,10 +17,9 @@ SPACES = (
     "\u00a0\u1680\u2000\u2001\u2002\u2003\u2004\u2005\u2006\u2007\u2008\u2009\u200a\u202f"
     "\u205f\u3000\t"
 )
-UNSEEN = "\u200e\u200f\u061c"  # marks of the direction: spreadsheets put them around currencies
 LOOKS = {
     **dict.fromkeys(SPACES, " "),
-    **dict.fromkeys(UNSEEN, ""),
+    **dict.fromkeys(DIRECTIONS, ""),
     **dict.fromkeys("’‘´`ʼ＇", "'"),
     **dict.fromkeys("−‒–—―－ー", "-"),
     **dict.fromkeys("＊⁎∗", "*"),

@@ -6,7 +6,6 @@ from collections.abc import Sequence
 from contextlib import suppress
 from dataclasses import dataclass, field, replace
 from decimal import Decimal, ROUND_HALF_UP
-from functools import cache
 
 from labeltools.common.messages import Remedy
 from labeltools.common.text import NOTHING, Text
@@ -25,6 +24,7 @@ from labeltools.tables.price_words import (
     currency_of_cell,
     is_same_currency,
     LOOKS,
+    NO_CURRENCY,
     plain_signs,
     PRICE_WORDS,
     SPACES,
@@ -154,7 +154,7 @@ def measure_of(name: str) -> Text:
 @dataclass(frozen=True)
 class PricePattern:
     """How prices are printed: `0,00 €`, `CHF 0'000.00`, `0.000,00 ¤`, `0,–`; ¤ is the currency of
-    the row.
+    the row. `currency` is the code of the one that it has, ¤, or empty.
     """
 
     front: str
@@ -163,6 +163,7 @@ class PricePattern:
     decimals: int
     dash: str
     end: str
+    currency: str
 
     @classmethod
     def from_text(cls, text: str) -> "PricePattern":
@@ -170,9 +171,9 @@ class PricePattern:
         one of thousands, but for a currency with three decimals.
 
         >>> PricePattern.from_text("0.000,00 €")
-        PricePattern(front='', group='.', point=',', decimals=2, dash='', end=' €')
+        PricePattern(front='', group='.', point=',', decimals=2, dash='', end=' €', currency='EUR')
         >>> PricePattern.from_text("KD 0.000")
-        PricePattern(front='KD ', group='', point='.', decimals=3, dash='', end='')
+        PricePattern(front='KD ', group='', point='.', decimals=3, dash='', end='', currency='KWD')
         >>> PricePattern.from_text("¥0,000").group, PricePattern.from_text("0,–").dash
         (',', '–')
         """
@@ -186,21 +187,15 @@ class PricePattern:
             raise ValueError(problem)
         front = text[: len(found["front"])]
         end = text[len(text) - len(found["end"] or "") :]
-        check_currencies(text, front, end)
+        currency = currency_of_pattern(text, front, end)
         behind = found["decimals"] or ""
         dash = "" if "0" in behind else behind
         if group == " ":  # it may be a narrow one
             inside = text[len(front) : len(text) - len(end)]
             group = next(sign for sign in inside if LOOKS.get(sign, sign) == " ")
-        named = currency_of(plain_signs(front.strip() or end.strip()))
-        if point is None and group and named in WITH_THREE_DECIMALS:
-            return cls(front, "", group, 3, "", end)
-        return cls(front, group or "", point or "", behind.count("0"), dash, end)
-
-    @property
-    def currency(self) -> str:
-        """The currency of the pattern as it is written, which may be ¤ or empty."""
-        return self.front.strip() + self.end.strip()
+        if point is None and group and currency in WITH_THREE_DECIMALS:
+            return cls(front, "", group, 3, "", end, currency)
+        return cls(front, group or "", point or "", behind.count("0"), dash, end, currency)
 
     def write(self, price: Money, currency: str = "") -> str:
         """Returns a price as it is printed; raises `NotMoney` where it would be another price.
@@ -263,24 +258,16 @@ class PricePattern:
         """Raises `NotMoney` where a price has another currency than the pattern, or none where it
         wants one.
         """
-        own = self.currency
+        wanted = self.currency
         found = currency_of_row(price, currency) or price.currency
-        wanted = currency_wanted(own)
         has_one = found not in ("", "cent")
-        if has_one and wanted and not is_same_currency(found, wanted):
-            raise NotMoney(Text("has {}, and the format of prices has {}", found, wanted))
-        if "¤" in own and not has_one:
-            raise NotMoney(Text("has no currency, and the format of prices wants one"))
-        if not own and found:
+        if wanted == NO_CURRENCY:
+            if not has_one:
+                raise NotMoney(Text("has no currency, and the format of prices wants one"))
+        elif found and not wanted:
             raise NotMoney(Text("has {}, and the format of prices has no currency", found))
-
-
-@cache
-def currency_wanted(written: str) -> str | None:
-    """Returns the currency that prices of a pattern have to have, as that is written there; nothing
-    where they may have any, or none.
-    """
-    return currency_of(plain_signs(written)) if written not in ("", "¤") else ""
+        elif has_one and not is_same_currency(found, wanted):
+            raise NotMoney(Text("has {}, and the format of prices has {}", found, wanted))
 
 
 def currency_of_row(price: Money, currency: str) -> str:
@@ -352,10 +339,16 @@ def pattern_for(texts: Sequence[str], name: str, has_codes: bool) -> str:
     return f"0{odd[0].point}00 {min(named) if len(named) == 1 else ''}".rstrip()
 
 
-def check_currencies(text: str, front: str, end: str) -> None:
-    """Raises ValueError where a pattern has what is no currency, or two."""
-    for sign in (front.strip(), end.strip()):
-        if sign not in ("", "¤") and currency_of(plain_signs(sign)) is None:
+def currency_of_pattern(text: str, front: str, end: str) -> str:
+    """Returns the currency in front of the number of a pattern, or behind it; empty for none.
+    Raises ValueError where there is what is no currency, or two.
+    """
+    found = ""
+    for sign in filter(None, (front.strip(), end.strip())):
+        code = sign if sign == NO_CURRENCY else currency_of(plain_signs(sign))
+        if code is None:
             raise ValueError(Text("{!r} in {!r} is not a currency", sign, text))
+        found = code
     if front.strip() and end.strip():
         raise ValueError(Text("{!r} has two currencies", text))
+    return found

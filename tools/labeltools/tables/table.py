@@ -18,13 +18,13 @@ from labeltools.common.messages import (
 from labeltools.common.text import Text
 from labeltools.lines.symbologies import CODE128
 from labeltools.sheets.cells import seen_text
-from labeltools.sheets.csv_table import csv_table
+from labeltools.sheets.csv_table import rows_of_csv
 from labeltools.sheets.file_options import CsvOptions
 from labeltools.sheets.number_format import Formatter, local_date, local_signs
-from labeltools.sheets.ods import rows_of_ods
+from labeltools.sheets.ods import sheets_of_ods
 from labeltools.sheets.rows import Row
-from labeltools.sheets.workbook import is_ods, named_errors, opened
-from labeltools.sheets.xlsx import rows_of_xlsx
+from labeltools.sheets.workbook import is_ods, named_errors, opened, rows_of_chosen
+from labeltools.sheets.xlsx import sheets_of_xlsx
 from labeltools.tables.codes import (
     ARE_MISSING,
     kind_remedy,
@@ -37,9 +37,11 @@ from labeltools.tables.codes import (
 from labeltools.tables.columns import Column, columns_of, Start
 from labeltools.tables.drafts import DraftReader
 from labeltools.tables.findings import Findings
-from labeltools.tables.line_writer import LineWriter
+from labeltools.tables.line_writer import LineWriter, shown_by
+from labeltools.tables.prices import PriceColumn
 from labeltools.tables.summary import Totals
 from labeltools.tables.table_options import Columns, TableOptions
+from labeltools.tables.variants import Variants
 
 ZIP = (b"PK\x03\x04", b"PK\x05\x06")
 NO_TABLE = re.compile(rb"(?i)\xd0\xcf\x11\xe0|\s*<(?:\?xml|!doctype|html|table)")
@@ -79,9 +81,14 @@ def lines_of_table(data: bytes, name: str, options: TableOptions, talk: Talk) ->
 def lines_of_rows(start: Start, name: str, options: TableOptions, talk: Talk) -> Lines:
     """Returns the lines of a table that is open, as `lines_of_table` does."""
     columns = columns_of(start, options)
-    work = TableRun(options, columns, start, talk)
+    prices = [PriceColumn(options.file.decimal) for _ in columns.prices]
+    findings = Findings(options, columns, start.formatter, prices)
+    variants = Variants(columns.title, findings)
+    reader = DraftReader(options, columns, start.names, findings, variants)
+    older = shown_by(options.new_since) if options.new_since else {}
+    writer = LineWriter(options, columns, talk, findings, older)
+    work = TableRun(options, columns.code, talk, findings, reader, writer)
     work.take_all(start.rows)
-    writer, findings = work.writer, work.findings
     work.refuse_other_codes(name)
     has_rows = writer.taken or writer.left_out or findings.hidden or work.unmarked
     if not has_rows:
@@ -103,9 +110,9 @@ def head_of(data: bytes, name: str, options: TableOptions, talk: Talk) -> Start:
     """
     formatter = Formatter(local_signs(options.file.decimal), options.file.date_as, local_date())
     rows = table_rows(data, name, options, formatter, talk)
-    wanted = options.file.header_row
-    first = row_of_names(rows, wanted)
-    if first is None and wanted:
+    wanted = options.file.header_row or 0
+    first = next((row for row in rows if row.number >= wanted and not row.is_blank()), None)
+    if wanted and (first is None or first.number != wanted):
         raise ToolError(Text("{} has nothing in row {}", name, wanted))
     if first is None:
         raise ToolError(Text("{} has only empty cells", name))
@@ -115,17 +122,6 @@ def head_of(data: bytes, name: str, options: TableOptions, talk: Talk) -> Start:
     if not options.file.has_names:
         return Start(first, (), chain([first], rows), formatter)
     return Start(first, first.names, rows, formatter)
-
-
-def row_of_names(rows: Iterator[Row], wanted: int | None) -> Row | None:
-    """Returns the row of a number, or else the first one that is not blank; None where there is
-    none, or where that of the number is blank.
-    """
-    if not wanted:
-        return next((row for row in rows if not row.is_blank()), None)
-    found = next((row for row in rows if row.number >= wanted), None)
-    is_there = found is not None and found.number == wanted and not found.is_blank()
-    return found if is_there else None
 
 
 def table_rows(
@@ -148,17 +144,19 @@ def table_rows(
             raise ToolError(what, status=BAD_ARGUMENTS, remedies=(remedy,))
     if is_csv:
         how = CsvOptions(options.file, options.columns.asked, options.codes.is_free)
-        return csv_table(data, name, how).read_rows()
+        return rows_of_csv(data, name, how)
     return rows_of_workbook(data, name, options.file.sheet, formatter, talk)
 
 
 def rows_of_workbook(
     data: bytes, name: str, wanted: str | None, formatter: Formatter, talk: Talk
 ) -> Iterator[Row]:
-    """Yields the rows of a sheet of a workbook."""
+    """Yields the rows of the sheet of a workbook that is wanted, else of the only one that is
+    visible and has data.
+    """
     with named_errors(name), opened(data) as archive:
-        kind = rows_of_ods if is_ods(archive) else rows_of_xlsx
-        yield from kind(archive, wanted, formatter, talk)
+        sheets_of = sheets_of_ods if is_ods(archive) else sheets_of_xlsx
+        yield from rows_of_chosen(sheets_of(archive, formatter, talk), wanted)
 
 
 def nothing_marked(columns: Columns[Column], name: str) -> ToolError:
@@ -175,21 +173,14 @@ class TableRun:
     """A run over a table: what is to be said about a row is said at once, the rest at the end."""
 
     options: TableOptions
-    columns: Columns[Column]
-    start: Start
+    code: Column
     talk: Talk
-    findings: Findings = field(init=False)
-    reader: DraftReader = field(init=False)
-    writer: LineWriter = field(init=False)
+    findings: Findings
+    reader: DraftReader
+    writer: LineWriter
     unmarked: int = 0
     held: list[tuple[int, str, RowError]] = field(default_factory=list)  # while no row is right
-    is_holding: bool = True
     wrong_digits: int = 0
-
-    def __post_init__(self) -> None:
-        self.findings = Findings(self.options, self.columns, self.start.formatter)
-        self.reader = DraftReader(self.options, self.columns, self.start.names, self.findings)
-        self.writer = LineWriter(self.options, self.columns, self.talk, self.findings)
 
     def take_all(self, rows: Iterator[Row]) -> None:
         """Takes the rows below the head, but none that is empty."""
@@ -210,7 +201,8 @@ class TableRun:
             if draft is None:
                 self.unmarked += 1
                 return
-            self.leave_out_held()
+            if self.held:
+                self.leave_out_held()
             self.writer.take_draft(draft)
         except RowError as problem:
             self.hold(row, problem)
@@ -221,16 +213,17 @@ class TableRun:
 
     def hold(self, row: Row, problem: RowError) -> None:
         """Leaves a row out, at once or later."""
-        place = self.columns.code.place if problem.column is None else problem.column
+        place = self.code.place if problem.column is None else problem.column
         cell = seen_text(row.cells[place] if place < len(row.cells) else "")
         self.wrong_digits += isinstance(problem, WrongDigit)
         self.held.append((row.number, cell, problem))
-        if not self.is_holding or len(self.held) > MOST_HELD:
+        if self.writer.taken or self.writer.left_out or len(self.held) > MOST_HELD:
             self.leave_out_held()
 
     def leave_out_held(self) -> None:
-        """Leaves out the rows that are held, and holds no more: one message is not for all."""
-        self.is_holding = False
+        """Leaves out the rows that are held; after them none is, since one message is not for
+        all.
+        """
         for row, cell, problem in self.held:
             self.writer.leave_out(row, cell, problem)
         self.held.clear()
@@ -239,7 +232,7 @@ class TableRun:
         """Raises `ToolError` if the codes of a table are no EAN or UPC, or have no check digits: of
         these one in ten is right by chance.
         """
-        title = self.columns.code.title
+        title = self.code.title
         others = sum(isinstance(problem, OtherCode) for _, _, problem in self.held)
         if 2 * others > len(self.held):
             what = Text("{}: no row has an EAN or UPC in {}", name, title)

@@ -2,7 +2,6 @@
 of the other sizes and colours have none.
 """
 
-import re
 from collections.abc import Sequence
 from contextlib import suppress
 from dataclasses import dataclass, field
@@ -12,60 +11,32 @@ from labeltools.common.text import Text
 from labeltools.sheets.rows import Row
 from labeltools.tables.columns import Column
 from labeltools.tables.findings import Findings
-from labeltools.tables.table_options import Columns
-
-# what programs call an article, as `a-1` or `10047`: no word or amount as people write it
-KEY = re.compile(r"(?=(?:.*[0-9]){3})[\w/:#-]+|(?=.*[a-z])[a-z0-9._-]+")
-
-
-def variants_in(titles: Sequence[str], columns: Sequence[Sequence[str]]) -> int | None:
-    """Returns the place of the column that says which rows are variants of one article, by words as
-    programs write them: of each the first row has a title, and no other one. None where each row
-    has its title, or no column is so.
-
-    >>> variants_in(["Shirt", "", "Cap"], [["red", "blue", "red"], ["a-1", "a-1", "b-2"]])
-    1
-    >>> variants_in(["Shirt", "", "Cap", ""], [["red", "blue", "red", "blue"]])
-    """
-    if not all(titles):
-        for place, cells in enumerate(columns):
-            first: set[str] = set()
-            for title, cell in zip(titles, cells):
-                if not KEY.fullmatch(cell) or bool(title) == (cell in first):
-                    break
-                first.add(cell)
-            else:
-                if first:
-                    return place
-    return None
 
 
 @dataclass
 class Variants:
-    """The titles of articles, each with its row, by what their variants have in common."""
+    """The titles of articles, of some columns, each with its row, by what their variants have in
+    common.
+    """
 
-    columns: Columns[Column]
+    columns: Sequence[Column]
     findings: Findings
     titles: dict[str, tuple[int, str]] = field(default_factory=dict)
 
-    def see_title(self, row: Row) -> None:
+    def see_title(self, variants_of: Column, row: Row) -> None:
         """Keeps the title of a row, if it is the first one of its article that has one."""
-        if self.columns.variants_of:
-            with suppress(RowError):  # which leaves out that row alone
-                key = self.columns.variants_of.compared_text(row)
-                texts = [column.printed_text(row) for column in self.columns.title]
-                if key and key not in self.titles and any(texts):
-                    self.titles[key] = row.number, "\n".join(filter(None, texts))
+        with suppress(RowError):  # which leaves out that row alone
+            key = variants_of.compared_text(row)
+            texts = [column.printed_text(row) for column in self.columns]
+            if key and key not in self.titles and any(texts):
+                self.titles[key] = row.number, "\n".join(filter(None, texts))
 
-    def title(self, row: Row) -> str:
+    def title(self, variants_of: Column, row: Row) -> str:
         """Returns the title of the first row of an article; empty if it has none. Raises
         `RowError`.
         """
-        if not self.columns.variants_of:
-            return ""
-        key = self.columns.variants_of.compared_text(row)
-        first, title = self.titles.get(key, (0, ""))
+        first, title = self.titles.get(variants_of.compared_text(row), (0, ""))
         if title:
             what = Text("row {} has the title of row {}, {}", row.number, first, quoted(title))
-            self.findings.see(self.columns.variants_of, Problem(what))
+            self.findings.see(variants_of, Problem(what))
         return title

@@ -24,8 +24,8 @@ from labeltools.lines.symbologies import CODE128
 from labeltools.printing.job import planned
 from labeltools.printing.press import labels_of, Prepared
 from labeltools.sending.job import job_of, SentJob
-from labeltools.tables.code_readings import is_code, passing_share
 from labeltools.tables.codes import AUTO, FILL_ZEROS, kind_remedy, ZEROS_ARE_LOST
+from labeltools.tables.column_samples import is_code
 from labeltools.tables.columns import column_word
 from labeltools.tables.first_labels import said_of_unused
 from labeltools.tables.guess import guess_of
@@ -204,7 +204,8 @@ class Table:
         price = self.guess.columns.get("price")
         more = table_command.more_options(self.guess, nothing, price)
         found = [Remedy(name, value) for name, value in more.items() if name != "price-as"]
-        if "code" in self.guess.columns and self.guess.rules.digits == ZEROS_ARE_LOST:
+        code = self.guess.columns.get("code", -1)
+        if self.guess.rules_of(code).digits == ZEROS_ARE_LOST:
             found.append(FILL_ZEROS)
         if "title" in self.guess.beside:
             second = column_word(self.guess.names, self.guess.beside["title"])
@@ -226,7 +227,7 @@ class Table:
         """
         if choices.symbology == CODE128.name and self.lines.count:
             records = read_lines(self.lines.output, self.path.name).records
-            if passing_share([record.data.decode() for record in records], is_code) == 1:
+            if all(is_code(record.data.decode()) for record in records):
                 what = Text("all codes are EAN or UPC numbers, and are drawn as {}", CODE128.title)
                 yield LeftOut(None, "", Problem(what, remedies=(kind_remedy(AUTO),)))
 
