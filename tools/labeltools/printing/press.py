@@ -86,8 +86,9 @@ def labels_of(job: Job, name: str, data: bytes, talk: Talk) -> Prepared:
     """
     if data.startswith(WORKBOOK):
         raise ToolError(Text("{} is a workbook", name), TABLE_FIRST)
-    read = partial(drawn_lines, data, name, job.options.is_escaped)
-    lines = apart(Input(name, len(data), LINES), read, talk)
+    read = partial(told_lines, data, name, job.options.is_escaped)
+    lines, fields = apart(Input(name, len(data), LINES), read, talk)
+    lines = replace(lines, records=tuple(map(Record._make, zip(*fields))))
     *others, last = lines.records or (None,)
     if last is not None and not data.endswith(b"\n"):
         last = last._replace(drawn=Refused(Problem(CUT_OFF)))
@@ -98,6 +99,16 @@ def labels_of(job: Job, name: str, data: bytes, talk: Talk) -> Prepared:
             Text("{}: no line begins with a symbology, such as ean13", name), TABLE_FIRST
         )
     return prepared(job, lines, talk)
+
+
+def told_lines(
+    data: bytes, name: str, has_escapes: bool, talk: Talk
+) -> tuple[LinesFile, Sequence[tuple[Any, ...]]]:
+    """Returns the lines of a file without their records, and each field of all of these, which
+    another process tells in half the time; raises as `drawn_lines`.
+    """
+    lines = drawn_lines(data, name, has_escapes, talk)
+    return replace(lines, records=()), [*zip(*lines.records)]
 
 
 def prepared(
