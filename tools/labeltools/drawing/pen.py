@@ -5,7 +5,7 @@ from collections import defaultdict
 from functools import cache, lru_cache, partial
 from itertools import accumulate, chain, groupby, islice, repeat
 from math import floor
-from operator import itemgetter
+from operator import add, itemgetter
 from typing import Any, Iterable, Iterator, Mapping, Sequence
 
 import cairo
@@ -49,7 +49,8 @@ LARGE = 1000  # dots: the size in which digits are measured
 DIGITS = "0123456789"
 EDGE = 4.0  # dots: white around letters on a tint, of which letters cover half
 LIGHTEST = 0.999  # a part of a colour that is white in 255 steps
-KNOWN = 1024  # boxes, and pictures of parts of prices, that are kept
+KNOWN = 1024  # boxes, and parts of prices, that are kept
+DRAWN = 256  # glyphs in dots that are kept
 Glyph = tuple[int, float, float]  # of a font: its number, and where it is
 GlyphRuns = dict[cairo.ScaledFont, list[Glyph]]  # that are shown at once, by their fonts
 Whites = Sequence[tuple[Sequence[Box], Dots]]  # boxes of labels, with those of their areas
@@ -71,7 +72,7 @@ class Pen:
         self.digit_height = -extents.y_bearing / LARGE
         self.digits_of_size = cache(self.new_digits)
         self.digit_places = cache(self.new_digit_places)
-        self.dots_of = cache(new_dots)
+        self.dots_of = lru_cache(DRAWN)(new_dots)
         self.price_parts = lru_cache(KNOWN)(partial(fitted_price, fitter=self.fitter))
         self.recorded_white = cache(self.new_recorded_white)  # Cairo empties one that is let go
 
@@ -203,12 +204,15 @@ class Pen:
 
     def draw_text(self, canvas: Any, placed: Placed, place: Dots, runs: GlyphRuns) -> None:
         """Draws a text of a label whose area begins at a place; in dots it is black, or takes black
-        dots away. Glyphs of prices are added to those that are shown at once.
+        dots away. If its glyphs are known they are added to those that are shown at once.
         """
         text, style, box, quarters, colour, is_edged = placed
-        if not quarters and colour is None and not is_edged:
-            corner = place[0] + box.left, place[1] + box.top
-            self.show_upright(canvas, text, style, corner, runs)
+        is_plain = not quarters and colour is None and not is_edged
+        if is_plain and text.rows and style.family not in self.medium.outlines:
+            left, top = place[0] + box.left + text.x, place[1] + box.top + text.y
+            for numbers, steps, x, y in text.rows:
+                places = accumulate(steps, initial=left + x)
+                runs[text.font] += zip(numbers, places, repeat(top + y))
             return
         canvas.save()
         corner = turn_to(canvas, box, quarters, place)
@@ -220,31 +224,20 @@ class Pen:
             canvas.set_source_rgb(*colour)
         elif colour and is_light(colour):
             canvas.set_operator(cairo.Operator.DEST_OUT)
+        if is_plain and style.base is not None:  # a line through letters is two dots high
+            canvas.set_antialias(cairo.Antialias.DEFAULT)
         self.show_text(canvas, text, style, corner)
         canvas.restore()
-
-    def show_upright(
-        self, canvas: Any, text: Fitted, style: Style, corner: Dots, runs: GlyphRuns
-    ) -> None:
-        """Shows a text in a box that begins at a corner, by its glyphs where they are known."""
-        if not text.rows or style.family in self.medium.outlines:
-            self.show_text(canvas, text, style, corner)
-            return
-        left, top = corner[0] + text.x, corner[1] + text.y
-        for numbers, steps, x, y in text.rows:
-            places = accumulate(steps, initial=left + x)
-            runs[text.font] += zip(numbers, places, repeat(top + y))
 
     def show_glyphs(self, canvas: Any, font: Any, glyphs: Sequence[Glyph]) -> None:
         """Shows glyphs of a font, line by line; in dots each of them is drawn once, and then added
         as a number.
         """
-        surface = canvas.get_target()
-        is_put = self.medium.is_dots and is_of_dots(canvas)
-        if not is_put or not has_room(surface, ink_ends(font, glyphs)):
+        if not self.medium.is_dots or not takes_dots(canvas, ink_ends(font, glyphs)):
             canvas.set_scaled_font(font)
             canvas.show_glyphs(glyphs)
             return
+        surface = canvas.get_target()
         wide = 8 * surface.get_stride()
         for base, line in groupby(glyphs, itemgetter(2)):
             drawn = [(int(x), *self.dots_of(font, number, wide)) for number, x, _ in line]
@@ -260,12 +253,8 @@ class Pen:
         if style.family in self.medium.outlines:
             PangoCairo.layout_path(canvas, text.layout)
             canvas.fill()
-            return
-        canvas.save()
-        if style.base is not None:  # a line through letters is two dots high
-            canvas.set_antialias(cairo.Antialias.DEFAULT)
-        show_layout(canvas, text.layout)
-        canvas.restore()
+        else:
+            show_layout(canvas, text.layout)
 
     def draw_modules(
         self, canvas: Any, modules: Modules, layout: PlacedSymbol, corner: Dots
@@ -274,10 +263,9 @@ class Pen:
         bars = layout.boxes["bars"]
         box = Box(corner[0] + bars.left, corner[1] + bars.top, bars.width, bars.height)
         module = layout.module
-        surface = canvas.get_target()
         ends = (box.left, box.top, box.right, box.bottom + GUARD * module)
-        if self.medium.is_dots and is_of_dots(canvas) and has_room(surface, ends):
-            draw_dots(surface, modules, layout.symbology, box, module)
+        if self.medium.is_dots and takes_dots(canvas, ends):
+            draw_dots(canvas.get_target(), modules, layout.symbology, box, module)
             return
         if self.medium.is_smooth or self.medium.is_dots:
             draw_rectangles(canvas, modules, box, module, layout.symbology.guards)
@@ -321,13 +309,15 @@ class Pen:
 
     def digits_of(
         self, symbol: PlacedSymbol, left: int, top: int
-    ) -> Iterator[tuple[int, list[Glyph]]]:
+    ) -> Iterator[tuple[int, Iterable[Glyph]]]:
         """Yields the digits of a symbol, whose room below the bars begins there, by their size."""
         base = top + round((DIGITS_TOP + DIGITS_HIGH) * symbol.module)
         data = symbol.data.decode("ascii", "replace")
-        for size, places in self.digit_places(symbol.symbology.name, symbol.module).items():
+        where = self.digit_places(symbol.symbology.name, symbol.module)
+        for size, (digits, places) in where.items():
             _, glyphs, _ = self.digits_of_size(size)
-            yield size, [(glyphs[data[number]], left + x, base) for number, x in places]
+            numbers = map(glyphs.__getitem__, map(data.__getitem__, digits))
+            yield size, zip(numbers, map(add, repeat(left), places), repeat(base))
 
     def new_digits(self, size: int) -> tuple[Any, dict[str, int], float]:
         """Returns the font of digits in a size, its glyphs, and how far each one is from the
@@ -339,21 +329,23 @@ class Pen:
 
     def new_digit_places(
         self, symbology: str, module: int
-    ) -> Mapping[int, list[tuple[int, float]]]:
+    ) -> Mapping[int, tuple[Sequence[int], Sequence[float]]]:
         """Returns which digits are below the bars, and where each of them begins, by their size."""
         most = DIGITS_HIGH / self.digit_height
         groups = SYMBOLOGIES[symbology].places
         if not self.medium.is_dots:  # a digit beside the bars is as large: one line of glyphs
             longest = max(groups, key=lambda group: group.last - group.first)
             most = min(most, self.largest_digits(longest))
-        places: dict[int, list[tuple[int, float]]] = defaultdict(list)
+        digits: dict[int, list[int]] = defaultdict(list)
+        places: dict[int, list[float]] = defaultdict(list)
         for group in groups:
             first, last, left, right = group
             size = round(min(most, self.largest_digits(group)) * module)
             start = round((left + right) * module - (last - first) * self.digit_width * size) // 2
             _, _, wide = self.digits_of_size(size)
-            places[size] += zip(range(first, last), accumulate(repeat(wide), initial=start))
-        return places
+            digits[size] += range(first, last)
+            places[size] += [start + number * wide for number in range(last - first)]
+        return {size: (digits[size], places[size]) for size in digits}
 
     def largest_digits(self, group: Digits) -> float:
         """Returns the largest size in which a group of digits has room, in modules."""
@@ -372,11 +364,6 @@ def off_white(colour: Colour) -> Colour:
     return red, green, blue
 
 
-def is_of_dots(canvas: Any) -> bool:
-    """Returns whether the units of a canvas are the dots of what it draws on."""
-    return tuple(canvas.get_matrix()) == UNMOVED
-
-
 def ink_ends(font: Any, glyphs: Sequence[Glyph]) -> tuple[int, ...]:
     """Returns where the dots of glyphs end at the left, at the top, at the right and below: the ink
     that their font says, or a dot more.
@@ -386,13 +373,14 @@ def ink_ends(font: Any, glyphs: Sequence[Glyph]) -> tuple[int, ...]:
     return tuple(map(round, ends))
 
 
-def has_room(surface: Any, ends: Sequence[int]) -> bool:
-    """Returns whether a surface has all that ends there at the left, at the top, at the right and
-    below.
+def takes_dots(canvas: Any, ends: Sequence[int]) -> bool:
+    """Returns whether a canvas has as units the dots of what it draws on, and this has all that
+    ends there at the left, at the top, at the right and below.
     """
     left, top, right, low = ends
-    is_below = low <= surface.get_height()
-    return left >= 0 and top >= 0 and right <= surface.get_width() and is_below
+    surface = canvas.get_target()
+    is_within = right <= surface.get_width() and low <= surface.get_height()
+    return tuple(canvas.get_matrix()) == UNMOVED and left >= 0 and top >= 0 and is_within
 
 
 def new_dots(font: Any, number: int, wide: int) -> tuple[int, int, int]:
@@ -496,26 +484,31 @@ def guard_bits(symbology: str, size: int) -> int:
     return sum(1 << (8 * size - 1 - place) for place in places)
 
 
-def only_guards(row: bytes, symbology: Symbology) -> bytes:
-    """Returns a row of bars without what is not a guard."""
-    bits = int.from_bytes(row, "big") & guard_bits(symbology.name, len(row))
-    return bits.to_bytes(len(row), "big")
+def lines_of(
+    modules: Modules, symbology: Symbology, high: int, longer: int
+) -> list[tuple[bytes, int]]:
+    """Returns the rows of a code and how often each of them is there, of all `high` ones, with the
+    longer guards below bars.
+    """
+    rows = modules.rows()
+    lines = [(row, high // len(rows)) for row in rows]
+    if symbology.guards:
+        size = modules.row_size
+        guards = int.from_bytes(rows[0], "big") & guard_bits(symbology.name, size)
+        lines.append((guards.to_bytes(size, "big"), longer))
+    return lines
 
 
 def bars_mask(modules: Modules, symbology: Symbology, high: int) -> Any:
-    """Returns a picture of a code, a dot a module: of QR its rows, of bars `high` rows, and below
-    them those of guards.
-    """
-    rows = modules.rows()
-    if len(rows) == 1:
-        longer = [only_guards(rows[0], symbology)] * GUARD if symbology.guards else []
-        rows = rows * high + longer
-    behind = bytes(-modules.row_size % 4)
-    packed = b"".join([row + behind for row in rows]).translate(REVERSED)
-    data = memoryview(bytearray(packed))
-    stride = modules.row_size + len(behind)
+    """Returns a picture of a code that is so many modules high, a dot a module."""
+    size = modules.row_size
+    behind = bytes(-size % 4)
+    lines = lines_of(modules, symbology, high, GUARD)
+    packed = [(row.translate(REVERSED) + behind) * count for row, count in lines]
+    data = memoryview(bytearray().join(packed))
+    stride = size + len(behind)
     picture = cairo.ImageSurface.create_for_data(
-        data, cairo.FORMAT_A1, modules.width, len(rows), stride
+        data, cairo.FORMAT_A1, modules.width, len(data) // stride, stride
     )
     mask = cairo.SurfacePattern(picture)
     mask.set_filter(cairo.Filter.NEAREST)
@@ -525,15 +518,11 @@ def bars_mask(modules: Modules, symbology: Symbology, high: int) -> Any:
 def draw_dots(surface: Any, modules: Modules, symbology: Symbology, box: Box, module: int) -> None:
     """Draws a code in dots, all of them at once, which takes a third of the time of rectangles."""
     stride = surface.get_stride()
-    rows = modules.rows()
-    lines = [(row, box.height // len(rows)) for row in rows]
-    if symbology.guards:
-        lines.append((only_guards(rows[0], symbology), GUARD * module))
     dots = []
-    for row, high in lines:
+    for row, count in lines_of(modules, symbology, box.height, GUARD * module):
         digits = bits_of(row)[: modules.width].replace("1", "x").replace("0", "0" * module)
         line = int(digits.replace("x", "1" * module)[::-1], 2) << box.left
-        dots.append(line.to_bytes(stride, "little") * high)
+        dots.append(line.to_bytes(stride, "little") * count)
     add_dots(surface, int.from_bytes(b"".join(dots), "little"), box.top)
 
 

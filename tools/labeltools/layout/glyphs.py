@@ -48,11 +48,11 @@ class LineFont:
         """
         rows = []
         for number, line in enumerate(lines):
-            found = [*map(self.step, line, (*line[1:], ""))]
-            numbers = [glyph for glyph, _ in found]
-            steps = [step for _, step in found]
+            if not line:
+                return ()
+            numbers, steps = zip(*map(self.step, line, (*line[1:], "")))
             wide = fsum(steps)
-            if not found or not all(numbers) or wide > room:
+            if not all(numbers) or wide > room:
                 return ()
             left = (room - wide) * part
             x = floor(left + 0.5) if wide.is_integer() else left

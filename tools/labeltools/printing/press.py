@@ -31,7 +31,7 @@ from labeltools.layout.layout import as_printed, LaidOut, LaidOutFile, Page
 from labeltools.layout.letters import DATA_FONT, Letters
 from labeltools.layout.medium import Medium
 from labeltools.lines.engine import LABELS_FAILED
-from labeltools.lines.file import drawn_lines, LinesFile, Record
+from labeltools.lines.file import drawn_fields, LinesFile, Record, with_fields
 from labeltools.lines.reasons import LineFault, Refused
 from labeltools.paper.picture import Picture
 from labeltools.printing.job import Job
@@ -86,9 +86,8 @@ def labels_of(job: Job, name: str, data: bytes, talk: Talk) -> Prepared:
     """
     if data.startswith(WORKBOOK):
         raise ToolError(Text("{} is a workbook", name), TABLE_FIRST)
-    read = partial(told_lines, data, name, job.options.is_escaped)
-    lines, fields = apart(Input(name, len(data), LINES), read, talk)
-    lines = replace(lines, records=tuple(map(Record._make, zip(*fields))))
+    read = partial(drawn_fields, data, name, job.options.is_escaped)
+    lines = with_fields(*apart(Input(name, len(data), LINES), read, talk))
     *others, last = lines.records or (None,)
     if last is not None and not data.endswith(b"\n"):
         last = last._replace(drawn=Refused(Problem(CUT_OFF)))
@@ -99,16 +98,6 @@ def labels_of(job: Job, name: str, data: bytes, talk: Talk) -> Prepared:
             Text("{}: no line begins with a symbology, such as ean13", name), TABLE_FIRST
         )
     return prepared(job, lines, talk)
-
-
-def told_lines(
-    data: bytes, name: str, has_escapes: bool, talk: Talk
-) -> tuple[LinesFile, Sequence[tuple[Any, ...]]]:
-    """Returns the lines of a file without their records, and each field of all of these, which
-    another process tells in half the time; raises as `drawn_lines`.
-    """
-    lines = drawn_lines(data, name, has_escapes, talk)
-    return replace(lines, records=()), [*zip(*lines.records)]
 
 
 def prepared(
@@ -124,12 +113,12 @@ def prepared(
     options = job.options
     pens = pens or pens_of(job, Letters(options.font))
     letters = pens[0].letters
+    reasons = {record.number: record.refused.problem for record in lines.records if record.refused}
     labels = [
         as_printed(record, options.note)
         for record in lines.records
-        if not record.refused and record.copies
+        if record.copies and record.number not in reasons
     ]
-    reasons = {record.number: record.refused.problem for record in lines.records if record.refused}
     on = Setting(job.area, letters, options.note, lines.empty)
     lacking = without_letters(labels, job.design, on)
     reasons.update({number: Problem(why) for number, why in lacking.items()})
