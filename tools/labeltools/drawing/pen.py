@@ -368,8 +368,9 @@ def ink_ends(font: Any, glyphs: Sequence[Glyph]) -> tuple[int, ...]:
     """Returns where the dots of glyphs end at the left, at the top, at the right and below: the ink
     that their font says, or a dot more.
     """
+    _, x, y = glyphs[0]  # from which Cairo counts
     left, top, width, height, _, _ = font.glyph_extents(glyphs)
-    ends = (left - 1, top - 1, left + width + 1, top + height + 1)
+    ends = (x + left - 1, y + top - 1, x + left + width + 1, y + top + height + 1)
     return tuple(map(round, ends))
 
 
