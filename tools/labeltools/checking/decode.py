@@ -135,8 +135,7 @@ def dots_of_zpl(data: bytes, _: int) -> Printed:
             raise Different(Text("ZPL with a field that extends beyond the label"))
         if not length == again == len(dots):
             raise Different(Text("ZPL with a field that has too few rows"))
-        beside = [other for other in fields if other[1] < bottom and top < other[3]]
-        if any([other[0] < right and left < other[2] for other in beside]):
+        if any(x < right and left < u and y < bottom and top < v for x, y, u, v in fields):
             raise Different(Text("ZPL with a field over another one"))
         for column in range(size):
             page[stride * top + left + column : stride * bottom : stride] = dots[column::size]
