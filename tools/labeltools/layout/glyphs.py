@@ -38,7 +38,8 @@ class LineFont:
         """
         is_same = abs(self.font.text_extents(letter).x_advance - self.wide(letter)) * UNIT <= 1
         glyph = self.font.text_to_glyphs(0, 0, letter, False)[0].index
-        return glyph * is_same, self.wide(letter + following) - self.wide(following)
+        behind = self.wide(following) if following else 0.0  # Pango looks for a font for no text
+        return glyph * is_same, self.wide(letter + following) - behind
 
     def rows(
         self, lines: Sequence[str], room: float, part: float, high: float
