@@ -246,7 +246,7 @@ def wrong_count(whole: list[str], size: int) -> None:
 
 def wrong_repeat(whole: list[str], _: int) -> None:
     """Repeats the row above in the middle of letters."""
-    whole[first_letters(whole) + len(whole) // 2] = ":"
+    whole[(first_letters(whole) + len(whole)) // 2] = ":"
 
 
 def row_lost(whole: list[str], _: int) -> None:
@@ -314,8 +314,8 @@ FAULTS = {
         ("pdf",),
     ),
     "a dot to the right in dots": Fault(
-        PEN + "draw_rectangles",
-        changed(pen.draw_rectangles, box=lambda box: box._replace(left=box.left + 1)),
+        PEN + "draw_dots",
+        changed(pen.draw_dots, box=lambda box: box._replace(left=box.left + 1)),
         DOTS,
     ),
     "a row of bars short": Fault(
@@ -324,8 +324,8 @@ FAULTS = {
         ("pdf",),
     ),
     "a row of bars short in dots": Fault(
-        PEN + "draw_rectangles",
-        changed(pen.draw_rectangles, box=lambda box: box._replace(height=box.height - 1)),
+        PEN + "draw_dots",
+        changed(pen.draw_dots, box=lambda box: box._replace(height=box.height - 1)),
         DOTS,
     ),
     "a code twice in its place": Fault(PEN + "Pen.draw_modules", twice, ("pdf",)),
@@ -541,8 +541,8 @@ class OwnDesigns(unittest.TestCase):
         """In dots it is seen; in a drawing symbols are over it."""
         for form in DOTS:
             found = self.found(form, None, form == "png")
-            shown = changed(pen.Pen.show_text, corner=lambda corner: (corner[0], corner[1] + 150))
-            with self.subTest(form=form), mock.patch(PEN + "Pen.show_text", shown):
+            lower = changed(pen.Pen.draw_text, place=lambda place: (place[0], place[1] + 150))
+            with self.subTest(form=form), mock.patch(PEN + "Pen.draw_text", lower):
                 with self.assertRaisesRegex(ToolError, "^row 2: its code is wrong"):
                     documents_of(found)
 

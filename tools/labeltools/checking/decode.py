@@ -135,10 +135,10 @@ def dots_of_zpl(data: bytes, _: int) -> Printed:
             raise Different(Text("ZPL with a field that extends beyond the label"))
         if not length == again == len(dots):
             raise Different(Text("ZPL with a field that has too few rows"))
-        beside = [other for other in fields if other[1] < bottom and top < other[3]]
-        if beside and any([other[0] < right and left < other[2] for other in beside]):
+        if any(x < right and left < u and y < bottom and top < v for x, y, u, v in fields):
             raise Different(Text("ZPL with a field over another one"))
-        put(page, slice(stride * top + left, stride * bottom, stride), dots, size, bool(beside))
+        for column in range(size):
+            page[stride * top + left + column : stride * bottom : stride] = dots[column::size]
         fields.append((left, top, right, bottom))
         if not data.startswith(FIELD_END, end):
             break
@@ -147,25 +147,6 @@ def dots_of_zpl(data: bytes, _: int) -> Printed:
     if not count:
         raise Different(Text("ZPL without an end"))
     return Picture(width, height, page), int(count[1] or 1)  # not copied: it does not change
-
-
-def put(page: bytearray, place: slice, dots: bytes, size: int, is_beside: bool) -> None:
-    """Puts the rows of a field, of some bytes each, into a page whose first column of it is given:
-    one column of bytes after another where another field is beside it, or else all rows at once,
-    with white beside them.
-    """
-    start, end, stride = place.start, place.stop, place.step
-    if is_beside:
-        for column in range(size):
-            page[start + column : end : stride] = dots[column::size]
-        return
-    high = len(dots) // size
-    white = bytes(stride - size)
-    if dots == dots[:size] * high:  # as of bars
-        rows = (dots[:size] + white) * (high - 1) + dots[:size]
-    else:
-        rows = white.join(rows_reader(0, size, 0, high)(dots))
-    page[start : start + len(rows)] = rows
 
 
 @lru_cache(KNOWN)

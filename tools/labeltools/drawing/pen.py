@@ -3,8 +3,9 @@
 import re
 from collections import defaultdict
 from functools import cache, lru_cache, partial
-from itertools import accumulate, islice, repeat
-from operator import itemgetter
+from itertools import accumulate, chain, groupby, islice, repeat
+from math import floor
+from operator import add, itemgetter
 from typing import Any, Iterable, Iterator, Mapping, Sequence
 
 import cairo
@@ -17,18 +18,18 @@ from labeltools.layout.fitting import (
     Colour,
     Fitted,
     Fitter,
-    ink_of,
+    in_size,
     LINE_END,
     MIDDLE,
     Placed,
     Style,
 )
 from labeltools.layout.layout import LaidOut, Page, PlacedSymbol, PlacedText
-from labeltools.layout.letters import DATA_FONT, digits_face, is_simple, Letters
+from labeltools.layout.letters import DATA_FONT, digits_face, Letters
 from labeltools.layout.medium import Medium
-from labeltools.layout.pango import asked_size, font_options, PangoCairo, UNIT
+from labeltools.layout.pango import font_options, PangoCairo
 from labeltools.layout.price import fitted_price
-from labeltools.lines.engine import bytes_a_row, LABELS_FAILED, Modules
+from labeltools.lines.engine import LABELS_FAILED, Modules
 from labeltools.lines.symbologies import Digits, Span, SYMBOLOGIES, Symbology
 from labeltools.paper.box import Box
 from labeltools.paper.plan import Dots
@@ -36,7 +37,7 @@ from labeltools.paper.plan import Dots
 DARK = re.compile("1+")
 INSET = 0.001  # of a dot: a program that draws a PDF takes each dot that a picture touches
 SHOWN = {code: 0x2400 + code for code in range(32)} | {127: 0x2421}  # control characters
-UPRIGHT = (1, 0, 0, 1)  # of a matrix that neither turns nor scales
+UNMOVED = (1, 0, 0, 1, 0, 0)  # of a matrix that does nothing
 REVERSED = bytes(int(f"{byte:08b}"[::-1], 2) for byte in range(256))
 # modules: how much longer guards are, where digits begin below bars, the size of data there, the
 # height of digits
@@ -48,7 +49,8 @@ LARGE = 1000  # dots: the size in which digits are measured
 DIGITS = "0123456789"
 EDGE = 4.0  # dots: white around letters on a tint, of which letters cover half
 LIGHTEST = 0.999  # a part of a colour that is white in 255 steps
-KNOWN = 1024  # boxes, and pictures of parts of prices, that are kept
+KNOWN = 1024  # boxes, and parts of prices, that are kept
+DRAWN = 256  # glyphs in dots that are kept
 Glyph = tuple[int, float, float]  # of a font: its number, and where it is
 GlyphRuns = dict[cairo.ScaledFont, list[Glyph]]  # that are shown at once, by their fonts
 Whites = Sequence[tuple[Sequence[Box], Dots]]  # boxes of labels, with those of their areas
@@ -70,9 +72,7 @@ class Pen:
         self.digit_height = -extents.y_bearing / LARGE
         self.digits_of_size = cache(self.new_digits)
         self.digit_places = cache(self.new_digit_places)
-        self.picture = lru_cache(KNOWN)(new_picture)
-        self.font = cache(self.new_font)
-        self.glyphs = lru_cache(KNOWN)(self.new_glyphs)
+        self.dots_of = lru_cache(DRAWN)(new_dots)
         self.price_parts = lru_cache(KNOWN)(partial(fitted_price, fitter=self.fitter))
         self.recorded_white = cache(self.new_recorded_white)  # Cairo empties one that is let go
 
@@ -112,7 +112,7 @@ class Pen:
         rest = iter(whites)
         found: list[tuple[int, Placed, Dots]] = []
         for (item, place), count in zip(page, counts):
-            taken = [box for boxes, _ in islice(rest, count) for box in boxes]
+            taken = tuple(chain.from_iterable(boxes for boxes, _ in islice(rest, count)))
             for number, text in enumerate(self.texts(item)):
                 if is_over(text.box, taken):
                     what = Text("{}: a text is over its code", item.record.origin.text)
@@ -122,8 +122,7 @@ class Pen:
         for _, text, place in sorted(found, key=itemgetter(0)):
             self.draw_text(canvas, text, place, runs)
         for font, glyphs in runs.items():
-            canvas.set_scaled_font(font)
-            canvas.show_glyphs(glyphs)
+            self.show_glyphs(canvas, font, glyphs)
 
     def texts(self, item: LaidOut) -> Iterator[Placed]:
         """Yields the texts of a label as they fit their boxes."""
@@ -205,15 +204,15 @@ class Pen:
 
     def draw_text(self, canvas: Any, placed: Placed, place: Dots, runs: GlyphRuns) -> None:
         """Draws a text of a label whose area begins at a place; in dots it is black, or takes black
-        dots away. Glyphs of prices are added to those that are shown at once.
+        dots away. If its glyphs are known they are added to those that are shown at once.
         """
         text, style, box, quarters, colour, is_edged = placed
-        if not quarters and colour is None and not is_edged:
-            corner = place[0] + box.left, place[1] + box.top
-            if style.base is None:
-                self.show_text(canvas, text, style, corner)
-            else:
-                self.show_price(canvas, text, style, corner, runs)
+        is_plain = not quarters and colour is None and not is_edged
+        if is_plain and text.rows and style.family not in self.medium.outlines:
+            left, top = place[0] + box.left + text.x, place[1] + box.top + text.y
+            for numbers, steps, x, y in text.rows:
+                places = accumulate(steps, initial=left + x)
+                runs[text.font] += zip(numbers, places, repeat(top + y))
             return
         canvas.save()
         corner = turn_to(canvas, box, quarters, place)
@@ -225,48 +224,28 @@ class Pen:
             canvas.set_source_rgb(*colour)
         elif colour and is_light(colour):
             canvas.set_operator(cairo.Operator.DEST_OUT)
+        if is_plain and style.base is not None:  # a line through letters is two dots high
+            canvas.set_antialias(cairo.Antialias.DEFAULT)
         self.show_text(canvas, text, style, corner)
         canvas.restore()
 
-    def show_price(
-        self, canvas: Any, text: Fitted, style: Style, corner: Dots, runs: GlyphRuns
-    ) -> None:
-        """Shows a price or a part of it, many of which are the same, in a box that begins at a
-        corner: in dots as a picture, or else by its glyphs.
+    def show_glyphs(self, canvas: Any, font: Any, glyphs: Sequence[Glyph]) -> None:
+        """Shows glyphs of a font, line by line; in dots each of them is drawn once, and then added
+        as a number.
         """
-        left, top = corner[0] + text.x, corner[1] + text.y
-        if self.medium.is_dots and is_upright(canvas):
-            picture, room = self.picture(text)
-            add_picture(canvas, picture, (left + room.left, top + room.top))
-        elif glyphs := self.glyphs(text, style):
-            font = self.font(style.family, style.is_bold, text.size)
-            runs[font] += [(number, left + x, top + y) for number, x, y in glyphs]
-        else:
-            self.show_text(canvas, text, style, corner)
-
-    def new_font(self, family: str, is_bold: bool, size: int) -> Any:
-        """Returns the font that Pango takes for letters of a size."""
-        weight = cairo.FONT_WEIGHT_BOLD if is_bold else cairo.FONT_WEIGHT_NORMAL
-        face = cairo.ToyFontFace(family, cairo.FONT_SLANT_NORMAL, weight)
-        return in_size(face, asked_size(family, size), self.options)
-
-    def new_glyphs(self, text: Fitted, style: Style) -> list[Glyph]:
-        """Returns the glyphs of a text where Pango has its letters, from the place on where it
-        begins; none where a letter is of another font, or the text is shown as shapes.
-        """
-        letters = text.layout.get_text()
-        is_shape = self.medium.is_dots or style.family in self.medium.outlines
-        if is_shape or style.struck or not is_simple(letters):
-            return []
-        font = self.font(style.family, style.is_bold, text.size)
-        numbers = [glyph.index for glyph in font.text_to_glyphs(0, 0, letters, False)]
-        if not all(numbers):
-            return []
-        line = text.layout.get_line_readonly(0)
-        base = text.layout.get_baseline() / UNIT
-        ends = accumulate([len(letter.encode()) for letter in letters], initial=0)
-        places = [line.index_to_x(byte, False) / UNIT for byte in ends]
-        return [(number, x, base) for number, x in zip(numbers, places)]
+        if not self.medium.is_dots or not takes_dots(canvas, ink_ends(font, glyphs)):
+            canvas.set_scaled_font(font)
+            canvas.show_glyphs(glyphs)
+            return
+        surface = canvas.get_target()
+        wide = 8 * surface.get_stride()
+        for base, line in groupby(glyphs, itemgetter(2)):
+            drawn = [(int(x), *self.dots_of(font, number, wide)) for number, x, _ in line]
+            high = min(top for _, _, top, _ in drawn)
+            found = 0
+            for x, left, top, dots in drawn:
+                found |= dots << (top - high) * wide + x + left
+            add_dots(surface, found, floor(base + 0.5) + high)
 
     def show_text(self, canvas: Any, text: Fitted, style: Style, corner: Dots) -> None:
         """Shows a text in a box that begins at a corner, as shapes if its font needs that."""
@@ -284,11 +263,11 @@ class Pen:
         bars = layout.boxes["bars"]
         box = Box(corner[0] + bars.left, corner[1] + bars.top, bars.width, bars.height)
         module = layout.module
-        has_rows = len(modules.packed) > modules.row_size  # bars have one, whatever their height
-        if self.medium.is_dots and has_rows and is_upright(canvas):
-            draw_dots(canvas, modules, box, module)
+        ends = (box.left, box.top, box.right, box.bottom + GUARD * module)
+        if self.medium.is_dots and takes_dots(canvas, ends):
+            draw_dots(canvas.get_target(), modules, layout.symbology, box, module)
             return
-        if self.medium.is_smooth or self.medium.is_dots:  # in dots that is quicker, too
+        if self.medium.is_smooth or self.medium.is_dots:
             draw_rectangles(canvas, modules, box, module, layout.symbology.guards)
             return
         # in whole modules: one row that is stretched far is off by a dot in Cairo's fixed numbers
@@ -319,47 +298,54 @@ class Pen:
                 style = Style(DATA_FONT, False, size, 0, MIDDLE, 0.3, 0)
                 text = self.fitter.found(data, style, box.width, box.height)
                 self.show_text(canvas, text, style, (left, top))
-        canvas.set_font_options(self.options)
-        canvas.set_font_face(self.digits_face)
-        show = canvas.glyph_path if DATA_FONT in self.medium.outlines else canvas.show_glyphs
         for size, glyphs in digits.items():
-            canvas.set_font_size(size)
-            show(glyphs)
-        canvas.fill()
+            font, _, _ = self.digits_of_size(size)
+            if DATA_FONT in self.medium.outlines:
+                canvas.set_scaled_font(font)
+                canvas.glyph_path(glyphs)
+                canvas.fill()
+            else:
+                self.show_glyphs(canvas, font, glyphs)
 
     def digits_of(
         self, symbol: PlacedSymbol, left: int, top: int
-    ) -> Iterator[tuple[int, list[Glyph]]]:
+    ) -> Iterator[tuple[int, Iterable[Glyph]]]:
         """Yields the digits of a symbol, whose room below the bars begins there, by their size."""
         base = top + round((DIGITS_TOP + DIGITS_HIGH) * symbol.module)
         data = symbol.data.decode("ascii", "replace")
-        for size, places in self.digit_places(symbol.symbology.name, symbol.module).items():
-            glyphs, _ = self.digits_of_size(size)
-            yield size, [(glyphs[data[number]], left + x, base) for number, x in places]
+        where = self.digit_places(symbol.symbology.name, symbol.module)
+        for size, (digits, places) in where.items():
+            _, glyphs, _ = self.digits_of_size(size)
+            numbers = map(glyphs.__getitem__, map(data.__getitem__, digits))
+            yield size, zip(numbers, map(add, repeat(left), places), repeat(base))
 
-    def new_digits(self, size: int) -> tuple[dict[str, int], float]:
-        """Returns the glyphs of digits in a size, and how far each one is from the next."""
+    def new_digits(self, size: int) -> tuple[Any, dict[str, int], float]:
+        """Returns the font of digits in a size, its glyphs, and how far each one is from the
+        next.
+        """
         font = in_size(self.digits_face, size, self.options)
         glyphs = {digit: font.text_to_glyphs(0, 0, digit, False)[0].index for digit in DIGITS}
-        return glyphs, font.text_to_glyphs(0, 0, "00", False)[1].x
+        return font, glyphs, font.text_to_glyphs(0, 0, "00", False)[1].x
 
     def new_digit_places(
         self, symbology: str, module: int
-    ) -> Mapping[int, list[tuple[int, float]]]:
+    ) -> Mapping[int, tuple[Sequence[int], Sequence[float]]]:
         """Returns which digits are below the bars, and where each of them begins, by their size."""
         most = DIGITS_HIGH / self.digit_height
         groups = SYMBOLOGIES[symbology].places
         if not self.medium.is_dots:  # a digit beside the bars is as large: one line of glyphs
             longest = max(groups, key=lambda group: group.last - group.first)
             most = min(most, self.largest_digits(longest))
-        places: dict[int, list[tuple[int, float]]] = defaultdict(list)
+        digits: dict[int, list[int]] = defaultdict(list)
+        places: dict[int, list[float]] = defaultdict(list)
         for group in groups:
             first, last, left, right = group
             size = round(min(most, self.largest_digits(group)) * module)
             start = round((left + right) * module - (last - first) * self.digit_width * size) // 2
-            _, wide = self.digits_of_size(size)
-            places[size] += zip(range(first, last), accumulate(repeat(wide), initial=start))
-        return places
+            _, _, wide = self.digits_of_size(size)
+            digits[size] += range(first, last)
+            places[size] += [start + number * wide for number in range(last - first)]
+        return {size: (digits[size], places[size]) for size in digits}
 
     def largest_digits(self, group: Digits) -> float:
         """Returns the largest size in which a group of digits has room, in modules."""
@@ -370,11 +356,6 @@ class Pen:
 show_layout = PangoCairo.show_layout
 
 
-def in_size(face: cairo.FontFace, size: int, options: cairo.FontOptions) -> Any:
-    """Returns the font of a face in a size."""
-    return cairo.ScaledFont(face, cairo.Matrix(size, 0, 0, size), cairo.Matrix(), options)
-
-
 def off_white(colour: Colour) -> Colour:
     """Returns a colour of letters that is not all white: Cairo names the white below codes only
     where it is another colour than before.
@@ -383,28 +364,48 @@ def off_white(colour: Colour) -> Colour:
     return red, green, blue
 
 
-def is_upright(canvas: Any) -> bool:
-    """Returns whether a canvas is neither turned nor scaled."""
-    return tuple(canvas.get_matrix())[:4] == UPRIGHT
+def ink_ends(font: Any, glyphs: Sequence[Glyph]) -> tuple[int, ...]:
+    """Returns where the dots of glyphs end at the left, at the top, at the right and below: the ink
+    that their font says, or a dot more.
+    """
+    _, x, y = glyphs[0]  # from which Cairo counts
+    left, top, width, height, _, _ = font.glyph_extents(glyphs)
+    ends = (x + left - 1, y + top - 1, x + left + width + 1, y + top + height + 1)
+    return tuple(map(round, ends))
 
 
-def new_picture(text: Fitted) -> tuple[cairo.ImageSurface, Box]:
-    """Returns the dots of a text, and where they are from the place on where it begins."""
-    room = ink_of(text.layout)
-    picture = cairo.ImageSurface(cairo.FORMAT_A1, max(1, room.width), max(1, room.height))
-    canvas = cairo.Context(picture)
-    canvas.move_to(-room.left, -room.top)
-    show_layout(canvas, text.layout)
-    return picture, room
+def takes_dots(canvas: Any, ends: Sequence[int]) -> bool:
+    """Returns whether a canvas has as units the dots of what it draws on, and this has all that
+    ends there at the left, at the top, at the right and below.
+    """
+    left, top, right, low = ends
+    surface = canvas.get_target()
+    is_within = right <= surface.get_width() and low <= surface.get_height()
+    return tuple(canvas.get_matrix()) == UNMOVED and left >= 0 and top >= 0 and is_within
 
 
-def add_picture(canvas: Any, picture: cairo.ImageSurface, corner: Dots) -> None:
-    """Adds the black dots of a picture that begins at a corner."""
-    canvas.save()
-    canvas.set_operator(cairo.Operator.ADD)
-    canvas.set_source_surface(picture, *corner)
-    canvas.paint()
-    canvas.restore()
+def new_dots(font: Any, number: int, wide: int) -> tuple[int, int, int]:
+    """Returns where the dots of a glyph begin, at its left and top, and these as a number, for rows
+    of so many dots: the first one is in its lowest bit.
+    """
+    left, top, _, low = ink_ends(font, [(number, 0.0, 0.0)])
+    picture = cairo.ImageSurface(cairo.FORMAT_A1, wide, low - top)
+    canvas: Any = cairo.Context(picture)
+    canvas.set_scaled_font(font)
+    canvas.show_glyphs([(number, -left, -top)])
+    dots = int.from_bytes(picture.get_data(), "little")
+    blank = ((dots & -dots).bit_length() - 1) // wide if dots else 0
+    return left, top + blank, dots >> blank * wide
+
+
+def add_dots(surface: Any, dots: int, row: int) -> None:
+    """Adds black dots to those of a surface from a row on: a number with one in its lowest bit."""
+    stride = surface.get_stride()
+    size = (dots.bit_length() + 7) // 8
+    surface.flush()
+    there = surface.get_data()[row * stride : row * stride + size]
+    there[:] = (int.from_bytes(there, "little") | dots).to_bytes(size, "little")
+    surface.mark_dirty()
 
 
 def edge_letters(canvas: Any, text: Fitted) -> None:
@@ -461,7 +462,8 @@ def bar_boxes(bars: Box, module: int, symbology: str, room: Box, quarters: int) 
     return tuple(moved)
 
 
-def is_over(text: Box, taken: Iterable[Box]) -> bool:
+@lru_cache(KNOWN)
+def is_over(text: Box, taken: tuple[Box, ...]) -> bool:
     """Returns whether a text in a box of a label is over what is taken there."""
     left, top, width, height = text
     right, low = left + width, top + height
@@ -477,50 +479,52 @@ def bits_of(row: bytes) -> str:
 
 
 @cache
-def guard_bits(symbology: str, size: int, stride: int) -> int:
-    """Returns the modules of guards as the number that a row of Cairo is."""
+def guard_bits(symbology: str, size: int) -> int:
+    """Returns the modules of guards as the number that a row of some bytes is."""
     places = (place for span in SYMBOLOGIES[symbology].guards for place in range(*span))
-    bits = sum(1 << (8 * size - 1 - place) for place in places)
-    return int.from_bytes(padded(bits.to_bytes(size, "big"), size, stride), "big")
+    return sum(1 << (8 * size - 1 - place) for place in places)
+
+
+def lines_of(
+    modules: Modules, symbology: Symbology, high: int, longer: int
+) -> list[tuple[bytes, int]]:
+    """Returns the rows of a code and how often each of them is there, of all `high` ones, with the
+    longer guards below bars.
+    """
+    rows = modules.rows()
+    lines = [(row, high // len(rows)) for row in rows]
+    if symbology.guards:
+        size = modules.row_size
+        guards = int.from_bytes(rows[0], "big") & guard_bits(symbology.name, size)
+        lines.append((guards.to_bytes(size, "big"), longer))
+    return lines
 
 
 def bars_mask(modules: Modules, symbology: Symbology, high: int) -> Any:
-    """Returns a picture of a code, a dot a module: of QR its rows, of bars `high` rows, and below
-    them those of guards.
-    """
+    """Returns a picture of a code that is so many modules high, a dot a module."""
     size = modules.row_size
-    stride = size + -size % 4
-    rows = padded(modules.packed, size, stride)
-    if len(rows) == stride:
-        guards = int.from_bytes(rows, "big") & guard_bits(symbology.name, size, stride)
-        longer = GUARD if symbology.guards else 0
-        rows = rows * high + guards.to_bytes(stride, "big") * longer
-    data = memoryview(bytearray(rows))
+    behind = bytes(-size % 4)
+    lines = lines_of(modules, symbology, high, GUARD)
+    packed = [(row.translate(REVERSED) + behind) * count for row, count in lines]
+    data = memoryview(bytearray().join(packed))
+    stride = size + len(behind)
     picture = cairo.ImageSurface.create_for_data(
-        data, cairo.FORMAT_A1, modules.width, len(rows) // stride, stride
+        data, cairo.FORMAT_A1, modules.width, len(data) // stride, stride
     )
     mask = cairo.SurfacePattern(picture)
     mask.set_filter(cairo.Filter.NEAREST)
     return mask
 
 
-def draw_dots(canvas: Any, modules: Modules, box: Box, module: int) -> None:
-    """Draws a code of many rows in dots, all of them at once, which takes a third of the time of
-    rectangles.
-    """
-    wide = modules.width * module
-    size = bytes_a_row(wide)
-    stride = size + -size % 4
-    blank = "0" * (8 * size - wide)
-    rows = []
-    for row in modules.rows():
+def draw_dots(surface: Any, modules: Modules, symbology: Symbology, box: Box, module: int) -> None:
+    """Draws a code in dots, all of them at once, which takes a third of the time of rectangles."""
+    stride = surface.get_stride()
+    dots = []
+    for row, count in lines_of(modules, symbology, box.height, GUARD * module):
         digits = bits_of(row)[: modules.width].replace("1", "x").replace("0", "0" * module)
-        dots = int(digits.replace("x", "1" * module) + blank, 2).to_bytes(size, "big")
-        rows.append(padded(dots, size, stride) * module)
-    data = memoryview(bytearray().join(rows))
-    high = len(data) // stride
-    picture = cairo.ImageSurface.create_for_data(data, cairo.FORMAT_A1, wide, high, stride)
-    add_picture(canvas, picture, (box.left, box.top))
+        line = int(digits.replace("x", "1" * module)[::-1], 2) << box.left
+        dots.append(line.to_bytes(stride, "little") * count)
+    add_dots(surface, int.from_bytes(b"".join(dots), "little"), box.top)
 
 
 def picture_matrix(box: Box, width: int, height: int) -> cairo.Matrix:
@@ -531,15 +535,6 @@ def picture_matrix(box: Box, width: int, height: int) -> cairo.Matrix:
     across = width / (box.width - 2 * INSET)
     down = height / (box.height - 2 * INSET)
     return cairo.Matrix(across, 0, 0, down, -(box.left + INSET) * across, -(box.top + INSET) * down)
-
-
-def padded(packed: bytes, size: int, stride: int) -> bytes:
-    """Returns rows of some bytes as Cairo has them: longer, the first dot in the lowest bit."""
-    found = packed.translate(REVERSED)
-    behind = bytes(stride - size)
-    if len(found) == size:
-        return found + behind
-    return b"".join([found[start : start + size] + behind for start in range(0, len(found), size)])
 
 
 def draw_rectangles(

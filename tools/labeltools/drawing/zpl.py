@@ -5,7 +5,7 @@ from binascii import hexlify
 from functools import lru_cache
 from itertools import repeat
 from operator import ne
-from typing import Iterator, NamedTuple
+from typing import Iterator
 
 from labeltools.paper.picture import Picture, rows_reader
 
@@ -28,17 +28,6 @@ RARELY = 20  # digits to one of these: where there are more, counts save too lit
 KNOWN = 256  # blocks that are kept: many labels have the same price
 
 
-class Block(NamedTuple):
-    """A part of a label: its columns in bytes and its rows in dots, from the first to that behind
-    the last.
-    """
-
-    left: int
-    top: int
-    right: int
-    bottom: int
-
-
 def zpl(picture: Picture, copies: int) -> bytes:
     """Returns a label, which is printed `copies` times.
 
@@ -54,60 +43,33 @@ def zpl(picture: Picture, copies: int) -> bytes:
 
 
 def graphic_fields(picture: Picture) -> Iterator[bytes]:
-    """Yields the graphic fields of a label."""
-    for block in blocks(picture, Block(0, 0, picture.stride, picture.height), False):
-        size = block.right - block.left
-        high = MOST_BYTES // size
-        for top in range(block.top, block.bottom, high):
-            part = Block(block.left, top, block.right, min(block.bottom, top + high))
-            dots = b"".join(block_rows(picture, part))
-            head = (8 * block.left, top, len(dots), len(dots), size)
-            yield b"^FO%d,%d^GFA,%d,%d,%d,%b^FS\n" % (*head, run_lengths(dots, size))
+    """Yields the graphic fields of a label, from top to bottom, and from left to right."""
+    stride = picture.stride
+    for top, bottom in bands_of(picture):
+        rows = picture.packed[top * stride : bottom * stride]
+        for left, right in inked_columns(rows, stride, bottom - top):
+            size = right - left
+            most = MOST_BYTES // size
+            for first in range(top, bottom, most):
+                high = min(most, bottom - first)
+                read = rows_reader(left, size, stride - right, high)
+                dots = b"".join(read(rows, (first - top) * stride))
+                head = (8 * left, first, len(dots), len(dots), size)
+                yield b"^FO%d,%d^GFA,%d,%d,%d,%b^FS\n" % (*head, run_lengths(dots, size))
 
 
-def block_rows(picture: Picture, block: Block) -> tuple[bytes, ...]:
-    """Returns the rows of a block."""
-    left, top, right, bottom = block
-    read = rows_reader(left, right - left, picture.stride - right, bottom - top)
-    return read(picture.packed, top * picture.stride)
+def bands_of(picture: Picture) -> Iterator[tuple[int, int]]:
+    """Yields which rows of a label have white rows above and below them."""
+    inked = bytes(map(ne, picture.rows, repeat(bytes(picture.stride))))
+    return map(re.Match.span, INKED_ROWS.finditer(inked))
 
 
-def blocks(picture: Picture, block: Block, is_narrow: bool) -> Iterator[Block]:
-    """Yields the blocks of a part of a label with white around them, from top to bottom, and from
-    left to right; `is_narrow` is whether no column of white parts it.
-    """
-    bands = [*bands_of(picture, block)]
-    if is_narrow and len(bands) == 1:
-        yield from bands
-        return
-    for band in bands:
-        inked = inked_columns(picture, band)
-        parts = [*INKED.finditer(inked)]
-        is_split = len(parts) == 1 and len({*block_rows(picture, band)}) >= MANY
-        if is_split:
-            parts = [*INKED_OF_MANY.finditer(inked)]
-        for first, last in map(re.Match.span, parts):
-            found = Block(band.left + first, band.top, band.left + last, band.bottom)
-            if len(parts) == 1:
-                yield found
-            else:
-                yield from blocks(picture, found, is_split)
-
-
-def inked_columns(picture: Picture, block: Block) -> bytes:
-    """Returns for each column of a block whether it has ink, as 1 or 0."""
-    left, top, right, bottom = block
-    rows = picture.packed[top * picture.stride : bottom * picture.stride]
-    columns = [rows[column :: picture.stride] for column in range(left, right)]
-    return bytes(map(ne, columns, repeat(bytes(bottom - top))))
-
-
-def bands_of(picture: Picture, block: Block) -> Iterator[Block]:
-    """Yields parts of a block with white rows between them, and none at their ends."""
-    blank = bytes(block.right - block.left)
-    inked = bytes(map(ne, block_rows(picture, block), repeat(blank)))
-    for first, last in map(re.Match.span, INKED_ROWS.finditer(inked)):
-        yield Block(block.left, block.top + first, block.right, block.top + last)
+def inked_columns(rows: bytes, stride: int, high: int) -> Iterator[tuple[int, int]]:
+    """Yields which columns of rows, of some bytes each, have white ones at their left and right."""
+    columns = [rows[column::stride] for column in range(stride)]
+    inked = bytes(map(ne, columns, repeat(bytes(high))))
+    is_large = len({*rows_reader(0, stride, 0, high)(rows)}) >= MANY
+    return map(re.Match.span, (INKED_OF_MANY if is_large else INKED).finditer(inked))
 
 
 @lru_cache(KNOWN)

@@ -1,14 +1,26 @@
 """Fits texts into boxes by Pango, for all designs. Lengths are in dots."""
 
 import re
-from functools import cache, lru_cache
+from dataclasses import dataclass
+from functools import cache, cached_property, lru_cache, partial
 from math import ceil
-from typing import Any, NamedTuple
+from typing import Any, Callable, NamedTuple, Sequence
 
+import cairo
+
+from labeltools.layout.glyphs import BY_PAIRS, GlyphRow, LineFont
 from labeltools.layout.letters import Letters
 from labeltools.layout.needs import LINE
-from labeltools.layout.pango import new_layout, Pango, pango_context, UNIT
+from labeltools.layout.pango import (
+    asked_size,
+    font_options,
+    new_layout,
+    Pango,
+    pango_context,
+    UNIT,
+)
 from labeltools.paper.box import Box
+from labeltools.paper.plan import MOST_DOTS
 
 NOT_LATIN = re.compile("[^\0-\u024f\u2028]")  # letters that may leave their line
 LINE_END = "\u2028"  # of a line that is not the last one of its paragraph
@@ -50,16 +62,24 @@ class Style(NamedTuple):
     base: int | None = None
 
 
-class Fitted(NamedTuple):
-    """A text in letters of a size as Pango lays it out, where it begins in its box, and how high it
-    is.
+@dataclass(eq=False)
+class Fitted:
+    """A text in letters of a size, where it begins in its box, and how high it is; its rows of
+    glyphs and their font, where these are known without Pango.
     """
 
     size: int
     x: int
     y: int
     height: int
-    layout: Any
+    lay_out: Callable[[], Any]
+    font: Any = None
+    rows: Sequence[GlyphRow] = ()
+
+    @cached_property
+    def layout(self) -> Any:
+        """How Pango lays it out."""
+        return self.lay_out()
 
 
 class Placed(NamedTuple):
@@ -80,13 +100,34 @@ class Fitter:
 
     def __init__(self, letters: Letters, is_dots: bool) -> None:
         self.letters = letters
-        self.hinted = float(is_dots)  # dots: by how much a letter may be wider than it is measured
+        self.is_dots = is_dots
         self.context = pango_context(is_dots)
         self.blank = cache(self.new_blank)
+        self.font = cache(self.new_font)
         self.found = lru_cache(KEPT)(self.new_found)
 
     def new_found(self, text: str, style: Style, width: int, height: int) -> Fitted:
         """Returns a text as it fits a box: smaller where its ink would leave it."""
+        return self.in_rows(text, style, width, height) or self.by_pango(text, style, width, height)
+
+    def in_rows(self, text: str, style: Style, width: int, height: int) -> Fitted | None:
+        """Returns a text whose lines all have room; None where Pango has to say it."""
+        size = style.size
+        side = side_of(size)
+        lines = text.split(LINE_END)
+        high = height_of(len(lines), size)
+        is_in_lines = style.base is None and len(lines) <= style.lines and high <= height
+        if not is_in_lines or "\n" in text or NOT_LATIN.search(text):
+            return None
+        font, rows = self.rows(lines, style, width - 2 * side)
+        if not rows:
+            return None
+        y = int((height - high) * style.down)
+        lay_out = partial(self.laid_out, text, style, width, size)
+        return Fitted(size, side, y, high, lay_out, font, rows)
+
+    def by_pango(self, text: str, style: Style, width: int, height: int) -> Fitted:
+        """Returns a text as Pango lays it out, of which it also says what ink it has."""
         size = style.size
         is_on_base = style.base is not None
         is_plain = style.lines and not is_on_base and not NOT_LATIN.search(text)
@@ -106,7 +147,31 @@ class Fitter:
         if size < style.size:
             style = style._replace(size=size)
         x, y = corner_of(style, extents, ink, width, height)
-        return Fitted(size, x, y, high, layout)
+        found = (None, ()) if style.lines else self.rows([text], style, MOST_DOTS)
+        return Fitted(size, x, y, high, lambda: layout, *found)
+
+    def rows(
+        self, lines: Sequence[str], style: Style, room: float
+    ) -> tuple[Any, Sequence[GlyphRow]]:
+        """Returns the font of lines in a room, and their rows of glyphs; none where Pango has to
+        draw them.
+        """
+        if style.family not in BY_PAIRS or style.struck:
+            return None, ()
+        font = self.font(style.family, style.is_bold, style.size, style.lines > 0)
+        part = (style.across + 1) / 2 if style.lines else 0.0
+        return font.font, font.rows(lines, room, part, line_height(style.size) / UNIT)
+
+    def new_font(self, family: str, is_bold: bool, size: int, has_lines: bool) -> LineFont:
+        """Returns the letters of lines of a size, which are all equally high where a text has
+        several.
+        """
+        # Cairo keeps a face as it was first used: in dots it has another name
+        weight = cairo.FONT_WEIGHT_BOLD if is_bold else cairo.FONT_WEIGHT_NORMAL
+        face = cairo.ToyFontFace(family + " " * self.is_dots, cairo.FONT_SLANT_NORMAL, weight)
+        font = in_size(face, asked_size(family, size), font_options(self.is_dots))
+        style = Style(family, is_bold, size, int(has_lines), LEFT, 0.0, 0)
+        return LineFont(self.blank(style, -1, size).copy(), font)
 
     def shown(self, text: str, style: Style, width: int, height: int) -> str:
         """Returns a text as it is seen in a box: up to the ellipsis, where it has one."""
@@ -127,7 +192,7 @@ class Fitter:
             return False
         size = KERNED * style.size
         room = width - 2 * side_of(style.size)
-        each = self.hinted
+        each = float(self.is_dots)  # by which a letter may be wider than it is measured
         widths = [letters.width(line, style.is_bold) * size + len(line) * each for line in lines]
         return max(widths) < room
 
@@ -161,14 +226,24 @@ class Fitter:
         return layout
 
 
+def in_size(face: cairo.FontFace, size: int, options: cairo.FontOptions) -> Any:
+    """Returns the font of a face in a size."""
+    return cairo.ScaledFont(face, cairo.Matrix(size, 0, 0, size), cairo.Matrix(), options)
+
+
 def side_of(size: int) -> int:
     """Returns the room at each side of lines in letters of a size."""
     return size // SIDE
 
 
+def line_height(size: int) -> int:
+    """Returns how high a line of letters of a size is, in units of Pango."""
+    return round(LINE * size * UNIT)
+
+
 def height_of(lines: int, size: int) -> int:
     """Returns how high some lines of letters of a size are."""
-    return ceil(lines * round(LINE * size * UNIT) / UNIT)
+    return ceil(lines * line_height(size) / UNIT)
 
 
 def corner_of(
@@ -195,7 +270,7 @@ def attributes_of(style: Style, size: int) -> Any:
     """
     attributes = Pango.AttrList()
     if style.lines or style.struck:
-        attributes.insert(Pango.attr_line_height_new_absolute(round(LINE * size * UNIT)))
+        attributes.insert(Pango.attr_line_height_new_absolute(line_height(size)))
     attributes.insert(Pango.attr_insert_hyphens_new(False))
     if style.struck:
         strike = Pango.attr_strikethrough_new(True)

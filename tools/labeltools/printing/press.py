@@ -31,7 +31,7 @@ from labeltools.layout.layout import as_printed, LaidOut, LaidOutFile, Page
 from labeltools.layout.letters import DATA_FONT, Letters
 from labeltools.layout.medium import Medium
 from labeltools.lines.engine import LABELS_FAILED
-from labeltools.lines.file import drawn_lines, LinesFile, Record
+from labeltools.lines.file import drawn_fields, LinesFile, Record, with_fields
 from labeltools.lines.reasons import LineFault, Refused
 from labeltools.paper.picture import Picture
 from labeltools.printing.job import Job
@@ -86,8 +86,8 @@ def labels_of(job: Job, name: str, data: bytes, talk: Talk) -> Prepared:
     """
     if data.startswith(WORKBOOK):
         raise ToolError(Text("{} is a workbook", name), TABLE_FIRST)
-    read = partial(drawn_lines, data, name, job.options.is_escaped)
-    lines = apart(Input(name, len(data), LINES), read, talk)
+    read = partial(drawn_fields, data, name, job.options.is_escaped)
+    lines = with_fields(*apart(Input(name, len(data), LINES), read, talk))
     *others, last = lines.records or (None,)
     if last is not None and not data.endswith(b"\n"):
         last = last._replace(drawn=Refused(Problem(CUT_OFF)))
@@ -113,12 +113,12 @@ def prepared(
     options = job.options
     pens = pens or pens_of(job, Letters(options.font))
     letters = pens[0].letters
+    reasons = {record.number: record.refused.problem for record in lines.records if record.refused}
     labels = [
         as_printed(record, options.note)
         for record in lines.records
-        if not record.refused and record.copies
+        if record.copies and record.number not in reasons
     ]
-    reasons = {record.number: record.refused.problem for record in lines.records if record.refused}
     on = Setting(job.area, letters, options.note, lines.empty)
     lacking = without_letters(labels, job.design, on)
     reasons.update({number: Problem(why) for number, why in lacking.items()})
