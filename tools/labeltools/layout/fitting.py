@@ -8,8 +8,7 @@ from typing import Any, Callable, NamedTuple, Sequence
 
 import cairo
 
-from labeltools.layout.glyphs import BY_PAIRS, GlyphRow, LineFont
-from labeltools.layout.letters import Letters
+from labeltools.layout.letters import BY_PAIRS, GlyphRow, Letters, LineFont
 from labeltools.layout.needs import LINE
 from labeltools.layout.pango import (
     asked_size,

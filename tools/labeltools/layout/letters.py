@@ -1,9 +1,12 @@
-"""Letters by Pango: which font has them, and how large texts are, measured alike for all forms."""
+"""Letters by Pango: which font has them, how large texts are, measured alike for all forms, and
+where letters are in lines.
+"""
 
 import re
 import unicodedata
 from functools import cache, cached_property, lru_cache, partial
 from itertools import repeat
+from math import floor, fsum
 from typing import Any, Iterable, Mapping, NamedTuple, Sequence
 
 import cairo
@@ -36,9 +39,13 @@ PRICE_FONT = "Liberation Sans Narrow"  # of prices beside FONT
 OTHER_FONT = "DejaVu Sans"  # of texts with letters of other scripts, and of all where FONT is not
 DATA_FONT = "DejaVu Sans Mono"  # of what is below the bars of Code 128
 DIGITS_FONT = "OCR B"  # of digits below bars in dots; Cairo cannot embed it into a PDF
+BY_PAIRS = (FONT, PRICE_FONT)  # whose letters depend on the next one alone
 USUAL = frozenset({FONT, PRICE_FONT, OTHER_FONT, DATA_FONT, DIGITS_FONT})
 FONTS_OF_LETTERS = "apt-get install fonts-noto-core fonts-noto-cjk"
 FONTS_OF_SIGNS = "apt-get install fonts-symbola"
+# glyphs of a line, in dots: their numbers, how far each is from the next one, and where the first
+# one is from where the text begins
+GlyphRow = tuple[Sequence[int], Sequence[float], float, float]
 
 
 class Sign(NamedTuple):
@@ -248,6 +255,55 @@ class Letters:
         layout = self.layout(True)
         layout.set_text(letter, -1)
         return bool(layout.get_unknown_glyphs_count())
+
+
+class LineFont:
+    """The letters of lines in a size, as Pango and Cairo have them, and the base line of one: of a
+    font whose letters are nearer or farther by pairs, and else do not depend on one another. Pango
+    is asked once for each pair, in place of each line.
+    """
+
+    def __init__(self, layout: Any, font: Any) -> None:
+        self.layout = layout
+        self.font = font
+        self.wide = cache(self.new_wide)
+        self.step = cache(self.new_step)
+        self.wide(DIGITS)
+        self.base: float = layout.get_baseline() / UNIT
+
+    def new_wide(self, letters: str) -> float:
+        """Returns how far letters are from what follows them."""
+        self.layout.set_text(letters, -1)
+        width: float = self.layout.get_size()[0] / UNIT
+        return width
+
+    def new_step(self, letter: str, following: str) -> tuple[int, float]:
+        """Returns the glyph of a letter, 0 where Pango draws another one, and how far it is from
+        the following one.
+        """
+        is_same = abs(self.font.text_extents(letter).x_advance - self.wide(letter)) * UNIT <= 1
+        glyph = self.font.text_to_glyphs(0, 0, letter, False)[0].index
+        behind = self.wide(following) if following else 0.0  # Pango looks for a font for no text
+        return glyph * is_same, self.wide(letter + following) - behind
+
+    def rows(
+        self, lines: Sequence[str], room: float, part: float, high: float
+    ) -> Sequence[GlyphRow]:
+        """Returns the glyphs of lines of a height, each in a part of a room (0 to 1); none where
+        Pango draws others, or a line is wider.
+        """
+        rows = []
+        for number, line in enumerate(lines):
+            if not line:
+                return ()
+            numbers, steps = zip(*map(self.step, line, (*line[1:], "")))
+            wide = fsum(steps)
+            if not all(numbers) or wide > room:
+                return ()
+            left = (room - wide) * part
+            x = floor(left + 0.5) if wide.is_integer() else left
+            rows.append((numbers, steps, x, number * high + self.base))
+        return rows
 
 
 def reasons_of(letters: Iterable[str]) -> dict[str, Text]:

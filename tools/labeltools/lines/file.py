@@ -61,7 +61,6 @@ MAKE_AGAIN = Text("make it again")
 # what Pango cuts a text at or takes for a line end: controls (but LF), separators of lines and
 # paragraphs; surrogates; what turns the letters around it, so that another price is seen
 UNPRINTABLE = re.compile("[\x00-\x09\x0b-\x1f\x7f-\x9f\u2028-\u202e\u2066-\u2069\ud800-\udfff]")
-Fields = Sequence[tuple[Any, ...]]  # of records, in the order of `Record`, each of all of them
 encode = json.JSONEncoder(ensure_ascii=False, separators=(",", ":")).encode
 decode = json.JSONDecoder().decode
 
@@ -234,24 +233,10 @@ def drawn_lines(
     """Returns the lines of a file, each of them drawn; raises as `read_lines`, and what
     `talk.go_on` raises.
     """
-    return with_fields(*drawn_fields(data, name, has_escapes, talk, numbers))
-
-
-def drawn_fields(
-    data: bytes, name: str, has_escapes: bool, talk: Talk, numbers: Iterable[int] = ()
-) -> tuple[LinesFile, Fields]:
-    """Returns the lines of a file without its records, and their fields, which another process
-    tells in half the time; raises as `drawn_lines`.
-    """
     lines = read_lines(data, name, has_escapes, numbers)
-    fields = dict(zip(Record._fields, zip(*lines.records)))
-    fields["drawn"] = tuple(drawn(fields.get("line", ()), has_escapes, talk))
-    return replace(lines, records=()), [*fields.values()]
-
-
-def with_fields(lines: LinesFile, fields: Fields) -> LinesFile:
-    """Returns lines with records of fields."""
-    return replace(lines, records=tuple(map(Record._make, zip(*fields))))
+    found = drawn((record.line for record in lines.records), has_escapes, talk)
+    records = (record._replace(drawn=made) for record, made in zip(lines.records, found))
+    return replace(lines, records=tuple(records))
 
 
 @dataclass

@@ -31,7 +31,7 @@ from labeltools.layout.layout import as_printed, LaidOut, LaidOutFile, Page
 from labeltools.layout.letters import DATA_FONT, Letters
 from labeltools.layout.medium import Medium
 from labeltools.lines.engine import LABELS_FAILED
-from labeltools.lines.file import drawn_fields, LinesFile, Record, with_fields
+from labeltools.lines.file import drawn_lines, LinesFile, Record
 from labeltools.lines.reasons import LineFault, Refused
 from labeltools.paper.picture import Picture
 from labeltools.printing.job import Job
@@ -86,8 +86,8 @@ def labels_of(job: Job, name: str, data: bytes, talk: Talk) -> Prepared:
     """
     if data.startswith(WORKBOOK):
         raise ToolError(Text("{} is a workbook", name), TABLE_FIRST)
-    read = partial(drawn_fields, data, name, job.options.is_escaped)
-    lines = with_fields(*apart(Input(name, len(data), LINES), read, talk))
+    read = partial(drawn_lines, data, name, job.options.is_escaped)
+    lines = apart(Input(name, len(data), LINES), read, talk)
     *others, last = lines.records or (None,)
     if last is not None and not data.endswith(b"\n"):
         last = last._replace(drawn=Refused(Problem(CUT_OFF)))
