@@ -1028,7 +1028,7 @@ class Drawings(unittest.TestCase):
         sizes = [item.texts[0].style.size for item in found.labels]
         self.assertEqual(len(sizes), 2)
         self.assertGreaterEqual(min(sizes) * 25.4 / 203, 3)
-        self.assertEqual([left.origin for left in found.left_out], [Origin("", "row", 3)])
+        self.assertEqual([left.origin.number for left in found.left_out if left.origin], [3])
 
     def drawn(self, *words: str) -> None:
         """Draws a label."""

@@ -1461,7 +1461,7 @@ class WindowTest(Keeper):
         subprocess.run(["cupsdisable", "later"], check=True)
         self.open()
         self.assertIn("sent to later", self.answered("later"))
-        self.until(lambda: "waiting. later: it is paused." in self.said())
+        self.until(lambda: "It waits in the queue: later: it is paused" in self.said())
         self.assertEqual(self.widgets.bar.get_message_type(), Gtk.MessageType.WARNING)
         self.assertEqual([*self.answers()], ["Show the queue"])
         self.widgets.bar.response(Gtk.ResponseType.CLOSE)
@@ -1471,7 +1471,7 @@ class WindowTest(Keeper):
         first = min(job.number for job in self.waiting())
         subprocess.run(["cancel", str(first)], check=True)
         self.again()
-        self.until(lambda: "waiting. later: it is paused." in self.said())
+        self.until(lambda: "It waits in the queue: later: it is paused" in self.said())
         self.assertEqual((self.printed(), len(self.waiting())), ([], 1))
         with mock.patch.object(ways, "WATCH", BEAT):
             subprocess.run(["cupsenable", "later"], check=True)

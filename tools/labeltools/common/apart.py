@@ -8,6 +8,7 @@ import pickle
 import resource
 import select
 import signal
+from dataclasses import dataclass, field
 from functools import partial
 from pathlib import Path
 from typing import Any, Callable, NamedTuple, NoReturn, TypeVar
@@ -47,14 +48,14 @@ class Input(NamedTuple):
         return Ended.of(too_much(self.name, self.size, self.kind, share).problem)
 
 
+@dataclass
 class Pipe(Talk):
     """What another process is told by; the talk of a copy of this one. Messages go many at a time:
     each by itself would take as long as the reading of its row.
     """
 
-    def __init__(self, pipe: int) -> None:
-        self.pipe = pipe
-        self.waiting: list[tuple[str, tuple[Any, ...]]] = []
+    pipe: int
+    waiting: list[tuple[str, tuple[Any, ...]]] = field(default_factory=list)
 
     def note(self, origin: Origin, cell: str, problem: Problem) -> None:
         """Tells why a row is left out."""

@@ -7,6 +7,7 @@ It takes questions from standard input, and answers them on standard output.
 import os
 import subprocess
 import sys
+from dataclasses import dataclass, field
 from importlib import import_module
 from io import BytesIO
 from pathlib import Path
@@ -189,15 +190,15 @@ def lines(drawing: Drawing, wide: float, high: float) -> None:
     surface.finish()
 
 
+@dataclass
 class PageProcess:
     """The process that draws pages, which begins with the first question. In that process itself
-    its work is done at once.
+    its work is done at once. Each window has a thread, and they ask one after another.
     """
 
-    def __init__(self) -> None:
-        self.lock = Lock()  # each window has a thread
-        self.process: subprocess.Popen[bytes] | None = None
-        self.is_here = False
+    process: subprocess.Popen[bytes] | None = None
+    is_here: bool = False
+    lock: Lock = field(default_factory=Lock)
 
     def ask(self, work: Callable[..., Told], drawing: Drawing, *more: Any) -> Told:
         """Returns what work on a drawing returns; raises `ToolError`."""

@@ -4,6 +4,7 @@ module that their place takes. Lengths are in dots.
 
 import math
 from collections import Counter
+from dataclasses import dataclass
 from functools import cache, lru_cache
 from itertools import combinations, compress, repeat
 from typing import Iterator, Mapping, NamedTuple, Sequence
@@ -84,11 +85,11 @@ def keys_of_columns(
     return keys, names
 
 
+@dataclass(frozen=True)
 class SvgLabels(Design):
     """What the design of a file does with labels: its drawing, and then what differs."""
 
-    def __init__(self, design: SvgDesign) -> None:
-        self.design = design
+    design: SvgDesign
 
     def lay_out(self, labels: Sequence[Record], on: Setting, talk: Talk) -> LaidOutFile:
         """Returns labels with their layouts, why others are left out, and what is said of all."""

@@ -60,11 +60,6 @@ class Template(NamedTuple):
     side: frozenset[str]
     details: frozenset[str]
 
-    @property
-    def has_old_price_beside(self) -> bool:
-        """Whether an old price is at the left of the price."""
-        return "was" in self.head
-
     def of(self, parts: frozenset[str]) -> "Template":
         """Returns the template for labels that have only some parts."""
         details = self.details & parts
@@ -79,7 +74,7 @@ class Template(NamedTuple):
         is_high = demand.area.width < demand.area.height
         if self.kind != "below" and (is_high or not self.side):
             return False
-        if self.has_old_price_beside and "price" not in self.head:
+        if "was" in self.head and "price" not in self.head:
             return False
         return "text" not in self.details or (demand.lines == 1 and len(self.details) > 1)
 
@@ -256,7 +251,7 @@ class Filling:
         if size < area.dots(LEAST_PRICE):
             return None
         found = found._replace(price=size, style=style)
-        return self.with_old_price(found) if self.template.has_old_price_beside else found
+        return self.with_old_price(found) if "was" in self.head else found
 
     def old_price_room(self, found: Filled) -> int:
         """Returns the room at the left of all prices."""

@@ -36,7 +36,7 @@ def reason(needs: Sequence[Need], area: Area) -> Problem:
         return Problem(what, OTHER_DOTS, (Remedy("module"), Remedy("dpi")))
     wide = max(need.width for need in needs) * min(modules)
     is_wide = wide > area.width
-    taken = size_text(area.millimetres)
+    taken = size_text((area.width * area.dot, area.height * area.dot))
     what = Text(
         "{} is too high, with its texts, and the label has room for {}", symbology.title, taken
     )

@@ -6,7 +6,6 @@ from functools import cached_property
 
 from labeltools.lines.symbologies import SYMBOLOGIES, Symbology
 from labeltools.paper.plan import TINY
-from labeltools.paper.stock import Size
 
 # millimetres: the module that is aimed at, and the largest ones of bars and of QR
 MODULE = 0.33
@@ -73,11 +72,6 @@ class Area:
     def size(self) -> float:
         """The size of a label: the root of its area, in dots."""
         return math.sqrt(self.width * self.height)
-
-    @property
-    def millimetres(self) -> Size:
-        """Its sides in millimetres."""
-        return self.width * self.dot, self.height * self.dot
 
     def dots(self, millimetres: float) -> int:
         """Returns a length in whole dots, rounded up."""

@@ -139,7 +139,8 @@ class Letters:
         self.has_others = self.of_others != self.family
         self.whole = lru_cache(KEPT)(self.new_whole)
         self.is_missing = cache(self.is_in_no_font)
-        self.layout = cache(self.new_measuring_layout)
+        context = pango_context(False)
+        self.layout = cache(partial(new_layout, context, self.family, size=MEASURED))
         self.sign = cache(self.whole_sign)
         self.steps = [cache(partial(self.step, is_bold)) for is_bold in (False, True)]
         self.word = lru_cache(KEPT)(self.new_word)
@@ -166,17 +167,6 @@ class Letters:
         layout = new_layout(pango_context(False), self.family, False, MEASURED)
         layout.set_width(1)
         return layout
-
-    def new_measuring_layout(self, is_bold: bool) -> Any:
-        """Returns the layout of Pango by which texts are measured, if it is asked for: it takes
-        long to look for a font.
-        """
-        return new_layout(pango_context(False), self.family, is_bold, MEASURED)
-
-    @property
-    def families(self) -> frozenset[str]:
-        """The fonts in which texts are."""
-        return frozenset({self.family, self.of_prices, self.of_others})
 
     def of(self, text: str, is_price: bool = False) -> "Letters":
         """Returns the letters in which a text is: all of it in those of other scripts, where it has

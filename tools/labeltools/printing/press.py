@@ -428,7 +428,7 @@ def pens_of(job: Job, letters: Letters) -> list[Pen]:
     outlines = (
         frozenset[str](),
         frozenset({DATA_FONT}),
-        frozenset({DATA_FONT, *letters.families}),
+        frozenset({DATA_FONT, letters.family, letters.of_prices, letters.of_others}),
     )
     wanted = outlines if job.form == PDF else outlines[:1]
     media = (replace(medium, outlines=shapes) for shapes in wanted)

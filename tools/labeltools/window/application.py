@@ -29,9 +29,6 @@ HELP = Path(__file__).resolve().parents[3] / "help"
 class Application(Gtk.Application):
     """A program whose second start opens its table in the one that runs."""
 
-    def __init__(self) -> None:
-        super().__init__(application_id=ID, flags=Gio.ApplicationFlags.HANDLES_OPEN)
-
     def do_startup(self) -> None:
         """Adds what the keys do."""
         Gtk.Application.do_startup(self)
@@ -89,6 +86,6 @@ def run() -> int:
         )
     GLib.set_prgname(ID)
     words = [] if table is None else ["--", table]
-    application = Application()
+    application = Application(application_id=ID, flags=Gio.ApplicationFlags.HANDLES_OPEN)
     sys.excepthook = partial(tell_fault, application)
     return int(application.run([sys.argv[0], *words]))
