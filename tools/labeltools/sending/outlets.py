@@ -11,7 +11,7 @@ import tempfile
 import time
 from collections.abc import Callable, Sequence, Sized
 from contextlib import nullcontext, suppress
-from dataclasses import dataclass, field
+from dataclasses import dataclass
 from io import BytesIO, FileIO
 from pathlib import Path
 from typing import Any, BinaryIO, IO
@@ -133,7 +133,7 @@ class Patience:
     seconds: float
     left: int = -1  # bytes, at the last look
     since: float = 0.0
-    begun: float = field(default_factory=time.monotonic)
+    begun: float = 0.0  # with the first look
     is_said: bool = False
 
     def check_progress(self, left: int) -> None:
@@ -141,6 +141,8 @@ class Patience:
         over.
         """
         now = time.monotonic()
+        if self.left < 0:
+            self.begun = now
         if left != self.left:
             self.left = left
             self.since = now
